@@ -10,7 +10,6 @@ pub mod Nesting
 pub mod Package
 pub mod PartNames
 pub mod Quiet
-pub mod Reader
 pub mod Reading
 pub mod Section
 pub mod Stored

@@ -8,7 +8,6 @@ use Rattle.part_events.specs.Nesting.{whole}
 use Rattle.part_events.specs.Package.{PackageState, HasCause, KeepsFaults, SameParts}
 use Rattle.part_events.specs.Package.{CountsUp}
 use Rattle.part_events.specs.Section.{content, is_closed, behind}
-use Rattle.part_events.specs.declared.cursor.Cursor.{Cursor}
 use Rattle.part_events.specs.declared.fault.StreamError.{StreamError}
 use Rattle.part_events.specs.declared.fault.StreamError.TheVariants.{Io, Xml, OutOfMemory}
 use Rattle.part_events.specs.declared.fault.XmlFault.TheVariants.{EndMismatch, Unclosed, Entity}
@@ -21,32 +20,6 @@ pub record Reading : Type 0 where
   pub at : ℕ
   pub is_failed : Bool
   pub alloc : Global
-
--- what a cursor keeps beside its package, and its allocator
-abbrev pub open_elements : Cursor → List (List ℕ)
-open_elements cursor = cursor.names
-
--- how many events a cursor has taken
-abbrev pub events_taken : Cursor → ℕ
-events_taken cursor = cursor.at
-
--- a call on a cursor has failed
-abbrev pub has_failed : Cursor → Bool
-has_failed cursor = cursor.failed
-
--- the allocator of a cursor
-abbrev pub allocator_in : Cursor → Global
-allocator_in cursor = cursor.alloc
-
--- a package and a cursor over its open part as one reading
-abbrev pub reading : PackageState → Cursor → Reading
-reading source cursor = record {
-  source = source;
-  names = open_elements cursor;
-  at = events_taken cursor;
-  is_failed = has_failed cursor;
-  alloc = allocator_in cursor;
-}
 
 -- the events of the open part
 abbrev pub events_of : Reading → List Event

@@ -43,7 +43,6 @@
 //! from one event to the next).
 #![tactic(auto)]
 
-mod cursor;
 mod equality;
 mod event;
 mod failing;
@@ -59,7 +58,6 @@ mod stored;
 mod text;
 mod walk;
 
-pub use cursor::Cursor;
 pub use equality::{copies_are_the_same, equality_is_by_all_fields};
 pub use event::{PartEvent, StartTag};
 pub use failing::FailingPackage;

@@ -4,14 +4,14 @@ ghost use Rattle.part_events.specs.declared.fault.StreamError.TheVariants.{Io};
 ghost use Rattle.part_events.specs.Event.{event_of};
 ghost use Rattle.part_events.specs.JoinedText.{text_error, event_text, is_unknown, EventFails};
 ghost use Rattle.part_events.specs.JoinedText.{IsFrontOf, PutsFront, ReadsText, TextFails};
-ghost use Rattle.part_events.specs.Reading.{reading, events_taken, open_elements, IsReading};
+ghost use Rattle.part_events.specs.Reading.{IsReading};
 ghost use Rattle.part_events.specs.Reading.{IsAtElement, Reads, ahead};
 ghost use Rattle.part_events.specs.Section.{content};
 
-use crate::cursor::Cursor;
 use crate::event::PartEvent;
 use crate::fault::{StreamError, XmlFault};
 use crate::package::Package;
+use crate::reader::XlReader;
 use crate::walk::Step;
 use attr_text::{TextFault, push_entity, push_line_ends};
 
@@ -38,12 +38,12 @@ pub fn push_text(out: &mut String, event: PartEvent<'_>, char_data: bool) -> Res
     Ok(())
 }
 
-impl Cursor {
+impl<P: Package> XlReader<P> {
     /// The refusal of the text of the last event. The part can't be read on.
     fn text_error(&mut self, fault: TextFault) -> StreamError
-        requires { 0 < events_taken self.old }
-        ensures error { result ≡ text_error (events_taken self.old - 1) fault }
-        ensures fails { self.new ≡ record self.old { failed = true } }
+        requires { 0 < self.old.at }
+        ensures error { result ≡ text_error (self.old.at - 1) fault }
+        ensures fails { self.new ≡ record self.old { is_failed = true } }
     {
         self.give_up();
         match fault {
@@ -59,41 +59,29 @@ impl Cursor {
     ///
     /// A reference without a character is refused as `Xml(Entity)`, and an end that breaks the
     /// nesting as `Xml(EndMismatch)`, each with its number, counted from 0.
-    pub fn read_text<P: Package>(
-        &mut self,
-        package: &mut P,
-        out: &mut String,
-        char_data: bool,
-    ) -> Result<bool, StreamError>
-        requires reading { IsReading (reading (P.state «package».old) self.old) }
-        requires element { IsAtElement (reading (P.state «package».old) self.old) }
-        ensures reads { let old = reading (P.state «package».old) self.old in
-            let new = reading (P.state «package».new) self.new in
-            Reads Io result old new }
-        ensures depth { let before = length (open_elements self.old) in
-            IfOk result (λ closed. closed ≡ true → before ≡ suc (length (open_elements self.new))) }
-        ensures text { let old = reading (P.state «package».old) self.old in
-            let new = reading (P.state «package».new) self.new in
-            let texts : List ℕ × List ℕ = (string_bytes out.old, string_bytes out.new) in
-            old.source.is_told ≡ true → IfOk result
-            (λ closed. ReadsText char_data closed texts old new) }
+    pub fn read_text(&mut self, out: &mut String, char_data: bool) -> Result<bool, StreamError>
+        requires reading { IsReading self.old }
+        requires element { IsAtElement self.old }
+        ensures reads { Reads Io result self.old self.new }
+        ensures depth { let before = length self.old.names in
+            IfOk result (λ closed. closed ≡ true → before ≡ suc (length self.new.names)) }
+        ensures text { let texts : List ℕ × List ℕ = (string_bytes out.old, string_bytes out.new) in
+            self.old.source.is_told ≡ true → IfOk result
+            (λ closed. ReadsText char_data closed texts self.old self.new) }
         ensures kept { IsFrontOf (string_bytes out.old) (string_bytes out.new) }
-        ensures front { let old = reading (P.state «package».old) self.old in
-            let texts : List ℕ × List ℕ = (string_bytes out.old, string_bytes out.new) in
-            old.source.is_told ≡ true → OnErr result (PutsFront char_data (content 0
-            (ahead old)) texts) }
-        ensures err { let old = reading (P.state «package».old) self.old in
-            let new = reading (P.state «package».new) self.new in
-            IfErr result (TextFails old new) }
+        ensures front { let texts : List ℕ × List ℕ = (string_bytes out.old, string_bytes out.new) in
+            self.old.source.is_told ≡ true → OnErr result (PutsFront char_data (content 0
+            (ahead self.old)) texts) }
+        ensures err { IfErr result (TextFails self.old self.new) }
     {
         let base = self.depth();
         'events: loop {
-            match self.next_inside(package, base)? {
+            match self.next_inside(base)? {
                 Step::Closed => return Ok(true),
                 Step::Ended => return Ok(false),
                 Step::Found => {}
             }
-            match push_text(out, package.event(), char_data) {
+            match push_text(out, self.event(), char_data) {
                 Ok(()) => {}
                 Err(fault) => return Err(self.text_error(fault)),
             }

@@ -3,16 +3,16 @@ ghost use Rattle.std.specs.List.{list_any};
 ghost use Rattle.std.specs.Str.{bytes_eq};
 ghost use Rattle.part_events.specs.declared.fault.StreamError.TheVariants.{Io};
 ghost use Rattle.part_events.specs.Event.{tag_of};
-ghost use Rattle.part_events.specs.Reading.{reading, open_elements, IsReading, IsAtElement, Reads};
+ghost use Rattle.part_events.specs.Reading.{IsReading, IsAtElement, Reads};
 ghost use Rattle.part_events.specs.Reading.{Skips, SkipFails};
 ghost use Rattle.part_events.specs.Section.{is_named, is_any};
 ghost use Rattle.part_events.specs.Walk.{wants, StandsInside, StepsInside, InsideFails, StandsAt};
 ghost use Rattle.part_events.specs.Walk.{FindsStart, FindsElement, WalkFails};
 
-use crate::cursor::Cursor;
 use crate::event::{PartEvent, StartTag};
 use crate::fault::StreamError;
 use crate::package::Package;
+use crate::reader::XlReader;
 
 /// What a step over a section came to.
 #[derive(Clone, Copy, Debug, PartialEq, Eq)]
@@ -55,33 +55,21 @@ impl Wanted<'_> {
     }
 }
 
-impl Cursor {
+impl<P: Package> XlReader<P> {
     /// Takes the next event of the section whose element is number `base` of the open ones, counted
     /// from 1. With a `base` of 0 the section is the whole part.
     ///
     /// A part that ends in the section is no refusal. An end that breaks the nesting is refused as
     /// `Xml(EndMismatch)` with its number, counted from 0.
-    pub fn next_inside<P: Package>(
-        &mut self,
-        package: &mut P,
-        base: usize,
-    ) -> Result<Step, StreamError>
-        requires reading { IsReading (reading (P.state «package».old) self.old) }
-        requires within { base ≤ length (open_elements self.old) }
-        ensures reads { let old = reading (P.state «package».old) self.old in
-            let new = reading (P.state «package».new) self.new in
-            Reads Io result old new }
-        ensures stands { let old = reading (P.state «package».old) self.old in
-            let new = reading (P.state «package».new) self.new in
-            IfOk result (λ step. StandsInside base step old new) }
-        ensures inside { let old = reading (P.state «package».old) self.old in
-            let new = reading (P.state «package».new) self.new in
-            old.source.is_told ≡ true → IfOk result (λ step. StepsInside base step old new) }
-        ensures err { let old = reading (P.state «package».old) self.old in
-            let new = reading (P.state «package».new) self.new in
-            IfErr result (InsideFails base old new) }
+    pub fn next_inside(&mut self, base: usize) -> Result<Step, StreamError>
+        requires reading { IsReading self.old }
+        requires within { base ≤ length self.old.names }
+        ensures reads { Reads Io result self.old self.new }
+        ensures stands { IfOk result (λ step. StandsInside base step self.old self.new) }
+        ensures inside { self.old.source.is_told ≡ true → IfOk result (λ step. StepsInside base step self.old self.new) }
+        ensures err { IfErr result (InsideFails base self.old self.new) }
     {
-        if !self.next(package)? {
+        if !self.next()? {
             return Ok(Step::Ended);
         }
         if self.depth() < base {
@@ -92,39 +80,24 @@ impl Cursor {
 
     /// Reads on to the next wanted start, to the end of the section whose element is number `base`
     /// of the open ones, or to the part's end. Every walk over a section goes through this loop.
-    fn walk<P: Package>(
-        &mut self,
-        package: &mut P,
-        base: usize,
-        wanted: Wanted<'_>,
-    ) -> Result<Step, StreamError>
-        requires reading { IsReading (reading (P.state «package».old) self.old) }
-        requires within { base ≤ length (open_elements self.old) }
-        ensures reads { let old = reading (P.state «package».old) self.old in
-            let new = reading (P.state «package».new) self.new in
-            Reads Io result old new }
-        ensures stands { let old = reading (P.state «package».old) self.old in
-            let new = reading (P.state «package».new) self.new in
-            IfOk result (λ step. StandsAt (wants wanted.entry) base step old new) }
-        ensures starts { let old = reading (P.state «package».old) self.old in
-            let new = reading (P.state «package».new) self.new in
-            old.source.is_told ≡ true →
-            IfOk result (λ step. FindsStart (wants wanted.entry) base step old new) }
-        ensures elements { let old = reading (P.state «package».old) self.old in
-            let new = reading (P.state «package».new) self.new in
-            old.source.is_told ≡ true →
-            IfOk result (λ step. FindsElement (wants wanted.entry) base step old new) }
-        ensures err { let old = reading (P.state «package».old) self.old in
-            let new = reading (P.state «package».new) self.new in
-            IfErr result (WalkFails (wants wanted.entry) base old new) }
+    fn walk(&mut self, base: usize, wanted: Wanted<'_>) -> Result<Step, StreamError>
+        requires reading { IsReading self.old }
+        requires within { base ≤ length self.old.names }
+        ensures reads { Reads Io result self.old self.new }
+        ensures stands { IfOk result (λ step. StandsAt (wants wanted.entry) base step self.old self.new) }
+        ensures starts { self.old.source.is_told ≡ true →
+            IfOk result (λ step. FindsStart (wants wanted.entry) base step self.old self.new) }
+        ensures elements { self.old.source.is_told ≡ true →
+            IfOk result (λ step. FindsElement (wants wanted.entry) base step self.old self.new) }
+        ensures err { IfErr result (WalkFails (wants wanted.entry) base self.old self.new) }
     {
         'events: loop {
-            match self.next_inside(package, base)? {
+            match self.next_inside(base)? {
                 Step::Closed => return Ok(Step::Closed),
                 Step::Ended => return Ok(Step::Ended),
                 Step::Found => {}
             }
-            if let PartEvent::Start(tag) = package.event() {
+            if let PartEvent::Start(tag) = self.event() {
                 if wanted.accepts(tag) {
                     return Ok(Step::Found);
                 }
@@ -138,31 +111,18 @@ impl Cursor {
     ///
     /// A part that ends in the section is no refusal. An end that breaks the nesting is refused as
     /// `Xml(EndMismatch)` with its number, counted from 0.
-    pub fn next_start<P: Package>(
-        &mut self,
-        package: &mut P,
-        base: usize,
-        names: &[&str],
-    ) -> Result<Step, StreamError>
-        requires reading { IsReading (reading (P.state «package».old) self.old) }
-        requires within { base ≤ length (open_elements self.old) }
-        ensures reads { let old = reading (P.state «package».old) self.old in
-            let new = reading (P.state «package».new) self.new in
-            Reads Io result old new }
-        ensures stands { let old = reading (P.state «package».old) self.old in
-            let new = reading (P.state «package».new) self.new in
-            let wanted = is_named (map (λ name. name.now) names.now) in
-            IfOk result (λ step. StandsAt wanted base step old new) }
-        ensures found { let old = reading (P.state «package».old) self.old in
-            let new = reading (P.state «package».new) self.new in
-            let wanted = is_named (map (λ name. name.now) names.now) in
-            old.source.is_told ≡ true → IfOk result (λ step. FindsStart wanted base step old new) }
-        ensures err { let old = reading (P.state «package».old) self.old in
-            let new = reading (P.state «package».new) self.new in
-            let wanted = is_named (map (λ name. name.now) names.now) in
-            IfErr result (WalkFails wanted base old new) }
+    pub fn next_start(&mut self, base: usize, names: &[&str]) -> Result<Step, StreamError>
+        requires reading { IsReading self.old }
+        requires within { base ≤ length self.old.names }
+        ensures reads { Reads Io result self.old self.new }
+        ensures stands { let wanted = is_named (map (λ name. name.now) names.now) in
+            IfOk result (λ step. StandsAt wanted base step self.old self.new) }
+        ensures found { let wanted = is_named (map (λ name. name.now) names.now) in
+            self.old.source.is_told ≡ true → IfOk result (λ step. FindsStart wanted base step self.old self.new) }
+        ensures err { let wanted = is_named (map (λ name. name.now) names.now) in
+            IfErr result (WalkFails wanted base self.old self.new) }
     {
-        self.walk(package, base, Wanted::Named(names))
+        self.walk(base, Wanted::Named(names))
     }
 
     /// Reads on to the next element with one of these local names in such a section. Each element
@@ -171,32 +131,19 @@ impl Cursor {
     ///
     /// A part that ends in the section is no refusal. An end that breaks the nesting is refused as
     /// `Xml(EndMismatch)` with its number, counted from 0.
-    pub fn next_element<P: Package>(
-        &mut self,
-        package: &mut P,
-        base: usize,
-        names: &[&str],
-    ) -> Result<Step, StreamError>
-        requires reading { IsReading (reading (P.state «package».old) self.old) }
-        requires within { base ≤ length (open_elements self.old) }
-        ensures reads { let old = reading (P.state «package».old) self.old in
-            let new = reading (P.state «package».new) self.new in
-            Reads Io result old new }
-        ensures stands { let old = reading (P.state «package».old) self.old in
-            let new = reading (P.state «package».new) self.new in
-            let wanted = is_named (map (λ name. name.now) names.now) in
-            IfOk result (λ step. StandsAt wanted base step old new) }
-        ensures found { let old = reading (P.state «package».old) self.old in
-            let new = reading (P.state «package».new) self.new in
-            let wanted = is_named (map (λ name. name.now) names.now) in
-            old.source.is_told ≡ true → IfOk result
-            (λ step. FindsElement wanted base step old new) }
-        ensures err { let old = reading (P.state «package».old) self.old in
-            let new = reading (P.state «package».new) self.new in
-            let wanted = is_named (map (λ name. name.now) names.now) in
-            IfErr result (WalkFails wanted base old new) }
+    pub fn next_element(&mut self, base: usize, names: &[&str]) -> Result<Step, StreamError>
+        requires reading { IsReading self.old }
+        requires within { base ≤ length self.old.names }
+        ensures reads { Reads Io result self.old self.new }
+        ensures stands { let wanted = is_named (map (λ name. name.now) names.now) in
+            IfOk result (λ step. StandsAt wanted base step self.old self.new) }
+        ensures found { let wanted = is_named (map (λ name. name.now) names.now) in
+            self.old.source.is_told ≡ true → IfOk result
+            (λ step. FindsElement wanted base step self.old self.new) }
+        ensures err { let wanted = is_named (map (λ name. name.now) names.now) in
+            IfErr result (WalkFails wanted base self.old self.new) }
     {
-        self.walk(package, base, Wanted::Named(names))
+        self.walk(base, Wanted::Named(names))
     }
 
     /// Reads on to the next child of the element that is number `base` of the open ones. Each child
@@ -204,50 +151,32 @@ impl Cursor {
     ///
     /// A part that ends in the element is no refusal. An end that breaks the nesting is refused as
     /// `Xml(EndMismatch)` with its number, counted from 0.
-    pub fn next_child<P: Package>(
-        &mut self,
-        package: &mut P,
-        base: usize,
-    ) -> Result<Step, StreamError>
-        requires reading { IsReading (reading (P.state «package».old) self.old) }
-        requires within { base ≤ length (open_elements self.old) }
-        ensures reads { let old = reading (P.state «package».old) self.old in
-            let new = reading (P.state «package».new) self.new in
-            Reads Io result old new }
-        ensures stands { let old = reading (P.state «package».old) self.old in
-            let new = reading (P.state «package».new) self.new in
-            IfOk result (λ step. StandsAt is_any base step old new) }
-        ensures found { let old = reading (P.state «package».old) self.old in
-            let new = reading (P.state «package».new) self.new in
-            old.source.is_told ≡ true → IfOk result
-            (λ step. FindsElement is_any base step old new) }
-        ensures err { let old = reading (P.state «package».old) self.old in
-            let new = reading (P.state «package».new) self.new in
-            IfErr result (WalkFails is_any base old new) }
+    pub fn next_child(&mut self, base: usize) -> Result<Step, StreamError>
+        requires reading { IsReading self.old }
+        requires within { base ≤ length self.old.names }
+        ensures reads { Reads Io result self.old self.new }
+        ensures stands { IfOk result (λ step. StandsAt is_any base step self.old self.new) }
+        ensures found { self.old.source.is_told ≡ true → IfOk result
+            (λ step. FindsElement is_any base step self.old self.new) }
+        ensures err { IfErr result (WalkFails is_any base self.old self.new) }
     {
-        self.walk(package, base, Wanted::Any)
+        self.walk(base, Wanted::Any)
     }
 
     /// Reads to the end of the element at whose start the package stands. A part that ends before
     /// is refused as `Xml(Unclosed)` with the number of its events. An end that breaks the nesting
     /// is refused as `Xml(EndMismatch)` with its number, counted from 0.
-    pub fn skip_element<P: Package>(&mut self, package: &mut P) -> Result<(), StreamError>
-        requires reading { IsReading (reading (P.state «package».old) self.old) }
-        requires element { IsAtElement (reading (P.state «package».old) self.old) }
-        ensures reads { let old = reading (P.state «package».old) self.old in
-            let new = reading (P.state «package».new) self.new in
-            Reads Io result old new }
-        ensures depth { OnOk result (length (open_elements self.old)
-            ≡ suc (length (open_elements self.new))) }
-        ensures skips { let old = reading (P.state «package».old) self.old in
-            let new = reading (P.state «package».new) self.new in
-            old.source.is_told ≡ true → OnOk result (Skips old new) }
-        ensures err { let old = reading (P.state «package».old) self.old in
-            let new = reading (P.state «package».new) self.new in
-            IfErr result (SkipFails old new) }
+    pub fn skip_element(&mut self) -> Result<(), StreamError>
+        requires reading { IsReading self.old }
+        requires element { IsAtElement self.old }
+        ensures reads { Reads Io result self.old self.new }
+        ensures depth { OnOk result (length self.old.names
+            ≡ suc (length self.new.names)) }
+        ensures skips { self.old.source.is_told ≡ true → OnOk result (Skips self.old self.new) }
+        ensures err { IfErr result (SkipFails self.old self.new) }
     {
         let depth = self.depth();
-        match self.walk(package, depth, Wanted::Named(&[]))? {
+        match self.walk(depth, Wanted::Named(&[]))? {
             Step::Closed => Ok(()),
             Step::Ended => Err(self.leave_open()),
             Step::Found => unreachable!(),

@@ -7,7 +7,7 @@ ghost use Rattle.std.specs.Result.{is_err};
 ghost use Rattle.cell_refs.specs.A1.{area};
 ghost use Rattle.part_events.specs.Event.{tag_of};
 ghost use Rattle.part_events.specs.Reader.{reading_by, SamePackage};
-ghost use Rattle.part_events.specs.Reading.{reading, open_elements, IsReading, ReadsPart};
+ghost use Rattle.part_events.specs.Reading.{IsReading, ReadsPart};
 ghost use Rattle.part_events.specs.Reading.{IsReadingElement, ReadsElement, ahead};
 ghost use Rattle.part_events.specs.Section.{content};
 ghost use Rattle.part_events.specs.Walk.{section_ahead};
@@ -24,7 +24,7 @@ ghost use Rattle.xlsx_areas.specs.LinkErrors.{IsLinksError};
 use crate::hyperlink::Hyperlink;
 use attr_text::{RawAttributes, get_attrs};
 use cell_refs::get_dimension;
-use part_events::{Cursor, Package, StartTag, XlReader};
+use part_events::{Package, StartTag, XlReader};
 use std::alloc::{AllocError, Global};
 use std::collections::BTreeMap;
 use xlsx_error::XlsxError;
@@ -162,41 +162,26 @@ impl Reads for LinkReader<'_> {
 
 /// The links in a section of hyperlinks whose element is number `base` of the open ones.
 pub fn links_in<P: Package>(
-    alloc: Global,
-    package: &mut P,
-    cursor: &mut Cursor,
+    xml: &mut XlReader<P>,
     base: usize,
     targets: &BTreeMap<String, String>,
 ) -> Result<Vec<Hyperlink>, XlsxError>
-    requires reading { IsReading (reading (P.state «package».old) cursor.old) }
-    requires within { base ≤ length (open_elements cursor.old) }
-    ensures reads { let old = reading (P.state «package».old) cursor.old in
-        let new = reading (P.state «package».new) cursor.new in
-        ReadsPart Io result old new }
-    ensures depth { OnOk result (suc (length (open_elements cursor.new)) ≡ base) }
-    ensures reaches { let old = reading (P.state «package».old) cursor.old in
-        let new = reading (P.state «package».new) cursor.new in
-        old.source.is_told ≡ true → OnOk result (ReachesEnd base old new) }
-    ensures links { let old = reading (P.state «package».old) cursor.old in
-        let by = target_held targets.now in
-        old.source.is_told ≡ true → IfOk result (λ links.
-        links_in by (section_ahead base old) ≡ Ok (map link_said links.items)) }
-    ensures err { let old = reading (P.state «package».old) cursor.old in
-        let new = reading (P.state «package».new) cursor.new in
-        let refused = IsInsideRefused (links_in (target_held targets.now)) in
-        IfErr result (SectionFails (always (codes "hyperlinks")) refused base old new) }
+    requires reading { IsReading xml.old }
+    requires within { base ≤ length xml.old.names }
+    ensures reads { ReadsPart Io result xml.old xml.new }
+    ensures depth { OnOk result (suc (length xml.new.names) ≡ base) }
+    ensures reaches { xml.old.source.is_told ≡ true →
+        OnOk result (ReachesEnd base xml.old xml.new) }
+    ensures links { let by = target_held targets.now in
+        xml.old.source.is_told ≡ true → IfOk result (λ links.
+        links_in by (section_ahead base xml.old) ≡ Ok (map link_said links.items)) }
+    ensures err { let refused = IsInsideRefused (links_in (target_held targets.now)) in
+        IfErr result (SectionFails (always (codes "hyperlinks")) refused base xml.old xml.new) }
     ensures kind { IfErr result IsLinksError }
 {
+    let alloc = xml.alloc();
     let by = LinkReader { alloc, targets };
-    keep_all(
-        alloc,
-        package,
-        cursor,
-        base,
-        &["hyperlink"],
-        "hyperlinks",
-        by,
-    )
+    keep_all(xml, base, &["hyperlink"], "hyperlinks", by)
 }
 
 /// Reads the hyperlinks at whose start the reader stands, to its end (ECMA-376 part 1, section

@@ -2,7 +2,7 @@ ghost use Rattle.std.specs.Prelude.{◌≡◌, List, map, codes, length, true, N
 ghost use Rattle.std.specs.Prelude.{option_and_then};
 ghost use Rattle.std.specs.Prelude.{IfOk, OnOk, IfErr, MatchOption};
 ghost use Rattle.part_events.specs.Package.{Uses, CountsUp, part_of, event_count};
-ghost use Rattle.part_events.specs.Reading.{reading, IsReading, ReadsPart, events_of};
+ghost use Rattle.part_events.specs.Reading.{IsReading, ReadsPart, events_of};
 ghost use Rattle.xlsx_error.specs.declared.error.XlsxError.TheVariants.{Io};
 ghost use Rattle.xlsx_sections.specs.Failing.{FailsBy, SoundFails};
 ghost use Rattle.xlsx_sections.specs.SectionEvents.{ReadsToEnd, section_events};
@@ -14,8 +14,7 @@ ghost use Rattle.xlsx_areas.specs.LinkErrors.{IsLinksError, IsSheetLinksError};
 
 use crate::hyperlink::Hyperlink;
 use crate::hyperlinks::links_in;
-use part_events::{Cursor, Package};
-use std::alloc::Global;
+use part_events::{Package, XlReader};
 use std::collections::BTreeMap;
 use xlsx_error::XlsxError;
 use xlsx_parts::{find_section, open_part};
@@ -24,77 +23,65 @@ use xlsx_relationships::read_sheet_hyperlink_rels;
 /// The links in the first section of hyperlinks of a part of which nothing was taken.
 #[tactic(auto, using(crate::proofs::LinksRead::break_links))]
 fn links_of<P: Package>(
-    alloc: Global,
-    package: &mut P,
-    cursor: &mut Cursor,
+    xml: &mut XlReader<P>,
     targets: &BTreeMap<String, String>,
 ) -> Result<Vec<Hyperlink>, XlsxError>
-    requires reading { IsReading (reading (P.state «package».old) cursor.old) }
-    requires first { (reading (P.state «package».old) cursor.old).at ≡ 0 }
-    ensures reads { let old = reading (P.state «package».old) cursor.old in
-        let new = reading (P.state «package».new) cursor.new in
-        ReadsPart Io result old new }
-    ensures ends { let old = reading (P.state «package».old) cursor.old in
-        let new = reading (P.state «package».new) cursor.new in
-        let count = section_events (codes "hyperlinks") (events_of old) in
-        old.source.is_told ≡ true → OnOk result (new.at ≡ count) }
-    ensures links { let old = reading (P.state «package».old) cursor.old in
-        let by = target_held targets.now in
-        old.source.is_told ≡ true →
-        IfOk result (λ links. links_of by (events_of old) ≡ Some (map link_said links.items)) }
-    ensures err { let old = reading (P.state «package».old) cursor.old in
-        let new = reading (P.state «package».new) cursor.new in
-        let by = target_held targets.now in
-        IfErr result (FailsBy (LinksCause by (events_of old)) old.source new.source) }
+    requires reading { IsReading xml.old }
+    requires first { xml.old.at ≡ 0 }
+    ensures reads { ReadsPart Io result xml.old xml.new }
+    ensures ends { let count = section_events (codes "hyperlinks") (events_of xml.old) in
+        xml.old.source.is_told ≡ true → OnOk result (xml.new.at ≡ count) }
+    ensures links { let by = target_held targets.now in
+        xml.old.source.is_told ≡ true →
+        IfOk result (λ links. links_of by (events_of xml.old) ≡ Some (map link_said links.items)) }
+    ensures err { let by = target_held targets.now in
+        IfErr result (FailsBy (LinksCause by (events_of xml.old)) xml.old.source xml.new.source) }
     ensures kind { IfErr result IsLinksError }
 {
-    if !find_section(package, cursor, "hyperlinks")? {
+    let alloc = xml.alloc();
+    if !find_section(xml, "hyperlinks")? {
         return Ok(Vec::new(alloc));
     }
-    let base = cursor.depth();
-    links_in(alloc, package, cursor, base, targets)
+    let base = xml.depth();
+    links_in(xml, base, targets)
 }
 
 /// The links of the sheet whose part is at this path, where these are the targets by their Ids: of
 /// its first `hyperlinks`, and none where it has none. Answers None where the part is absent.
 fn read_links<P: Package>(
-    alloc: Global,
-    package: &mut P,
+    xml: &mut XlReader<P>,
     path: &str,
     targets: &BTreeMap<String, String>,
 ) -> Result<Option<Vec<Hyperlink>>, XlsxError>
-    ensures uses { let old = P.state «package».old in
-        let new = P.state «package».new in
-        Uses (event_count old.parts path.now) Io result old new }
-    ensures to_end { ReadsToEnd (codes "hyperlinks") path.now result (P.state «package».old)
-        (P.state «package».new) }
-    ensures links { let old = P.state «package».old in
+    ensures uses { Uses (event_count xml.old.source.parts path.now) Io result xml.old.source
+        xml.new.source }
+    ensures to_end { ReadsToEnd (codes "hyperlinks") path.now result xml.old.source xml.new.source }
+    ensures links { let old = xml.old.source in
         let by = target_held targets.now in
         old.is_told ≡ true → IfOk result (λ found. MatchOption found
         (part_of old.parts path.now ≡ None)
         (λ links. option_and_then (links_of by) (part_of old.parts path.now)
         ≡ Some (map link_said links.items))) }
     ensures err { IfErr result (LinksFail (target_held targets.now) path.now
-        (P.state «package».old) (P.state «package».new)) }
+        xml.old.source xml.new.source) }
     ensures kind { IfErr result IsLinksError }
 {
-    let Some(mut cursor) = open_part(alloc, package, path)? else {
+    if !open_part(xml, path)? {
         return Ok(None);
-    };
-    Ok(Some(links_of(alloc, package, &mut cursor, targets)?))
+    }
+    Ok(Some(links_of(xml, targets)?))
 }
 
 /// Whether there is a part at this path. Its only refusal is `Io`.
-fn has_part<P: Package>(package: &mut P, path: &str) -> Result<bool, XlsxError>
-    ensures uses { Uses 0 Io result (P.state «package».old) (P.state «package».new) }
-    ensures there { let old = P.state «package».old in
-        old.is_told ≡ true → IfOk result (λ found. found ≡ is_some (part_of old.parts path.now)) }
-    ensures begins { OnOk result
-        ((P.state «package».new).taken ≡ (P.state «package».old).taken) }
-    ensures err { IfErr result (SoundFails (P.state «package».old) (P.state «package».new)) }
+fn has_part<P: Package>(xml: &mut XlReader<P>, path: &str) -> Result<bool, XlsxError>
+    ensures uses { Uses 0 Io result xml.old.source xml.new.source }
+    ensures there { xml.old.source.is_told ≡ true →
+        IfOk result (λ found. found ≡ is_some (part_of xml.old.source.parts path.now)) }
+    ensures begins { OnOk result (xml.new.source.taken ≡ xml.old.source.taken) }
+    ensures err { IfErr result (SoundFails xml.old.source xml.new.source) }
     ensures kind { IfErr result (λ error. error ≡ Io) }
 {
-    Ok(package.open(path)?)
+    Ok(xml.open(path)?)
 }
 
 /// The hyperlinks of the sheet whose part is at this path (ECMA-376 part 1, section 18.3.1.48), by
@@ -105,28 +92,24 @@ fn has_part<P: Package>(package: &mut P, path: &str) -> Result<bool, XlsxError>
 /// Fails as `read_sheet_hyperlink_rels` and as `read_hyperlinks`, and by an end that breaks the
 /// nesting of the part before its section.
 pub fn read_sheet_links<P: Package>(
-    alloc: Global,
-    package: &mut P,
+    xml: &mut XlReader<P>,
     path: &str,
 ) -> Result<Option<Vec<Hyperlink>>, XlsxError>
-    ensures uses { let old = P.state «package».old in
-        let new = P.state «package».new in
-        Uses (link_events old.parts path.now) Io result old new }
-    ensures to_end { let old = P.state «package».old in
-        let new = P.state «package».new in
+    ensures uses { Uses (link_events xml.old.source.parts path.now) Io result xml.old.source
+        xml.new.source }
+    ensures to_end { let old = xml.old.source in
         old.is_told ≡ true →
-        OnOk result (CountsUp (link_sections old.parts path.now) old.taken new.taken) }
-    ensures links { let old = P.state «package».old in
+        OnOk result (CountsUp (link_sections old.parts path.now) old.taken xml.new.source.taken) }
+    ensures links { let old = xml.old.source in
         old.is_told ≡ true → IfOk result (λ found. MatchOption found
         (part_of old.parts path.now ≡ None)
         (λ links. links_at old.parts path.now ≡ Some (map link_said links.items))) }
-    ensures err { IfErr result (SheetLinksFail path.now (P.state «package».old)
-        (P.state «package».new)) }
+    ensures err { IfErr result (SheetLinksFail path.now xml.old.source xml.new.source) }
     ensures kind { IfErr result IsSheetLinksError }
 {
-    if !has_part(package, path)? {
+    if !has_part(xml, path)? {
         return Ok(None);
     }
-    let targets = read_sheet_hyperlink_rels(alloc, package, path)?;
-    read_links(alloc, package, path, &targets)
+    let targets = read_sheet_hyperlink_rels(xml, path)?;
+    read_links(xml, path, &targets)
 }

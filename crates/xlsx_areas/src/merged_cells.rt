@@ -5,7 +5,7 @@ ghost use Rattle.std.specs.Result.{is_err};
 ghost use Rattle.cell_refs.specs.declared.dimensions.Dimensions.{Dimensions};
 ghost use Rattle.part_events.specs.Event.{tag_of};
 ghost use Rattle.part_events.specs.Reader.{reading_by, SamePackage};
-ghost use Rattle.part_events.specs.Reading.{reading, open_elements, IsReading};
+ghost use Rattle.part_events.specs.Reading.{IsReading};
 ghost use Rattle.part_events.specs.Reading.{ReadsPart, IsReadingElement, ReadsElement, ahead};
 ghost use Rattle.part_events.specs.Reading.{events_of};
 ghost use Rattle.part_events.specs.Section.{content};
@@ -21,8 +21,7 @@ ghost use Rattle.xlsx_areas.specs.MergedCells.{merge_of, merges_in, regions_of};
 
 use attr_text::RawAttributes;
 use cell_refs::{Dimensions, get_dimension};
-use part_events::{Cursor, Package, StartTag, XlReader};
-use std::alloc::Global;
+use part_events::{Package, StartTag, XlReader};
 use xlsx_error::XlsxError;
 use xlsx_parts::next_start_of_part;
 use xlsx_sections::{Reads, keep_all, start_tag};
@@ -84,37 +83,22 @@ impl Reads for MergeReader {
 /// The areas in a section of merged cells whose element is number `base` of the open ones.
 #[tactic(auto, using(xlsx_sections::proofs::StartsKept::own_items))]
 pub fn merges_in<P: Package>(
-    alloc: Global,
-    package: &mut P,
-    cursor: &mut Cursor,
+    xml: &mut XlReader<P>,
     base: usize,
 ) -> Result<Vec<Dimensions>, XlsxError>
-    requires reading { IsReading (reading (P.state «package».old) cursor.old) }
-    requires within { base ≤ length (open_elements cursor.old) }
-    ensures reads { let old = reading (P.state «package».old) cursor.old in
-        let new = reading (P.state «package».new) cursor.new in
-        ReadsPart Io result old new }
-    ensures depth { OnOk result (suc (length (open_elements cursor.new)) ≡ base) }
-    ensures reaches { let old = reading (P.state «package».old) cursor.old in
-        let new = reading (P.state «package».new) cursor.new in
-        old.source.is_told ≡ true → OnOk result (ReachesEnd base old new) }
-    ensures merges { let old = reading (P.state «package».old) cursor.old in
-        old.source.is_told ≡ true → IfOk result (λ areas.
-        merges_in (section_ahead base old) ≡ Ok areas.items) }
-    ensures err { let old = reading (P.state «package».old) cursor.old in
-        let new = reading (P.state «package».new) cursor.new in
-        IfErr result (SectionFails (always []) (IsInsideRefused merges_in) base old new) }
+    requires reading { IsReading xml.old }
+    requires within { base ≤ length xml.old.names }
+    ensures reads { ReadsPart Io result xml.old xml.new }
+    ensures depth { OnOk result (suc (length xml.new.names) ≡ base) }
+    ensures reaches { xml.old.source.is_told ≡ true →
+        OnOk result (ReachesEnd base xml.old xml.new) }
+    ensures merges { xml.old.source.is_told ≡ true → IfOk result (λ areas.
+        merges_in (section_ahead base xml.old) ≡ Ok areas.items) }
+    ensures err { IfErr result
+        (SectionFails (always []) (IsInsideRefused merges_in) base xml.old xml.new) }
     ensures kind { IfErr result IsMergesError }
 {
-    keep_all(
-        alloc,
-        package,
-        cursor,
-        base,
-        &["mergeCell"],
-        "",
-        MergeReader,
-    )
+    keep_all(xml, base, &["mergeCell"], "", MergeReader)
 }
 
 /// Reads the merged cells at whose start the reader stands, to its end (ECMA-376 part 1, section
@@ -148,30 +132,21 @@ pub fn read_merge_cells<P: Package>(xml: &mut XlReader<'_, P>) -> Result<Vec<Dim
 
 /// The areas of all merged cells of a part of which nothing was taken, wherever they stand in it.
 #[tactic(auto, using(crate::proofs::MergesRead::regions_step))]
-pub fn regions_in<P: Package>(
-    alloc: Global,
-    package: &mut P,
-    cursor: &mut Cursor,
-) -> Result<Vec<Dimensions>, XlsxError>
-    requires reading { IsReading (reading (P.state «package».old) cursor.old) }
-    requires first { (reading (P.state «package».old) cursor.old).at ≡ 0 }
-    ensures reads { let old = reading (P.state «package».old) cursor.old in
-        let new = reading (P.state «package».new) cursor.new in
-        ReadsPart Io result old new }
-    ensures ends { let old = reading (P.state «package».old) cursor.old in
-        let new = reading (P.state «package».new) cursor.new in
-        old.source.is_told ≡ true → OnOk result (new.at ≡ length (events_of old)) }
-    ensures regions { let old = reading (P.state «package».old) cursor.old in
-        old.source.is_told ≡ true → IfOk result (λ areas.
-        regions_of (events_of old) ≡ Some areas.items) }
-    ensures err { let old = reading (P.state «package».old) cursor.old in
-        let new = reading (P.state «package».new) cursor.new in
-        IfErr result (WholePartFails (IsMeaningRefused merges_in) old new.source) }
+pub fn regions_in<P: Package>(xml: &mut XlReader<P>) -> Result<Vec<Dimensions>, XlsxError>
+    requires reading { IsReading xml.old }
+    requires first { xml.old.at ≡ 0 }
+    ensures reads { ReadsPart Io result xml.old xml.new }
+    ensures ends { xml.old.source.is_told ≡ true →
+        OnOk result (xml.new.at ≡ length (events_of xml.old)) }
+    ensures regions { xml.old.source.is_told ≡ true → IfOk result (λ areas.
+        regions_of (events_of xml.old) ≡ Some areas.items) }
+    ensures err { IfErr result (WholePartFails (IsMeaningRefused merges_in) xml.old xml.new.source) }
     ensures kind { IfErr result IsRegionsError }
 {
+    let alloc = xml.alloc();
     let mut areas = Vec::new(alloc);
-    'starts: while let Some(_at) = next_start_of_part(package, cursor, "mergeCell")? {
-        push_merge(&mut areas, start_tag(package))?;
+    'starts: while let Some(_at) = next_start_of_part(xml, "mergeCell")? {
+        push_merge(&mut areas, start_tag(xml))?;
     }
     Ok(areas)
 }

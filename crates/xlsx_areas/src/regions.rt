@@ -7,7 +7,7 @@ ghost use Rattle.xlsx_areas.specs.declared.regions.MergedRegion.{MergedRegion};
 
 use crate::merged_parts::read_regions;
 use cell_refs::Dimensions;
-use part_events::Package;
+use part_events::{Package, XlReader};
 use std::alloc::{AllocError, Global};
 use xlsx_error::XlsxError;
 
@@ -50,8 +50,7 @@ fn push_regions(
 /// Fails as `read_regions`. After a refusal some of them may be appended, behind those that were
 /// there.
 pub fn read_sheet_regions<P: Package>(
-    alloc: Global,
-    package: &mut P,
+    xml: &mut XlReader<P>,
     regions: &mut Vec<MergedRegion>,
     sheet: &str,
     path: &str,
@@ -59,11 +58,12 @@ pub fn read_sheet_regions<P: Package>(
     ensures answers { let before = map region_of regions.old.items in
         let after = map region_of regions.new.items in
         Appends (regions_ask (sheet_at sheet.now path.now)) before after result
-        (P.state «package».old) (P.state «package».new) }
+        xml.old.source xml.new.source }
     ensures kept { OnErr result ((more : List MergedRegion)
         × (regions.new.items ≡ regions.old.items ++ more)) }
 {
-    if let Some(areas) = read_regions(alloc, package, path)? {
+    let alloc = xml.alloc();
+    if let Some(areas) = read_regions(xml, path)? {
         push_regions(alloc, regions, sheet, path, areas)?;
     }
     Ok(())

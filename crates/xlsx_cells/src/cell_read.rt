@@ -1,7 +1,7 @@
 ghost use Rattle.std.specs.Prelude.{◌≡◌, List, true, false, Ok, Err, IfOk, IfErr};
 ghost use Rattle.std.specs.Option.{option_copied, unwrap_or};
 ghost use Rattle.part_events.specs.Event.{Event, tag_of};
-ghost use Rattle.part_events.specs.Reading.{reading, IsReadingElement, ReadsElement};
+ghost use Rattle.part_events.specs.Reading.{IsReadingElement, ReadsElement};
 ghost use Rattle.part_events.specs.Section.{Element};
 ghost use Rattle.xlsx_error.specs.declared.error.XlsxError.TheVariants.{Io};
 ghost use Rattle.xlsx_values.specs.Book.{kind_of, grounds_of};
@@ -16,7 +16,7 @@ ghost use Rattle.xlsx_cells.specs.StyleIds.{id_named};
 use crate::children::{Asked, CellContents, CellStart, Wants, read_children};
 use attr_text::{RawAttributes, get_attrs};
 use cell_data::{CellFormat, DataRef};
-use part_events::{Cursor, Package, StartTag};
+use part_events::{Package, StartTag, XlReader};
 use std::alloc::Global;
 use xlsx_error::XlsxError;
 use xlsx_formulas::{CellFormula, Formula, Masters};
@@ -132,28 +132,23 @@ fn start_of(
 
 /// Reads the cell at this position, at whose start the package stands, to its end.
 pub fn read_cell<P: Package>(
-    alloc: Global,
-    package: &mut P,
-    cursor: &mut Cursor,
+    xml: &mut XlReader<P>,
     asked: Asked<'_>,
     pos: (u32, u32),
     masters: &mut Masters,
 ) -> Result<CellRead, XlsxError>
-    requires element { IsReadingElement (reading (P.state «package».old) cursor.old) }
-    ensures reads { ReadsElement Io result (reading (P.state «package».old) cursor.old)
-        (reading (P.state «package».new) cursor.new) }
-    ensures cell { let old = reading (P.state «package».old) cursor.old in
-        IfOk result (ReadsCell asked.entry pos old masters.old masters.new) }
-    ensures err { let old = reading (P.state «package».old) cursor.old in
-        let new = reading (P.state «package».new) cursor.new in
-        IfErr result (λ error. (element : Element) → StandsAtElement element old →
-        CellFails asked.entry.wants (grounds_of asked.entry.book) element.tag old new error) }
+    requires element { IsReadingElement xml.old }
+    ensures reads { ReadsElement Io result xml.old xml.new }
+    ensures cell { IfOk result (ReadsCell asked.entry pos xml.old masters.old masters.new) }
+    ensures err { IfErr result (λ error. (element : Element) → StandsAtElement element xml.old →
+        CellFails asked.entry.wants (grounds_of asked.entry.book) element.tag xml.old xml.new error) }
     ensures kind { IfErr result IsCellError }
     ensures plain { reads_children asked.entry.wants ≡ false → IfErr result IsStyledError }
 {
-    let start = start_of(alloc, start_tag(package), asked, pos)?;
+    let alloc = xml.alloc();
+    let start = start_of(alloc, start_tag(xml), asked, pos)?;
     if !asked.wants.values && !asked.wants.formulas {
-        skip_element_in(package, cursor, Some("c"))?;
+        skip_element_in(xml, Some("c"))?;
         return Ok(CellRead {
             pos,
             value: DataRef::Empty,
@@ -161,7 +156,7 @@ pub fn read_cell<P: Package>(
             style_id: start.style_id,
         });
     }
-    let contents = read_children(alloc, package, cursor, asked, &start, masters)?;
+    let contents = read_children(xml, asked, &start, masters)?;
     let CellContents { value, formula } = contents;
     Ok(CellRead {
         pos,

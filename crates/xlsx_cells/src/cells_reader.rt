@@ -146,7 +146,7 @@ impl<'a, P: Package> XlsxCellReader<'a, P> {
         sheet: SheetCursor,
         dimensions: Dimensions,
     ) -> XlsxCellReader<'a, P>
-        requires { IsStreaming (stream (P.state «package».old) sheet) }
+        requires { IsStreaming (stream xml.old.source sheet) }
         ensures same_reference { reference_of result ≡ «package».entry.ghost_name }
         ensures same { result.package.now ≡ «package».old }
         ensures grounds { grounds_by result ≡ (record {

@@ -1,6 +1,6 @@
 ghost use Rattle.std.specs.Prelude.{◌≡◌, true, false, Ok, IfOk, OnOk, IfErr};
 ghost use Rattle.part_events.specs.Event.{tag_of};
-ghost use Rattle.part_events.specs.Reading.{reading, IsReadingElement, ReadsElement};
+ghost use Rattle.part_events.specs.Reading.{IsReadingElement, ReadsElement};
 ghost use Rattle.part_events.specs.Section.{Element};
 ghost use Rattle.xlsx_error.specs.declared.error.XlsxError.TheVariants.{Io};
 ghost use Rattle.cell_data.specs.declared.format.CellFormat.{CellFormat};
@@ -17,8 +17,7 @@ ghost use Rattle.xlsx_cells.specs.CellErrors.{IsCellError};
 ghost use Rattle.xlsx_cells.specs.Ends.{reads_children};
 
 use cell_data::{CellFormat, DataRef};
-use part_events::{Cursor, Package, StartTag};
-use std::alloc::Global;
+use part_events::{Package, StartTag, XlReader};
 use xlsx_error::XlsxError;
 use xlsx_formulas::{Masters, read_formula};
 use xlsx_sections::{next_child_in, skip_element_in, start_tag};
@@ -130,36 +129,31 @@ fn child_name(tag: StartTag<'_>) -> ChildName
 /// Reads the `f` at whose start the package stands, to its end, and keeps its formula where it is
 /// wanted.
 fn keep_formula<P: Package>(
-    alloc: Global,
-    package: &mut P,
-    cursor: &mut Cursor,
+    xml: &mut XlReader<P>,
     asked: Asked<'_>,
     masters: &mut Masters,
     last: &mut Option<xlsx_formulas::Formula>,
 ) -> Result<(), XlsxError>
-    requires element { IsReadingElement (reading (P.state «package».old) cursor.old) }
-    ensures reads { ReadsElement Io result (reading (P.state «package».old) cursor.old)
-        (reading (P.state «package».new) cursor.new) }
-    ensures formula { let old = reading (P.state «package».old) cursor.old in
-        let before : LastStep = record { masters = masters.old; last = last_seen last.old } in
+    requires element { IsReadingElement xml.old }
+    ensures reads { ReadsElement Io result xml.old xml.new }
+    ensures formula { let before : LastStep = record
+        { masters = masters.old; last = last_seen last.old } in
         let after : LastStep = record { masters = masters.new; last = last_seen last.new } in
-        old.source.is_told ≡ true → asked.entry.wants.formulas ≡ true → (element : Element) →
-        StandsAtElement element old → IsNamedAs Formula element.tag →
+        xml.old.source.is_told ≡ true → asked.entry.wants.formulas ≡ true → (element : Element) →
+        StandsAtElement element xml.old → IsNamedAs Formula element.tag →
         OnOk result (ReadsFormula asked.entry.keeps_masters element.tag element.inside before
         after) }
     ensures same { asked.entry.wants.formulas ≡ false → OnOk result (masters.new ≡ masters.old) }
     ensures unlisted { asked.entry.wants.formulas ≡ false → OnOk result (last.new ≡ last.old) }
-    ensures err { let old = reading (P.state «package».old) cursor.old in
-        let new = reading (P.state «package».new) cursor.new in
-        IfErr result (λ error. (grounds : Grounds) (format : CellFormat) (kind : CellKind)
-        (element : Element) → StandsAtElement element old → IsNamedAs Formula element.tag →
-        ChildFails asked.entry.wants grounds format kind element.tag old new error) }
+    ensures err { IfErr result (λ error. (grounds : Grounds) (format : CellFormat) (kind : CellKind)
+        (element : Element) → StandsAtElement element xml.old → IsNamedAs Formula element.tag →
+        ChildFails asked.entry.wants grounds format kind element.tag xml.old xml.new error) }
     ensures kind { IfErr result IsCellError }
 {
     if !asked.wants.formulas {
-        return skip_element_in(package, cursor, None);
+        return skip_element_in(xml, None);
     }
-    let formula = read_formula(alloc, package, cursor)?;
+    let formula = read_formula(xml)?;
     if asked.keeps_masters {
         masters.keep(&formula)?;
     }
@@ -170,38 +164,33 @@ fn keep_formula<P: Package>(
 /// Reads the `v` or the `is` at whose start the package stands, to its end, and keeps its value
 /// where it is wanted and counts.
 fn keep_value<P: Package>(
-    alloc: Global,
-    package: &mut P,
-    cursor: &mut Cursor,
+    xml: &mut XlReader<P>,
     asked: Asked<'_>,
     start: &CellStart,
     is_inline: bool,
     value: &mut Option<DataRef>,
 ) -> Result<(), XlsxError>
-    requires element { IsReadingElement (reading (P.state «package».old) cursor.old) }
-    ensures reads { ReadsElement Io result (reading (P.state «package».old) cursor.old)
-        (reading (P.state «package».new) cursor.new) }
-    ensures value { let old = reading (P.state «package».old) cursor.old in
-        old.source.is_told ≡ true → asked.entry.wants.values ≡ true → (element : Element) →
-        StandsAtElement element old → IsNamedAs (value_name is_inline) element.tag → OnOk result
+    requires element { IsReadingElement xml.old }
+    ensures reads { ReadsElement Io result xml.old xml.new }
+    ensures value { xml.old.source.is_told ≡ true → asked.entry.wants.values ≡ true →
+        (element : Element) →
+        StandsAtElement element xml.old → IsNamedAs (value_name is_inline) element.tag → OnOk result
         (or_earlier (value_kept value.old) (child_said asked.entry start.now element)
         ≡ Ok (value_kept value.new)) }
     ensures unvalued { asked.entry.wants.values ≡ false → OnOk result (value.new ≡ value.old) }
-    ensures err { let old = reading (P.state «package».old) cursor.old in
-        let new = reading (P.state «package».new) cursor.new in
-        IfErr result (λ error. (element : Element) → StandsAtElement element old →
+    ensures err { IfErr result (λ error. (element : Element) → StandsAtElement element xml.old →
         IsNamedAs (value_name is_inline) element.tag →
-        ChildFailsBy asked.entry start.now element old new error) }
+        ChildFailsBy asked.entry start.now element xml.old xml.new error) }
     ensures kind { IfErr result IsCellError }
 {
     if !asked.wants.values {
-        return skip_element_in(package, cursor, None);
+        return skip_element_in(xml, None);
     }
     if is_inline {
-        *value = Some(read_inline(alloc, package, cursor)?);
+        *value = Some(read_inline(xml)?);
         return Ok(());
     }
-    let found = read_value(alloc, package, cursor, asked.book, start.format, &start.typ)?;
+    let found = read_value(xml, asked.book, start.format, &start.typ)?;
     if found.is_some() {
         *value = found;
     }
@@ -210,38 +199,33 @@ fn keep_value<P: Package>(
 
 /// Reads the child of a cell at whose start the package stands, to its end.
 fn read_child<P: Package>(
-    alloc: Global,
-    package: &mut P,
-    cursor: &mut Cursor,
+    xml: &mut XlReader<P>,
     asked: Asked<'_>,
     start: &CellStart,
     masters: &mut Masters,
     latest: &mut CellContents,
 ) -> Result<(), XlsxError>
-    requires element { IsReadingElement (reading (P.state «package».old) cursor.old) }
+    requires element { IsReadingElement xml.old }
     requires wanted { reads_children asked.wants ≡ true }
-    ensures reads { ReadsElement Io result (reading (P.state «package».old) cursor.old)
-        (reading (P.state «package».new) cursor.new) }
-    ensures takes { let old = reading (P.state «package».old) cursor.old in
-        TakesChild asked.entry start.now result old masters.old masters.new latest.old latest.new }
-    ensures err { let old = reading (P.state «package».old) cursor.old in
-        let new = reading (P.state «package».new) cursor.new in
-        IfErr result (λ error. (element : Element) → StandsAtElement element old →
-        ChildFailsBy asked.entry start.now element old new error) }
+    ensures reads { ReadsElement Io result xml.old xml.new }
+    ensures takes { TakesChild asked.entry start.now result xml.old masters.old masters.new
+        latest.old latest.new }
+    ensures err { IfErr result (λ error. (element : Element) → StandsAtElement element xml.old →
+        ChildFailsBy asked.entry start.now element xml.old xml.new error) }
     ensures kind { IfErr result IsCellError }
 {
-    match child_name(start_tag(package)) {
+    match child_name(start_tag(xml)) {
         ChildName::Formula => {
             let last = &mut latest.formula;
-            keep_formula(alloc, package, cursor, asked, masters, last)
+            keep_formula(xml, asked, masters, last)
         }
         ChildName::Value => {
             let value = &mut latest.value;
-            keep_value(alloc, package, cursor, asked, start, false, value)
+            keep_value(xml, asked, start, false, value)
         }
         ChildName::Inline => {
             let value = &mut latest.value;
-            keep_value(alloc, package, cursor, asked, start, true, value)
+            keep_value(xml, asked, start, true, value)
         }
         ChildName::Stray => Err(XlsxError::UnexpectedNode("v, f, or is")),
     }
@@ -250,30 +234,26 @@ fn read_child<P: Package>(
 /// Reads what stands in the cell at whose start the package stands, to its end.
 #[tactic(auto, using(crate::proofs::ChildrenRead::written_none))]
 pub fn read_children<P: Package>(
-    alloc: Global,
-    package: &mut P,
-    cursor: &mut Cursor,
+    xml: &mut XlReader<P>,
     asked: Asked<'_>,
     start: &CellStart,
     masters: &mut Masters,
 ) -> Result<CellContents, XlsxError>
-    requires element { IsReadingElement (reading (P.state «package».old) cursor.old) }
+    requires element { IsReadingElement xml.old }
     requires wanted { reads_children asked.wants ≡ true }
-    ensures reads { ReadsElement Io result (reading (P.state «package».old) cursor.old)
-        (reading (P.state «package».new) cursor.new) }
-    ensures contents { let old = reading (P.state «package».old) cursor.old in
-        IfOk result (ReadsContents asked.entry start.now old masters.old masters.new) }
-    ensures err { IfErr result (ContentsFail asked.entry start.now
-        (reading (P.state «package».old) cursor.old) (reading (P.state «package».new) cursor.new)) }
+    ensures reads { ReadsElement Io result xml.old xml.new }
+    ensures contents { IfOk result
+        (ReadsContents asked.entry start.now xml.old masters.old masters.new) }
+    ensures err { IfErr result (ContentsFail asked.entry start.now xml.old xml.new) }
     ensures kind { IfErr result IsCellError }
 {
-    let base = cursor.depth();
+    let base = xml.depth();
     let mut latest = CellContents {
         value: None,
         formula: None,
     };
-    'children: while let Some(_) = next_child_in(package, cursor, base, "c")? {
-        read_child(alloc, package, cursor, asked, start, masters, &mut latest)?;
+    'children: while let Some(_) = next_child_in(xml, base, "c")? {
+        read_child(xml, asked, start, masters, &mut latest)?;
     }
     Ok(latest)
 }

@@ -1,7 +1,7 @@
 ghost use Rattle.std.specs.Prelude.{◌≡◌, ◌≤◌, ℕ, List, length, true, Option, option_map, codes};
 ghost use Rattle.std.specs.Prelude.{IfOk, OnOk, IfErr};
 ghost use Rattle.part_events.specs.Event.{tag_of, event_of};
-ghost use Rattle.part_events.specs.Reading.{reading, open_elements, IsReading, ReadsPart};
+ghost use Rattle.part_events.specs.Reading.{IsReading, ReadsPart};
 ghost use Rattle.part_events.specs.Section.{Element};
 ghost use Rattle.xlsx_error.specs.declared.error.XlsxError.TheVariants.{Io};
 ghost use Rattle.xlsx_cells.specs.Counting.{AreKept, IsRefused, IsRowRefused, IsPositionError};
@@ -13,7 +13,7 @@ ghost use Rattle.xlsx_cells.specs.Position.{PassesMarks, NoCell};
 
 use crate::counters::Counters;
 use attr_text::local_name;
-use part_events::{Cursor, Package, PartEvent, StartTag, Step};
+use part_events::{Package, PartEvent, StartTag, Step, XlReader};
 use xlsx_error::XlsxError;
 
 /// The start of a cell that an event is.
@@ -56,41 +56,31 @@ fn pass(counters: &mut Counters, event: PartEvent<'_>) -> Result<(), XlsxError>
 /// open ones, counted from 1. Answers the cell's position, its row and column counted from 0, and
 /// None at the end of the data.
 pub fn find_cell<P: Package>(
-    package: &mut P,
-    cursor: &mut Cursor,
+    xml: &mut XlReader<P>,
     base: usize,
     counters: &mut Counters,
 ) -> Result<Option<(u32, u32)>, XlsxError>
-    requires reading { IsReading (reading (P.state «package».old) cursor.old) }
-    requires within { base ≤ length (open_elements cursor.old) }
-    ensures reads { let old = reading (P.state «package».old) cursor.old in
-        let new = reading (P.state «package».new) cursor.new in
-        ReadsPart Io result old new }
-    ensures stands { let old = reading (P.state «package».old) cursor.old in
-        let new = reading (P.state «package».new) cursor.new in
-        IfOk result (λ found. StandsAtCell base found old new) }
-    ensures element { let old = reading (P.state «package».old) cursor.old in
-        let new = reading (P.state «package».new) cursor.new in
-        old.source.is_told ≡ true → IfOk result (λ found. FindsCellElement base found old new) }
-    ensures finds { let old = reading (P.state «package».old) cursor.old in
-        let new = reading (P.state «package».new) cursor.new in
-        old.source.is_told ≡ true → (before : List Mark) → AreKept before counters.old →
-        IfOk result (λ found. Finds before found base old new counters.new) }
-    ensures err { let old = reading (P.state «package».old) cursor.old in
-        let new = reading (P.state «package».new) cursor.new in
-        IfErr result (λ error. (inner : Element → Option (List ℕ)) →
-        FindFails inner counters.old base old new error) }
-    ensures cut { let old = reading (P.state «package».old) cursor.old in
-        IfErr result (IsCutOff NoCell counters.old base old) }
+    requires reading { IsReading xml.old }
+    requires within { base ≤ length xml.old.names }
+    ensures reads { ReadsPart Io result xml.old xml.new }
+    ensures stands { IfOk result (λ found. StandsAtCell base found xml.old xml.new) }
+    ensures element { xml.old.source.is_told ≡ true →
+        IfOk result (λ found. FindsCellElement base found xml.old xml.new) }
+    ensures finds { xml.old.source.is_told ≡ true → (before : List Mark) →
+        AreKept before counters.old →
+        IfOk result (λ found. Finds before found base xml.old xml.new counters.new) }
+    ensures err { IfErr result (λ error. (inner : Element → Option (List ℕ)) →
+        FindFails inner counters.old base xml.old xml.new error) }
+    ensures cut { IfErr result (IsCutOff NoCell counters.old base xml.old) }
     ensures kind { IfErr result IsFindError }
 {
     'events: loop {
-        match cursor.next_inside(package, base)? {
+        match xml.next_inside(base)? {
             Step::Found => {}
             Step::Closed => return Ok(None),
             Step::Ended => return Err(XlsxError::XmlEof("sheetData")),
         }
-        let event = package.event();
+        let event = xml.event();
         if let Some(tag) = cell_start(event) {
             return Ok(Some(counters.place(tag)?));
         }

@@ -2,7 +2,7 @@ ghost use Rattle.std.specs.Prelude.{◌≡◌, ◌<◌, length, true, Some, None
 ghost use Rattle.std.specs.Prelude.{IfErr};
 ghost use Rattle.std.specs.Option.{option_or};
 ghost use Rattle.part_events.specs.Event.{tag_of, event_of};
-ghost use Rattle.part_events.specs.Reading.{reading, open_elements, IsReading, IsAtElement};
+ghost use Rattle.part_events.specs.Reading.{IsReading, IsAtElement};
 ghost use Rattle.part_events.specs.Reading.{ReadsPart, ahead, events_of};
 ghost use Rattle.part_events.specs.Section.{behind_start};
 ghost use Rattle.xlsx_error.specs.declared.error.XlsxError.TheVariants.{Io};
@@ -15,7 +15,7 @@ ghost use Rattle.xlsx_cells.specs.Head.{IsHeadError, IfNoWorksheet};
 
 use attr_text::RawAttributes;
 use cell_refs::{Dimensions, get_dimension};
-use part_events::{Cursor, Package, PartEvent, StartTag};
+use part_events::{Package, PartEvent, StartTag, XlReader};
 use std::alloc::Global;
 use xlsx_error::XlsxError;
 
@@ -117,35 +117,24 @@ impl Head {
 /// Where the part ends before the data, the refusal is `NotAWorksheet` with the local name of the
 /// part's first start that is no `dimension`, and `XmlEof` where there is none. Where the nesting
 /// breaks before, it is `Xml(EndMismatch)` with the number of the end, counted from 0.
-pub fn enter_data<P: Package>(
-    alloc: Global,
-    package: &mut P,
-    cursor: &mut Cursor,
-) -> Result<Dimensions, XlsxError>
-    requires reading { IsReading (reading (P.state «package».old) cursor.old) }
-    ensures reads { let old = reading (P.state «package».old) cursor.old in
-        let new = reading (P.state «package».new) cursor.new in
-        ReadsPart Io result old new }
-    ensures element { OnOk result (IsAtElement (reading (P.state «package».new) cursor.new)) }
-    ensures deep { OnOk result (0 < length (open_elements cursor.new)) }
-    ensures found { let old = reading (P.state «package».old) cursor.old in
-        let new = reading (P.state «package».new) cursor.new in
-        old.source.is_told ≡ true →
-        OnOk result (behind_start is_sheet_data (ahead old) ≡ Some (ahead new)) }
-    ensures dimensions { let old = reading (P.state «package».old) cursor.old in
-        old.source.is_told ≡ true → IfOk result (AreDimensions (ahead old)) }
-    ensures err { let old = reading (P.state «package».old) cursor.old in
-        let new = reading (P.state «package».new) cursor.new in
-        IfErr result (HeadFails old new) }
-    ensures lacks { let old = reading (P.state «package».old) cursor.old in
-        let new = reading (P.state «package».new) cursor.new in
-        old.source.is_told ≡ true →
-        IfErr result (IfNoWorksheet (new.at ≡ length (events_of old))) }
+pub fn enter_data<P: Package>(xml: &mut XlReader<P>) -> Result<Dimensions, XlsxError>
+    requires reading { IsReading xml.old }
+    ensures reads { ReadsPart Io result xml.old xml.new }
+    ensures element { OnOk result (IsAtElement xml.new) }
+    ensures deep { OnOk result (0 < length xml.new.names) }
+    ensures found { xml.old.source.is_told ≡ true →
+        OnOk result (behind_start is_sheet_data (ahead xml.old) ≡ Some (ahead xml.new)) }
+    ensures dimensions { xml.old.source.is_told ≡ true →
+        IfOk result (AreDimensions (ahead xml.old)) }
+    ensures err { IfErr result (HeadFails xml.old xml.new) }
+    ensures lacks { xml.old.source.is_told ≡ true →
+        IfErr result (IfNoWorksheet (xml.new.at ≡ length (events_of xml.old))) }
     ensures kind { IfErr result IsHeadError }
 {
+    let alloc = xml.alloc();
     let mut head = Head::new();
-    'events: while cursor.next(package)? {
-        let event = package.event();
+    'events: while xml.next()? {
+        let event = xml.event();
         if starts_data(event) {
             return Ok(head.dimensions.unwrap_or_default());
         }

@@ -21,7 +21,7 @@ use crate::cell_read::CellWithFormula;
 use crate::children::Asked;
 use crate::sheet_cursor::SheetCursor;
 use cell_data::{DataRef, GatheredCells};
-use part_events::Package;
+use part_events::{Package, XlReader};
 use std::alloc::Global;
 use xlsx_error::XlsxError;
 use xlsx_formulas::CellFormula;
@@ -122,30 +122,30 @@ fn keep_id(
 /// Reads the rest of a sheet's data, of which nothing was taken yet, to their end. Rows, cells and
 /// the end of the part are refused as by `SheetCursor::next`.
 pub fn collect<P: Package>(
-    alloc: Global,
-    package: &mut P,
+    xml: &mut XlReader<P>,
     sheet: &mut SheetCursor,
     asked: Asked<'_>,
 ) -> Result<SheetCells, XlsxError>
-    requires going { IsGoing (stream (P.state «package».old) sheet.old) }
-    requires fresh { StandsBehind [] [] (stream (P.state «package».old) sheet.old) }
-    ensures reads { let old = stream (P.state «package».old) sheet.old in
-        let new = stream (P.state «package».new) sheet.new in
+    requires going { IsGoing (stream xml.old.source sheet.old) }
+    requires fresh { StandsBehind [] [] (stream xml.old.source sheet.old) }
+    ensures reads { let old = stream xml.old.source sheet.old in
+        let new = stream xml.new.source sheet.new in
         ReadsPart Io result old.reading new.reading }
-    ensures ends { let old = stream (P.state «package».old) sheet.old in
-        let new = stream (P.state «package».new) sheet.new in
+    ensures ends { let old = stream xml.old.source sheet.old in
+        let new = stream xml.new.source sheet.new in
         old.reading.source.is_told ≡ true →
         OnOk result (ReachesEnd old.base old.reading new.reading) }
-    ensures cells { let old = stream (P.state «package».old) sheet.old in
+    ensures cells { let old = stream xml.old.source sheet.old in
         IfOk result (CollectsCells asked.entry old) }
-    ensures err { let old = stream (P.state «package».old) sheet.old in
-        let new = stream (P.state «package».new) sheet.new in
+    ensures err { let old = stream xml.old.source sheet.old in
+        let new = stream xml.new.source sheet.new in
         IfErr result (DataFails asked.entry.wants (grounds_of asked.entry.book) old new) }
     ensures kind { IfErr result IsCellError }
     ensures plain { reads_children asked.entry.wants ≡ false → IfErr result IsStyledError }
 {
+    let alloc = xml.alloc();
     let mut cells = SheetCells::new(alloc);
-    'cells: while let Some(found) = sheet.next_with_formula(package, asked)? {
+    'cells: while let Some(found) = sheet.next_with_formula(xml, asked)? {
         let CellWithFormula {
             pos,
             value,

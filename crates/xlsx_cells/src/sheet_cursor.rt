@@ -4,7 +4,6 @@ ghost use Rattle.part_events.specs.Package.{UsesPackage, LeavesPackage, part_of,
 ghost use Rattle.part_events.specs.Package.{CountsUp};
 ghost use Rattle.xlsx_cells.specs.Head.{IsHeadError, IfNoWorksheet};
 ghost use Rattle.xlsx_cells.specs.SheetPart.{EntersData, OpenDataFails};
-ghost use Rattle.part_events.specs.Reading.{open_elements};
 ghost use Rattle.cell_styles.specs.StyleMap.{is_explicit};
 ghost use Rattle.xlsx_error.specs.declared.error.XlsxError.TheVariants.{Io};
 ghost use Rattle.xlsx_values.specs.Book.{grounds_of};
@@ -25,7 +24,7 @@ use crate::counters::Counters;
 use crate::finding::find_cell;
 use crate::head::enter_data;
 use cell_refs::Dimensions;
-use part_events::{Cursor, Package};
+use part_events::{Package, XlReader};
 use std::alloc::Global;
 use xlsx_error::XlsxError;
 use xlsx_formulas::Masters;
@@ -94,19 +93,19 @@ impl SheetCursor {
     /// breaks the nesting is `Xml(EndMismatch)`. Neither is told where a whole cell is left.
     pub fn next<P: Package>(
         &mut self,
-        package: &mut P,
+        xml: &mut XlReader<P>,
         asked: Asked<'_>,
     ) -> Result<Option<CellRead>, XlsxError>
-        requires { IsStreaming (stream (P.state «package».old) self.old) }
+        requires { IsStreaming (stream xml.old.source self.old) }
         ensures step { TakesStep (λ read. read.pos) result
-            (stream (P.state «package».old) self.old) (stream (P.state «package».new) self.new) }
+            (stream xml.old.source self.old) (stream xml.new.source self.new) }
         ensures takes { let wants = asked.entry.wants in
             let fact = IsRead wants asked.entry.keeps_masters (grounds_of asked.entry.book) in
             TakesNext NoCell (λ earlier. fact) result
-            (stream (P.state «package».old) self.old) (stream (P.state «package».new) self.new) }
+            (stream xml.old.source self.old) (stream xml.new.source self.new) }
         ensures unwanted { IfOk result (λ found. IfSome found (LacksUnwanted asked.entry.wants)) }
         ensures err { IfErr result (AskedStepFails asked.entry
-            (stream (P.state «package».old) self.old) (stream (P.state «package».new) self.new)) }
+            (stream xml.old.source self.old) (stream xml.new.source self.new)) }
         ensures kind { IfErr result IsStreamError }
         ensures plain { reads_children asked.entry.wants ≡ false →
             IfErr result IsStyledStreamError }
@@ -118,15 +117,15 @@ impl SheetCursor {
             return Ok(None);
         }
         self.failed = true;
-        let alloc = self.cursor.alloc();
-        let found = find_cell(package, &mut self.cursor, self.base, &mut self.counters)?;
+        let alloc = self.xml.alloc();
+        let found = find_cell(xml, &mut self.cursor, self.base, &mut self.counters)?;
         let Some(pos) = found else {
             self.done = true;
             self.failed = false;
             return Ok(None);
         };
         let masters = &mut self.masters;
-        let read = read_cell(alloc, package, &mut self.cursor, asked, pos, masters)?;
+        let read = read_cell(xml, &mut self.cursor, asked, pos, masters)?;
         self.failed = false;
         Ok(Some(read))
     }
@@ -135,26 +134,26 @@ impl SheetCursor {
     /// moved to the cell, and isn't written out. The formulas of groups are kept for later cells.
     pub fn next_with_formula<P: Package>(
         &mut self,
-        package: &mut P,
+        xml: &mut XlReader<P>,
         asked: Asked<'_>,
     ) -> Result<Option<CellWithFormula>, XlsxError>
-        requires { IsStreaming (stream (P.state «package».old) self.old) }
+        requires { IsStreaming (stream xml.old.source self.old) }
         ensures step { TakesStep (λ own. own.pos) result
-            (stream (P.state «package».old) self.old) (stream (P.state «package».new) self.new) }
+            (stream xml.old.source self.old) (stream xml.new.source self.new) }
         ensures takes { let fact = IsWritten asked.entry.wants (grounds_of asked.entry.book) in
             TakesNext NoCell (λ earlier own. fact earlier (seen_with_formula own)) result
-            (stream (P.state «package».old) self.old) (stream (P.state «package».new) self.new) }
+            (stream xml.old.source self.old) (stream xml.new.source self.new) }
         ensures unwanted { IfOk result (λ found.
             IfSome found (λ own. LacksUnwantedText asked.entry.wants (seen_with_formula own))) }
         ensures err { IfErr result (AskedStepFails asked.entry
-            (stream (P.state «package».old) self.old) (stream (P.state «package».new) self.new)) }
+            (stream xml.old.source self.old) (stream xml.new.source self.new)) }
         ensures kind { IfErr result IsStreamError }
         ensures plain { reads_children asked.entry.wants ≡ false →
             IfErr result IsStyledStreamError }
     {
         let mut asked = asked;
         asked.keeps_masters = true;
-        let Some(read) = self.next(package, asked)? else {
+        let Some(read) = self.next(xml, asked)? else {
             return Ok(None);
         };
         let CellRead {
@@ -164,7 +163,7 @@ impl SheetCursor {
             style_id,
         } = read;
         self.failed = true;
-        let alloc = self.cursor.alloc();
+        let alloc = self.xml.alloc();
         let formula = self.masters.cell_formula(alloc, formula, pos)?;
         self.failed = false;
         Ok(Some(CellWithFormula {
@@ -178,24 +177,24 @@ impl SheetCursor {
     /// Takes the next cell as `next_with_formula` does, with the text of its formula.
     pub fn next_text<P: Package>(
         &mut self,
-        package: &mut P,
+        xml: &mut XlReader<P>,
         asked: Asked<'_>,
     ) -> Result<Option<CellText>, XlsxError>
-        requires { IsStreaming (stream (P.state «package».old) self.old) }
+        requires { IsStreaming (stream xml.old.source self.old) }
         ensures step { TakesStep (λ own. own.pos) result
-            (stream (P.state «package».old) self.old) (stream (P.state «package».new) self.new) }
+            (stream xml.old.source self.old) (stream xml.new.source self.new) }
         ensures takes { let fact = IsWritten asked.entry.wants (grounds_of asked.entry.book) in
             TakesNext NoCell (λ earlier own. fact earlier (seen_with_text own)) result
-            (stream (P.state «package».old) self.old) (stream (P.state «package».new) self.new) }
+            (stream xml.old.source self.old) (stream xml.new.source self.new) }
         ensures unwanted { IfOk result (λ found.
             IfSome found (λ own. LacksUnwantedText asked.entry.wants (seen_with_text own))) }
         ensures err { IfErr result (AskedStepFails asked.entry
-            (stream (P.state «package».old) self.old) (stream (P.state «package».new) self.new)) }
+            (stream xml.old.source self.old) (stream xml.new.source self.new)) }
         ensures kind { IfErr result IsStreamError }
         ensures plain { reads_children asked.entry.wants ≡ false →
             IfErr result IsStyledStreamError }
     {
-        let Some(found) = self.next_with_formula(package, asked)? else {
+        let Some(found) = self.next_with_formula(xml, asked)? else {
             return Ok(None);
         };
         let CellWithFormula {
@@ -205,7 +204,7 @@ impl SheetCursor {
             style_id,
         } = found;
         self.failed = true;
-        let text = formula.into_text(self.cursor.alloc())?;
+        let text = formula.into_text(self.xml.alloc())?;
         self.failed = false;
         Ok(Some(CellText {
             pos,
@@ -226,19 +225,19 @@ impl SheetCursor {
     /// cell is left whose id counts.
     pub fn next_styled<P: Package>(
         &mut self,
-        package: &mut P,
+        xml: &mut XlReader<P>,
         book: Book<'_>,
         style_count: usize,
     ) -> Result<Option<(u32, u32, usize)>, XlsxError>
-        requires { IsStreaming (stream (P.state «package».old) self.old) }
+        requires { IsStreaming (stream xml.old.source self.old) }
         ensures step { TakesStep styled_position result
-            (stream (P.state «package».old) self.old) (stream (P.state «package».new) self.new) }
+            (stream xml.old.source self.old) (stream xml.new.source self.new) }
         ensures counts { IfOk result (λ found.
             IfSome found (λ own. is_explicit style_count own ≡ true)) }
         ensures takes { TakesNext (IsUnstyled style_count) (λ earlier. IsStyled) result
-            (stream (P.state «package».old) self.old) (stream (P.state «package».new) self.new) }
-        ensures err { let old = stream (P.state «package».old) self.old in
-            let new = stream (P.state «package».new) self.new in
+            (stream xml.old.source self.old) (stream xml.new.source self.new) }
+        ensures err { let old = stream xml.old.source self.old in
+            let new = stream xml.new.source self.new in
             IfErr result (StyledFails style_count old new.reading) }
         ensures kind { IfErr result IsStyledStreamError }
     {
@@ -254,7 +253,7 @@ impl SheetCursor {
             style_count,
             keeps_masters: false,
         };
-        'cells: while let Some(read) = self.next(package, asked)? {
+        'cells: while let Some(read) = self.next(xml, asked)? {
             let CellRead { pos, style_id, .. } = read;
             if 0 < style_id && style_id < style_count {
                 return Ok(Some((pos.0, pos.1, style_id)));
@@ -268,33 +267,30 @@ impl SheetCursor {
 /// reading stands then, and the sheet's dimensions; None where there is no such part. The head of
 /// the part is refused as by `enter_data`.
 pub fn open_data<P: Package>(
-    alloc: Global,
-    package: &mut P,
+    xml: &mut XlReader<P>,
     path: &str,
 ) -> Result<Option<(SheetCursor, Dimensions)>, XlsxError>
-    ensures absent { let old = P.state «package».old in
-        let new = P.state «package».new in
+    ensures absent { let old = xml.old.source in
         IfOk result (λ found. IfNone found (
-        UsesPackage 0 old new × (old.is_told ≡ true → part_of old.parts path.now ≡ None))) }
-    ensures enters { let old = P.state «package».old in
-        IfOk result (λ found. IfSome found (λ entered.
-        EntersData path.now entered.1 old (stream (P.state «package».new) entered.0))) }
-    ensures leaves { let old = P.state «package».old in
-        let new = P.state «package».new in
-        IfErr result (LeavesPackage (event_count old.parts path.now) Io old new) }
-    ensures err { IfErr result
-        (OpenDataFails path.now (P.state «package».old) (P.state «package».new)) }
-    ensures lacks { let old = P.state «package».old in
-        let new = P.state «package».new in
+        UsesPackage 0 old xml.new.source × (old.is_told ≡ true →
+        part_of old.parts path.now ≡ None))) }
+    ensures enters { IfOk result (λ found. IfSome found (λ entered.
+        EntersData path.now entered.1 xml.old.source (stream xml.new.source entered.0))) }
+    ensures leaves { IfErr result
+        (LeavesPackage (event_count xml.old.source.parts path.now) Io xml.old.source xml.new.source) }
+    ensures err { IfErr result (OpenDataFails path.now xml.old.source xml.new.source) }
+    ensures lacks { let old = xml.old.source in
         let all = event_count old.parts path.now in
-        old.is_told ≡ true → IfErr result (IfNoWorksheet (CountsUp all old.taken new.taken)) }
+        old.is_told ≡ true →
+        IfErr result (IfNoWorksheet (CountsUp all old.taken xml.new.source.taken)) }
     ensures kind { IfErr result IsHeadError }
 {
-    if !package.open(path)? {
+    let alloc = xml.alloc();
+    if !xml.open(path)? {
         return Ok(None);
     }
-    let mut cursor = Cursor::new(alloc, package);
-    let dimensions = enter_data(alloc, package, &mut cursor)?;
+    let mut cursor = Cursor::new(xml);
+    let dimensions = enter_data(xml)?;
     let sheet = SheetCursor::new(alloc, cursor);
     Ok(Some((sheet, dimensions)))
 }

@@ -2,7 +2,7 @@ ghost use Rattle.std.proofs.Common.{inl};
 ghost use Rattle.std.specs.Prelude.{◌≡◌, ◌≤◌, true, Ok, Some, codes, suc, length, map};
 ghost use Rattle.std.specs.Prelude.{IfOk, OnOk, IfErr};
 ghost use Rattle.part_events.specs.Package.{Uses, event_count, part_of};
-ghost use Rattle.part_events.specs.Reading.{reading, open_elements, IsReading, ReadsPart};
+ghost use Rattle.part_events.specs.Reading.{IsReading, ReadsPart};
 ghost use Rattle.part_events.specs.Walk.{section_ahead, is_closed_ahead, section_end};
 ghost use Rattle.xlsx_error.specs.declared.error.XlsxError.TheVariants.{Io};
 ghost use Rattle.xlsx_sections.specs.Asking.{Answers};
@@ -18,7 +18,7 @@ ghost use Rattle.xlsx_comments.specs.Comments.{sheet_comments_ask};
 
 use crate::comment::Comments;
 use crate::entry::{Entry, read_entry};
-use part_events::{Cursor, Package};
+use part_events::{Package, XlReader};
 use std::alloc::{AllocError, Global};
 use xlsx_error::XlsxError;
 use xlsx_relationships::{ReadsRelated, push_related};
@@ -28,62 +28,47 @@ const COMMENTS_TYPE: &str =
     "http://schemas.openxmlformats.org/officeDocument/2006/relationships/comments";
 
 /// What the authors and the comments say in a root whose element is number `base` of the open ones.
-fn entries_in<P: Package>(
-    alloc: Global,
-    package: &mut P,
-    cursor: &mut Cursor,
-    base: usize,
-) -> Result<Vec<Entry>, XlsxError>
-    requires reading { IsReading (reading (P.state «package».old) cursor.old) }
-    requires within { base ≤ length (open_elements cursor.old) }
-    ensures reads { let old = reading (P.state «package».old) cursor.old in
-        let new = reading (P.state «package».new) cursor.new in
-        ReadsPart Io result old new }
-    ensures closed { let old = reading (P.state «package».old) cursor.old in
-        old.source.is_told ≡ true → OnOk result (is_closed_ahead base old ≡ true) }
-    ensures ends { let old = reading (P.state «package».old) cursor.old in
-        let new = reading (P.state «package».new) cursor.new in
-        old.source.is_told ≡ true → OnOk result (new.at ≡ suc (section_end base old)) }
-    ensures entries { let old = reading (P.state «package».old) cursor.old in
-        old.source.is_told ≡ true → IfOk result (λ entries.
-        entries_in (section_ahead base old) ≡ Ok (map entry_kept entries.items)) }
-    ensures err { let old = reading (P.state «package».old) cursor.old in
-        let new = reading (P.state «package».new) cursor.new in
-        IfErr result (SectionFails end_in_entries (IsInsideRefused entries_in) base old new) }
+fn entries_in<P: Package>(xml: &mut XlReader<P>, base: usize) -> Result<Vec<Entry>, XlsxError>
+    requires reading { IsReading xml.old }
+    requires within { base ≤ length xml.old.names }
+    ensures reads { ReadsPart Io result xml.old xml.new }
+    ensures closed { xml.old.source.is_told ≡ true →
+        OnOk result (is_closed_ahead base xml.old ≡ true) }
+    ensures ends { xml.old.source.is_told ≡ true →
+        OnOk result (xml.new.at ≡ suc (section_end base xml.old)) }
+    ensures entries { xml.old.source.is_told ≡ true → IfOk result (λ entries.
+        entries_in (section_ahead base xml.old) ≡ Ok (map entry_kept entries.items)) }
+    ensures err { IfErr result
+        (SectionFails end_in_entries (IsInsideRefused entries_in) base xml.old xml.new) }
     ensures kind { IfErr result IsCommentsError }
 {
+    let alloc = xml.alloc();
     let mut entries = Vec::new(alloc);
     let names = ["author", "comment"];
-    'entries: while let Some(_at) = next_element_in(package, cursor, base, &names, "comments")? {
-        entries.push(read_entry(alloc, package, cursor)?)?;
+    'entries: while let Some(_at) = next_element_in(xml, base, &names, "comments")? {
+        entries.push(read_entry(xml)?)?;
     }
     Ok(entries)
 }
 
 /// What the authors and the comments say in the part at this path. An absent part has none.
-fn read_entries<P: Package>(
-    alloc: Global,
-    package: &mut P,
-    path: &str,
-) -> Result<Vec<Entry>, XlsxError>
-    ensures uses { let old = P.state «package».old in
-        let new = P.state «package».new in
-        Uses (event_count old.parts path.now) Io result old new }
-    ensures to_end { ReadsToEnd (codes "comments") path.now result (P.state «package».old)
-        (P.state «package».new) }
-    ensures entries { let old = P.state «package».old in
-        old.is_told ≡ true → IfOk result (λ entries.
-        entries_at old.parts path.now ≡ Some (map entry_kept entries.items)) }
-    ensures err { let old = P.state «package».old in
-        IfErr result (FailsBy (CommentsCause (part_of old.parts path.now)) old
-        (P.state «package».new)) }
+fn read_entries<P: Package>(xml: &mut XlReader<P>, path: &str) -> Result<Vec<Entry>, XlsxError>
+    ensures uses { Uses (event_count xml.old.source.parts path.now) Io result xml.old.source
+        xml.new.source }
+    ensures to_end { ReadsToEnd (codes "comments") path.now result xml.old.source xml.new.source }
+    ensures entries { xml.old.source.is_told ≡ true → IfOk result (λ entries.
+        entries_at xml.old.source.parts path.now ≡ Some (map entry_kept entries.items)) }
+    ensures err { IfErr result
+        (FailsBy (CommentsCause (part_of xml.old.source.parts path.now)) xml.old.source
+        xml.new.source) }
     ensures kind { IfErr result IsCommentsError }
 {
-    let Some(mut cursor) = enter_part(alloc, package, path, "comments")? else {
+    let alloc = xml.alloc();
+    if !enter_part(xml, path, "comments")? {
         return Ok(Vec::new(alloc));
-    };
-    let base = cursor.depth();
-    entries_in(alloc, package, &mut cursor, base)
+    }
+    let base = xml.depth();
+    entries_in(xml, base)
 }
 
 /// The authors and the comments among these, each in order.
@@ -126,11 +111,11 @@ impl ReadsRelated for CommentsReader {
     /// A part that is absent has neither authors nor comments.
     fn push<P: Package>(
         &self,
-        package: &mut P,
+        xml: &mut XlReader<P>,
         all: &mut Vec<Comments>,
         path: &str,
     ) -> Result<(), XlsxError> {
-        let entries = read_entries(self.alloc, package, path)?;
+        let entries = read_entries(xml, path)?;
         all.push(gathered(self.alloc, entries)?)?;
         Ok(())
     }
@@ -152,15 +137,15 @@ impl ReadsRelated for CommentsReader {
 /// the part, counted from 0. A start that can't be looked up is `XmlAttr`, and a `ref` that names
 /// no cell has the refusal of its text.
 pub fn read_sheet_comments<P: Package>(
-    alloc: Global,
-    package: &mut P,
+    xml: &mut XlReader<P>,
     path: &str,
 ) -> Result<Vec<Comments>, XlsxError>
     ensures answers { Answers (sheet_comments_ask path.now) (λ all. map comments_kept all.items)
-        result (P.state «package».old) (P.state «package».new) }
+        result xml.old.source xml.new.source }
 {
+    let alloc = xml.alloc();
     let mut all = Vec::new(alloc);
     let by = CommentsReader { alloc };
-    push_related(alloc, package, &mut all, path, COMMENTS_TYPE, &by)?;
+    push_related(xml, &mut all, path, COMMENTS_TYPE, &by)?;
     Ok(all)
 }

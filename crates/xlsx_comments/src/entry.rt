@@ -2,7 +2,7 @@ ghost use Rattle.std.specs.Prelude.{◌≡◌, ℕ, true, Ok, codes, string_byte
 ghost use Rattle.std.specs.Prelude.{option_and_then};
 ghost use Rattle.std.specs.Option.{option_copied};
 ghost use Rattle.part_events.specs.Event.{Tag, start, tag_of};
-ghost use Rattle.part_events.specs.Reading.{reading, ahead, IsReadingElement, ReadsElement};
+ghost use Rattle.part_events.specs.Reading.{ahead, IsReadingElement, ReadsElement};
 ghost use Rattle.part_events.specs.Section.{content};
 ghost use Rattle.xlsx_error.specs.declared.error.XlsxError.TheVariants.{Io};
 ghost use Rattle.xlsx_sections.specs.Elements.{ElementReadFails};
@@ -19,8 +19,7 @@ ghost use Rattle.xlsx_comments.specs.Comments.{IsCommentStartError, IsCommentsEr
 use crate::comment::Comment;
 use attr_text::{RawAttributes, get_attrs};
 use cell_refs::get_row_column;
-use part_events::{Cursor, Package, StartTag};
-use std::alloc::Global;
+use part_events::{Package, StartTag, XlReader};
 use xlsx_error::XlsxError;
 use xlsx_sections::{number_text, read_element_text, start_tag};
 use xlsx_strings::{read_string, unescaped};
@@ -79,78 +78,54 @@ fn placed_entry(position: Option<(u32, u32)>, author: Option<u64>, text: String)
 }
 
 /// The comment at whose start the package stands, which is read to its end.
-fn read_comment<P: Package>(
-    alloc: Global,
-    package: &mut P,
-    cursor: &mut Cursor,
-) -> Result<Entry, XlsxError>
-    requires element { IsReadingElement (reading (P.state «package».old) cursor.old) }
-    ensures reads { let old = reading (P.state «package».old) cursor.old in
-        let new = reading (P.state «package».new) cursor.new in
-        ReadsElement Io result old new }
-    ensures said { let old = reading (P.state «package».old) cursor.old in
-        old.source.is_told ≡ true → IfOk result (λ entry. (tag : Tag) →
-        start tag ≡ old.source.current →
-        comment_said tag (content 0 (ahead old)) ≡ Ok (entry_kept entry)) }
-    ensures err { let old = reading (P.state «package».old) cursor.old in
-        let new = reading (P.state «package».new) cursor.new in
-        IfErr result (λ error. (tag : Tag) → start tag ≡ old.source.current →
-        ElementReadFails end_in_string (comment_said tag) old new error) }
+fn read_comment<P: Package>(xml: &mut XlReader<P>) -> Result<Entry, XlsxError>
+    requires element { IsReadingElement xml.old }
+    ensures reads { ReadsElement Io result xml.old xml.new }
+    ensures said { xml.old.source.is_told ≡ true → IfOk result (λ entry. (tag : Tag) →
+        start tag ≡ xml.old.source.current →
+        comment_said tag (content 0 (ahead xml.old)) ≡ Ok (entry_kept entry)) }
+    ensures err { IfErr result (λ error. (tag : Tag) → start tag ≡ xml.old.source.current →
+        ElementReadFails end_in_string (comment_said tag) xml.old xml.new error) }
     ensures kind { IfErr result IsCommentsError }
 {
-    let (position, author) = comment_start(start_tag(package))?;
+    let alloc = xml.alloc();
+    let (position, author) = comment_start(start_tag(xml))?;
     let mut text = String::new(alloc);
     let mut scratch = String::new(alloc);
-    read_string(alloc, package, cursor, &mut text, &mut scratch)?;
+    read_string(xml, &mut text, &mut scratch)?;
     Ok(placed_entry(position, author, text))
 }
 
 /// The author at whose start the package stands, which is read to its end.
-fn read_author<P: Package>(
-    alloc: Global,
-    package: &mut P,
-    cursor: &mut Cursor,
-) -> Result<Entry, XlsxError>
-    requires element { IsReadingElement (reading (P.state «package».old) cursor.old) }
-    ensures reads { let old = reading (P.state «package».old) cursor.old in
-        let new = reading (P.state «package».new) cursor.new in
-        ReadsElement Io result old new }
-    ensures said { let old = reading (P.state «package».old) cursor.old in
-        old.source.is_told ≡ true → IfOk result (λ entry.
-        author_said (content 0 (ahead old)) ≡ Ok (entry_kept entry)) }
-    ensures err { let old = reading (P.state «package».old) cursor.old in
-        let new = reading (P.state «package».new) cursor.new in
-        IfErr result (ElementReadFails (always (codes "author")) author_said old new) }
+fn read_author<P: Package>(xml: &mut XlReader<P>) -> Result<Entry, XlsxError>
+    requires element { IsReadingElement xml.old }
+    ensures reads { ReadsElement Io result xml.old xml.new }
+    ensures said { xml.old.source.is_told ≡ true → IfOk result (λ entry.
+        author_said (content 0 (ahead xml.old)) ≡ Ok (entry_kept entry)) }
+    ensures err { IfErr result
+        (ElementReadFails (always (codes "author")) author_said xml.old xml.new) }
     ensures kind { IfErr result IsCommentsError }
 {
+    let alloc = xml.alloc();
     let mut written = String::new(alloc);
-    read_element_text(package, cursor, &mut written, true, "author")?;
+    read_element_text(xml, &mut written, true, "author")?;
     Ok(Entry::Author(unescaped(alloc, written)?))
 }
 
 /// What the author or the comment says at whose start the package stands, which is read to its end.
-pub fn read_entry<P: Package>(
-    alloc: Global,
-    package: &mut P,
-    cursor: &mut Cursor,
-) -> Result<Entry, XlsxError>
-    requires element { IsReadingElement (reading (P.state «package».old) cursor.old) }
-    ensures reads { let old = reading (P.state «package».old) cursor.old in
-        let new = reading (P.state «package».new) cursor.new in
-        ReadsElement Io result old new }
-    ensures said { let old = reading (P.state «package».old) cursor.old in
-        old.source.is_told ≡ true → IfOk result (λ entry. (tag : Tag) →
-        start tag ≡ old.source.current →
-        entry_said tag (content 0 (ahead old)) ≡ Ok (entry_kept entry)) }
-    ensures err { let old = reading (P.state «package».old) cursor.old in
-        let new = reading (P.state «package».new) cursor.new in
-        IfErr result (λ error. (tag : Tag) → start tag ≡ old.source.current →
-        ElementReadFails (end_in_entry tag) (entry_said tag) old new error) }
+pub fn read_entry<P: Package>(xml: &mut XlReader<P>) -> Result<Entry, XlsxError>
+    requires element { IsReadingElement xml.old }
+    ensures reads { ReadsElement Io result xml.old xml.new }
+    ensures said { xml.old.source.is_told ≡ true → IfOk result (λ entry. (tag : Tag) →
+        start tag ≡ xml.old.source.current →
+        entry_said tag (content 0 (ahead xml.old)) ≡ Ok (entry_kept entry)) }
+    ensures err { IfErr result (λ error. (tag : Tag) → start tag ≡ xml.old.source.current →
+        ElementReadFails (end_in_entry tag) (entry_said tag) xml.old xml.new error) }
     ensures kind { IfErr result IsCommentsError }
 {
-    if start_tag(package).local_name() == "author" {
-        read_author(alloc, package, cursor)
+    if start_tag(xml).local_name() == "author" {
+        read_author(xml)
     } else {
-        read_comment(alloc, package, cursor)
+        read_comment(xml)
     }
 }

@@ -10,36 +10,32 @@ ghost use Rattle.xlsx_core.specs.Worksheets.{path_of, KeepsWorkbook};
 
 use crate::placed_sheet::{numbered_sheet, path_named};
 use crate::xlsx::Xlsx;
-use part_events::Package;
-use std::alloc::Global;
+use part_events::{Package, XlReader};
 use xlsx_areas::{Hyperlink, read_sheet_links};
 use xlsx_error::XlsxError;
 use xlsx_open::KeptPath;
 
 /// The hyperlinks of the sheet of this name, whose part is at this path.
 fn placed_links<P: Package>(
-    alloc: Global,
-    package: &mut P,
+    xml: &mut XlReader<P>,
     path: Option<&KeptPath>,
     name: &str,
 ) -> Result<Vec<Hyperlink>, XlsxError>
-    ensures uses { let old = P.state «package».old in
-        let new = P.state «package».new in
-        Uses (placed_link_events (path_lent path.entry) old.parts) Io result old new }
-    ensures to_end { let old = P.state «package».old in
-        let new = P.state «package».new in
+    ensures uses { Uses (placed_link_events (path_lent path.entry) xml.old.source.parts) Io result
+        xml.old.source xml.new.source }
+    ensures to_end { let old = xml.old.source in
         old.is_told ≡ true → IfSome (path_lent path.entry) (λ there.
-        OnOk result (CountsUp (link_sections old.parts there) old.taken new.taken)) }
-    ensures links { let old = P.state «package».old in
-        old.is_told ≡ true → IfOk result (λ links.
-        links_placed (path_lent path.entry) old.parts ≡ Some (map link_said links.items)) }
+        OnOk result (CountsUp (link_sections old.parts there) old.taken xml.new.source.taken)) }
+    ensures links { xml.old.source.is_told ≡ true → IfOk result (λ links.
+        links_placed (path_lent path.entry) xml.old.source.parts ≡ Some (map link_said links.items)) }
     ensures err { IfErr result (PlacedLinksFail name.now (path_lent path.entry)
-        (P.state «package».old) (P.state «package».new)) }
+        xml.old.source xml.new.source) }
     ensures kind { IfErr result (IsPlacedLinksError name.now) }
 {
+    let alloc = xml.alloc();
     if let Some(path) = path {
         let path = path.joined(alloc)?;
-        if let Some(links) = read_sheet_links(alloc, package, path.as_str())? {
+        if let Some(links) = read_sheet_links(xml, path.as_str())? {
             return Ok(links);
         }
     }

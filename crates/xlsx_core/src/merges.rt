@@ -23,7 +23,7 @@ use crate::sheet_lists::{ReadsSheets, read_sheets};
 use crate::table_list::sheet_name;
 use crate::xlsx::Xlsx;
 use cell_refs::Dimensions;
-use part_events::Package;
+use part_events::{Package, XlReader};
 use std::alloc::Global;
 use xlsx_areas::{
     MergedRegion, MergedRegions, read_merges, read_merges_or_none, read_sheet_regions,
@@ -33,28 +33,24 @@ use xlsx_open::{KeptPath, Sheet};
 
 /// The merged cells of the sheet of this name, whose part is at this path.
 fn placed_merges<P: Package>(
-    alloc: Global,
-    package: &mut P,
+    xml: &mut XlReader<P>,
     path: Option<&KeptPath>,
     name: &str,
 ) -> Result<Vec<Dimensions>, XlsxError>
-    ensures uses { let old = P.state «package».old in
-        let new = P.state «package».new in
-        Uses (placed_events (path_lent path.entry) old.parts) Io result old new }
-    ensures to_end { let old = P.state «package».old in
-        let new = P.state «package».new in
-        IfSome (path_lent path.entry) (λ there.
-        ReadsToEnd (codes "mergeCells") there result old new) }
-    ensures merges { let old = P.state «package».old in
-        old.is_told ≡ true → IfOk result (λ areas.
-        merges_placed (path_lent path.entry) old.parts ≡ Some areas.items) }
+    ensures uses { Uses (placed_events (path_lent path.entry) xml.old.source.parts) Io result
+        xml.old.source xml.new.source }
+    ensures to_end { IfSome (path_lent path.entry) (λ there.
+        ReadsToEnd (codes "mergeCells") there result xml.old.source xml.new.source) }
+    ensures merges { xml.old.source.is_told ≡ true → IfOk result (λ areas.
+        merges_placed (path_lent path.entry) xml.old.source.parts ≡ Some areas.items) }
     ensures err { IfErr result (PlacedMergesFail name.now (path_lent path.entry)
-        (P.state «package».old) (P.state «package».new)) }
+        xml.old.source xml.new.source) }
     ensures kind { IfErr result (IsPlacedMergesError name.now) }
 {
+    let alloc = xml.alloc();
     if let Some(path) = path {
         let path = path.joined(alloc)?;
-        if let Some(areas) = read_merges(alloc, package, path.as_str())? {
+        if let Some(areas) = read_merges(xml, path.as_str())? {
             return Ok(areas);
         }
     }
@@ -64,34 +60,30 @@ fn placed_merges<P: Package>(
 /// The merged cells of the sheet whose part is at this path, and none where what stands in their
 /// section refuses them. None where there is no path, or no part at it.
 fn placed_merges_or_none<P: Package>(
-    alloc: Global,
-    package: &mut P,
+    xml: &mut XlReader<P>,
     path: Option<&KeptPath>,
 ) -> Option<Result<Vec<Dimensions>, XlsxError>>
-    ensures uses { let old = P.state «package».old in
-        let new = P.state «package».new in
+    ensures uses { let old = xml.old.source in
+        let new = xml.new.source in
         MatchOption result (UsesPackage 0 old new) (λ answer.
         Uses (placed_events (path_lent path.entry) old.parts) Io answer old new) }
-    ensures to_end { let old = P.state «package».old in
-        let new = P.state «package».new in
-        IfSome (path_lent path.entry) (λ there. IfSome result (λ answer.
-        IsSome (merges_at old.parts there) →
-        ReadsToEnd (codes "mergeCells") there answer old new)) }
-    ensures absent { let old = P.state «package».old in
-        IfNone result (old.is_told ≡ true →
-        events_at (path_lent path.entry) old.parts ≡ None) }
-    ensures merges { let old = P.state «package».old in
-        old.is_told ≡ true → IfSome result (λ answer. IfOk answer (λ areas.
-        merges_or_none_placed (path_lent path.entry) old.parts ≡ Some areas.items)) }
+    ensures to_end { IfSome (path_lent path.entry) (λ there. IfSome result (λ answer.
+        IsSome (merges_at xml.old.source.parts there) →
+        ReadsToEnd (codes "mergeCells") there answer xml.old.source xml.new.source)) }
+    ensures absent { IfNone result (xml.old.source.is_told ≡ true →
+        events_at (path_lent path.entry) xml.old.source.parts ≡ None) }
+    ensures merges { xml.old.source.is_told ≡ true → IfSome result (λ answer. IfOk answer (λ areas.
+        merges_or_none_placed (path_lent path.entry) xml.old.source.parts ≡ Some areas.items)) }
     ensures err { IfSome result (λ answer. IfErr answer (PlacedBreaks (path_lent path.entry)
-        (P.state «package».old) (P.state «package».new))) }
+        xml.old.source xml.new.source)) }
     ensures kind { IfSome result (λ answer. IfErr answer IsBreakError) }
 {
+    let alloc = xml.alloc();
     let path = match path?.joined(alloc) {
         Ok(path) => path,
         Err(error) => return Some(Err(XlsxError::from(error))),
     };
-    match read_merges_or_none(alloc, package, path.as_str()) {
+    match read_merges_or_none(xml, path.as_str()) {
         Ok(Some(areas)) => Some(Ok(areas)),
         Ok(None) => None,
         Err(error) => Some(Err(error)),
@@ -121,19 +113,13 @@ impl ReadsSheets for RegionLists {
 
     fn keep<P: Package>(
         &self,
-        package: &mut P,
+        xml: &mut XlReader<P>,
         regions: &mut Vec<MergedRegion>,
         sheets: &[Sheet],
         number: usize,
         path: &str,
     ) -> Result<(), XlsxError> {
-        read_sheet_regions(
-            self.alloc,
-            package,
-            regions,
-            sheet_name(sheets, number),
-            path,
-        )
+        read_sheet_regions(xml, regions, sheet_name(sheets, number), path)
     }
 }
 

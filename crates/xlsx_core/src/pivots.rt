@@ -15,7 +15,7 @@ ghost use Rattle.xlsx_core.specs.Worksheets.{KeepsWorkbook};
 use crate::sheet_lists::{ReadsSheets, read_sheets};
 use crate::table_list::sheet_name;
 use crate::xlsx::Xlsx;
-use part_events::Package;
+use part_events::{Package, XlReader};
 use std::alloc::Global;
 use xlsx_error::XlsxError;
 use xlsx_open::Sheet;
@@ -46,14 +46,14 @@ impl ReadsSheets for PivotLists<'_> {
 
     fn keep<P: Package>(
         &self,
-        package: &mut P,
+        xml: &mut XlReader<P>,
         pivots: &mut PivotTables,
         sheets: &[Sheet],
         number: usize,
         path: &str,
     ) -> Result<(), XlsxError> {
         let name = sheet_name(sheets, number);
-        read_sheet_pivots(self.alloc, package, pivots, name, path, self.folder)
+        read_sheet_pivots(xml, pivots, name, path, self.folder)
     }
 }
 

@@ -22,7 +22,7 @@ ghost use Rattle.xlsx_core.specs.Worksheets.{ReadsValues, RangeFails, IsRangeErr
 use crate::ranges::value_range;
 use cell_data::{Data, HeaderRow, Range};
 use cell_refs::Dimensions;
-use part_events::Package;
+use part_events::{Package, XlReader};
 use std::alloc::Global;
 use xlsx_cells::{Asked, SheetCells, SheetCursor, Wants, collect, open_data};
 use xlsx_error::XlsxError;
@@ -66,28 +66,26 @@ pub fn numbered_sheet(alloc: Global, sheets: &[Sheet], index: usize) -> Result<&
 ///
 /// Fails with `WorksheetNotFound` where there is no path, or no part at it.
 pub fn open_placed<P: Package>(
-    alloc: Global,
-    package: &mut P,
+    xml: &mut XlReader<P>,
     path: Option<&KeptPath>,
     name: &str,
 ) -> Result<(SheetCursor, Dimensions), XlsxError>
-    ensures uses { let old = P.state «package».old in
-        let new = P.state «package».new in
-        Uses (placed_events (path_lent path.entry) old.parts) Io result old new }
-    ensures enters { let old = P.state «package».old in
-        IfOk result (λ entered. IsSomeAnd (path_lent path.entry) (λ there.
-        EntersData there entered.1 old (stream (P.state «package».new) entered.0))) }
+    ensures uses { Uses (placed_events (path_lent path.entry) xml.old.source.parts) Io result
+        xml.old.source xml.new.source }
+    ensures enters { IfOk result (λ entered. IsSomeAnd (path_lent path.entry) (λ there.
+        EntersData there entered.1 xml.old.source (stream xml.new.source entered.0))) }
     ensures err { IfErr result (PlacedHeadFails name.now (path_lent path.entry)
-        (P.state «package».old) (P.state «package».new)) }
-    ensures lacks { let old = P.state «package».old in
-        let new = P.state «package».new in
+        xml.old.source xml.new.source) }
+    ensures lacks { let old = xml.old.source in
         let all = placed_events (path_lent path.entry) old.parts in
-        old.is_told ≡ true → IfErr result (IfNoWorksheet (CountsUp all old.taken new.taken)) }
+        old.is_told ≡ true →
+        IfErr result (IfNoWorksheet (CountsUp all old.taken xml.new.source.taken)) }
     ensures kind { IfErr result (IsPlacedHeadError name.now) }
 {
+    let alloc = xml.alloc();
     if let Some(path) = path {
         let path = path.joined(alloc)?;
-        if let Some(entered) = open_data(alloc, package, path.as_str())? {
+        if let Some(entered) = open_data(xml, path.as_str())? {
             return Ok(entered);
         }
     }
@@ -96,44 +94,40 @@ pub fn open_placed<P: Package>(
 
 /// What is asked for of the sheet of this name, whose part is at this path.
 pub fn read_placed<P: Package>(
-    alloc: Global,
-    package: &mut P,
+    xml: &mut XlReader<P>,
     path: Option<&KeptPath>,
     name: &str,
     asked: Asked<'_>,
 ) -> Result<SheetCells, XlsxError>
-    ensures uses { let old = P.state «package».old in
-        let new = P.state «package».new in
-        Uses (placed_events (path_lent path.entry) old.parts) Io result old new }
-    ensures to_end { let old = P.state «package».old in
-        let count = data_events (path_lent path.entry) old.parts in
-        TakesExactly count result old (P.state «package».new) }
+    ensures uses { Uses (placed_events (path_lent path.entry) xml.old.source.parts) Io result
+        xml.old.source xml.new.source }
+    ensures to_end { let count = data_events (path_lent path.entry) xml.old.source.parts in
+        TakesExactly count result xml.old.source xml.new.source }
     ensures inside { IfOk result (λ cells.
         LieInSheet (cells_gathered cells.values) (cells_gathered cells.formulas)
         cells.style_ids.items) }
-    ensures reads { let old = P.state «package».old in
-        let wants = asked.entry.wants in
+    ensures reads { let wants = asked.entry.wants in
         let grounds = grounds_of asked.entry.book in
         let path = path_lent path.entry in
         let count = asked.entry.style_count in
-        old.is_told ≡ true → IfOk result (λ cells. IsSomeAnd (events_at path old.parts)
+        xml.old.source.is_told ≡ true →
+        IfOk result (λ cells. IsSomeAnd (events_at path xml.old.source.parts)
         (λ events. let values = value_entries (cells_gathered cells.values) in
         HoldsWanted wants grounds count events values
         (formula_entries (cells_gathered cells.formulas)) cells.style_ids.items)) }
     ensures err { IfErr result (PlacedSheetFails name.now asked.entry.wants
-        (grounds_of asked.entry.book) (path_lent path.entry) (P.state «package».old)
-        (P.state «package».new)) }
-    ensures lacks { let old = P.state «package».old in
-        let new = P.state «package».new in
+        (grounds_of asked.entry.book) (path_lent path.entry) xml.old.source xml.new.source) }
+    ensures lacks { let old = xml.old.source in
         let all = placed_events (path_lent path.entry) old.parts in
-        old.is_told ≡ true → IfErr result (IfNoWorksheet (CountsUp all old.taken new.taken)) }
+        old.is_told ≡ true →
+        IfErr result (IfNoWorksheet (CountsUp all old.taken xml.new.source.taken)) }
     ensures kind { IfErr result (IsPlacedError name.now) }
     ensures plain { reads_children asked.entry.wants ≡ false →
         IfErr result (IsStyleRangeError name.now) }
 {
-    let (sheet, _) = open_placed(alloc, package, path, name)?;
+    let (sheet, _) = open_placed(xml, path, name)?;
     let mut sheet = sheet;
-    collect(alloc, package, &mut sheet, asked)
+    collect(xml, &mut sheet, asked)
 }
 
 /// What is asked for of a sheet, over what the sheets share.
@@ -159,35 +153,32 @@ pub fn asked_of(shared: &SharedParts, is_1904: bool, wants: Wants) -> Asked<'_>
 
 /// The same as `read_placed`, and nothing where the part is no worksheet.
 pub fn read_range<P: Package>(
-    alloc: Global,
-    package: &mut P,
+    xml: &mut XlReader<P>,
     path: Option<&KeptPath>,
     name: &str,
     asked: Asked<'_>,
 ) -> Result<SheetCells, XlsxError>
-    ensures uses { let old = P.state «package».old in
-        let new = P.state «package».new in
-        Uses (placed_events (path_lent path.entry) old.parts) Io result old new }
-    ensures to_end { let old = P.state «package».old in
-        let count = data_events (path_lent path.entry) old.parts in
-        TakesExactly count result old (P.state «package».new) }
+    ensures uses { Uses (placed_events (path_lent path.entry) xml.old.source.parts) Io result
+        xml.old.source xml.new.source }
+    ensures to_end { let count = data_events (path_lent path.entry) xml.old.source.parts in
+        TakesExactly count result xml.old.source xml.new.source }
     ensures inside { IfOk result (λ cells.
         LieInSheet (cells_gathered cells.values) (cells_gathered cells.formulas)
         cells.style_ids.items) }
-    ensures reads { let old = P.state «package».old in
-        let wants = asked.entry.wants in
+    ensures reads { let wants = asked.entry.wants in
         let grounds = grounds_of asked.entry.book in
         let path = path_lent path.entry in
         let count = asked.entry.style_count in
-        old.is_told ≡ true → IfOk result (λ cells. IsSomeAnd (events_at path old.parts)
+        xml.old.source.is_told ≡ true →
+        IfOk result (λ cells. IsSomeAnd (events_at path xml.old.source.parts)
         (AnswersCells wants grounds count (value_entries (cells_gathered cells.values))
         (formula_entries (cells_gathered cells.formulas)) cells.style_ids.items)) }
     ensures err { IfErr result (RangeFails name.now asked.entry.wants
-        (grounds_of asked.entry.book) (path_lent path.entry) (P.state «package».old)
-        (P.state «package».new)) }
+        (grounds_of asked.entry.book) (path_lent path.entry) xml.old.source xml.new.source) }
     ensures kind { IfErr result (IsRangeError name.now) }
 {
-    match read_placed(alloc, package, path, name, asked) {
+    let alloc = xml.alloc();
+    match read_placed(xml, path, name, asked) {
         Ok(cells) => Ok(cells),
         Err(XlsxError::NotAWorksheet(_)) => Ok(SheetCells::new(alloc)),
         Err(error) => Err(error),
@@ -196,28 +187,25 @@ pub fn read_range<P: Package>(
 
 /// The range of values of the sheet of this name, whose part is at this path.
 pub fn read_values<P: Package>(
-    alloc: Global,
-    package: &mut P,
+    xml: &mut XlReader<P>,
     path: Option<&KeptPath>,
     name: &str,
     asked: Asked<'_>,
     header_row: HeaderRow,
 ) -> Result<Range<Data>, XlsxError>
     requires { asked.wants ≡ values_alone }
-    ensures uses { let old = P.state «package».old in
-        let new = P.state «package».new in
-        Uses (placed_events (path_lent path.entry) old.parts) Io result old new }
-    ensures to_end { let old = P.state «package».old in
-        let count = data_events (path_lent path.entry) old.parts in
-        TakesExactly count result old (P.state «package».new) }
-    ensures reads { let old = P.state «package».old in
-        let path = path_lent path.entry in
-        old.is_told ≡ true → IfOk result
-        (ReadsValues (grounds_of asked.entry.book) header_row path old.parts) }
+    ensures uses { Uses (placed_events (path_lent path.entry) xml.old.source.parts) Io result
+        xml.old.source xml.new.source }
+    ensures to_end { let count = data_events (path_lent path.entry) xml.old.source.parts in
+        TakesExactly count result xml.old.source xml.new.source }
+    ensures reads { let path = path_lent path.entry in
+        xml.old.source.is_told ≡ true → IfOk result
+        (ReadsValues (grounds_of asked.entry.book) header_row path xml.old.source.parts) }
     ensures err { IfErr result (RangeFails name.now values_alone (grounds_of asked.entry.book)
-        (path_lent path.entry) (P.state «package».old) (P.state «package».new)) }
+        (path_lent path.entry) xml.old.source xml.new.source) }
     ensures kind { IfErr result (IsRangeError name.now) }
 {
-    let cells = read_range(alloc, package, path, name, asked)?;
+    let alloc = xml.alloc();
+    let cells = read_range(xml, path, name, asked)?;
     Ok(value_range(alloc, cells.values, asked.book.strings, header_row)?)
 }

@@ -8,8 +8,7 @@ ghost use Rattle.xlsx_workbook.specs.declared.sheet.Sheet.{Sheet};
 ghost use Rattle.xlsx_core.specs.Merges.{sheet_paths};
 ghost use Rattle.xlsx_core.specs.TableList.{sheet_name};
 
-use part_events::Package;
-use std::alloc::Global;
+use part_events::{Package, XlReader};
 use xlsx_error::XlsxError;
 use xlsx_open::{KeptPath, Sheet};
 
@@ -28,7 +27,7 @@ pub(crate) trait ReadsSheets {
     /// Keeps what the sheet of this number says, counted from 0, whose part is at this path.
     fn keep<P: Package>(
         &self,
-        package: &mut P,
+        xml: &mut XlReader<P>,
         items: &mut Self::Items,
         sheets: &[Sheet],
         number: usize,
@@ -36,7 +35,7 @@ pub(crate) trait ReadsSheets {
     ) -> Result<(), XlsxError>
         ensures { let sheet = sheet_at (sheet_name sheets.now number) path.now in
             Appends (ask self.now sheet) (held sheets.now items.old) (held sheets.now items.new)
-            result (P.state «package».old) (P.state «package».new) };
+            result xml.old.source xml.new.source };
 
     ghost kinds: { (by : Self) (sheet : SheetPath) (error : XlsxError) → (ask by sheet).kind error →
         Kind error };
@@ -47,8 +46,7 @@ pub(crate) trait ReadsSheets {
 /// What all these sheets say, whose parts are at these paths, in their order. `items` holds nothing
 /// before.
 pub(crate) fn read_sheets<P: Package, R: ReadsSheets>(
-    alloc: Global,
-    package: &mut P,
+    xml: &mut XlReader<P>,
     items: R::Items,
     sheets: &[Sheet],
     paths: &[KeptPath],
@@ -56,8 +54,9 @@ pub(crate) fn read_sheets<P: Package, R: ReadsSheets>(
 ) -> Result<R::Items, XlsxError>
     requires { R.held sheets.now items ≡ [] }
     ensures { let ask = each R.Kind (R.ask by.now) (sheet_paths sheets.now paths.now) in
-        Answers ask (R.held sheets.now) result (P.state «package».old) (P.state «package».new) }
+        Answers ask (R.held sheets.now) result xml.old.source xml.new.source }
 {
+    let alloc = xml.alloc();
     let mut items = items;
     let mut number = 0;
     let mut left = sheets;
@@ -67,7 +66,7 @@ pub(crate) fn read_sheets<P: Package, R: ReadsSheets>(
             return Ok(items);
         };
         let path = path.joined(alloc)?;
-        by.keep(package, &mut items, sheets, number, path.as_str())?;
+        by.keep(xml, &mut items, sheets, number, path.as_str())?;
         number += 1;
         left = others;
         rest = more;

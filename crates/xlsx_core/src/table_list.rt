@@ -14,7 +14,7 @@ ghost use Rattle.xlsx_core.specs.Worksheets.{KeepsBook, KeepsWorkbook};
 use crate::sheet_lists::{ReadsSheets, read_sheets};
 use crate::xlsx::Xlsx;
 use cell_refs::Dimensions;
-use part_events::Package;
+use part_events::{Package, XlReader};
 use std::alloc::Global;
 use xlsx_error::XlsxError;
 use xlsx_open::{KeptPath, Sheet};
@@ -63,13 +63,13 @@ impl ReadsSheets for TableLists {
 
     fn keep<P: Package>(
         &self,
-        package: &mut P,
+        xml: &mut XlReader<P>,
         tables: &mut Vec<LoadedTable>,
         sheets: &[Sheet],
         number: usize,
         path: &str,
     ) -> Result<(), XlsxError> {
-        read_sheet_tables(self.alloc, package, tables, number, path)
+        read_sheet_tables(xml, tables, number, path)
     }
 }
 

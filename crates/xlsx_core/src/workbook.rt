@@ -14,7 +14,7 @@ use crate::placed_sheet::{open_placed, path_named};
 use crate::xlsx::Xlsx;
 use cell_data::HeaderRow;
 use cell_refs::Dimensions;
-use part_events::Package;
+use part_events::{Package, XlReader};
 use std::alloc::Global;
 use std::sync::ArcStr;
 use xlsx_cells::{SheetCursor, XlsxCellReader};
@@ -100,21 +100,19 @@ impl Workbook {
     /// part, with `NotAWorksheet` where its part is none, and else as `XlsxCellReader::new`.
     pub fn enter_worksheet<P: Package>(
         &self,
-        package: &mut P,
+        xml: &mut XlReader<P>,
         name: &str,
     ) -> Result<(SheetCursor, Dimensions), XlsxError>
-        ensures uses { let old = P.state «package».old in
-            let new = P.state «package».new in
-            Uses (placed_events (path_in self.now name.now) old.parts) Io result old new }
-        ensures enters { let new = P.state «package».new in
-            IfOk result (λ entered. EntersSheet (path_in self.now name.now) entered.1
-            (P.state «package».old) (stream new entered.0)) }
+        ensures uses { Uses (placed_events (path_in self.now name.now) xml.old.source.parts)
+            Io result xml.old.source xml.new.source }
+        ensures enters { IfOk result (λ entered. EntersSheet (path_in self.now name.now) entered.1
+            xml.old.source (stream xml.new.source entered.0)) }
         ensures err { IfErr result (PlacedHeadFails name.now (path_in self.now name.now)
-            (P.state «package».old) (P.state «package».new)) }
+            xml.old.source xml.new.source) }
         ensures kind { IfErr result (IsPlacedHeadError name.now) }
     {
         let path = path_named(&self.metadata.sheets, &self.paths, name);
-        open_placed(self.alloc, package, path, name)
+        open_placed(xml, path, name)
     }
 
     /// A reader of the cells of a sheet of this workbook with these dimensions, that goes on where
@@ -125,13 +123,13 @@ impl Workbook {
         sheet: SheetCursor,
         dimensions: Dimensions,
     ) -> XlsxCellReader<'a, P>
-        requires { IsStreaming (stream (P.state «package».old) sheet) }
+        requires { IsStreaming (stream xml.old.source sheet) }
         ensures same_reference { reference_of result ≡ «package».entry.ghost_name }
         ensures same { result.package.now ≡ «package».old }
         ensures grounds { grounds_by result ≡ grounds_in self.now }
         ensures styles { styles_held result ≡ palette_in self.now }
         ensures dimensions { area_held result ≡ dimensions }
-        ensures stream { stream_by P.state result ≡ stream (P.state «package».old) sheet }
+        ensures stream { stream_by P.state result ≡ stream xml.old.source sheet }
     {
         XlsxCellReader::resume(
             package,
@@ -157,15 +155,15 @@ impl Workbook {
         ensures same_reference { IfOk result (λ reader.
             reference_of reader ≡ «package».entry.ghost_name) }
         ensures enters { IfOk result (λ reader. EntersSheet (path_in self.now name.now)
-            (area_held reader) (P.state «package».old) (stream_by P.state reader)) }
+            (area_held reader) xml.old.source (stream_by P.state reader)) }
         ensures grounds { IfOk result (λ reader. grounds_by reader ≡ grounds_in self.now) }
         ensures styles { IfOk result (λ reader. styles_held reader ≡ palette_in self.now) }
         ensures err { IfErr result (ReaderFails name.now (path_in self.now name.now)
-            (P.state «package».old)) }
-        ensures fault { IfErr result (LentFails Io P.state (P.state «package».old)) }
+            xml.old.source) }
+        ensures fault { IfErr result (LentFails Io P.state xml.old.source) }
         ensures kind { IfErr result (IsPlacedHeadError name.now) }
     {
-        let (sheet, dimensions) = self.enter_worksheet(package, name)?;
-        Ok(self.resume_worksheet(package, sheet, dimensions))
+        let (sheet, dimensions) = self.enter_worksheet(xml, name)?;
+        Ok(self.resume_worksheet(xml, sheet, dimensions))
     }
 }

@@ -18,7 +18,7 @@ ghost use Rattle.xlsx_core.specs.Worksheets.{grounds_of_book, path_of};
 use crate::placed_sheet::{asked_of, read_values};
 use crate::xlsx::Xlsx;
 use cell_data::{Data, HeaderRow, Range};
-use part_events::Package;
+use part_events::{Package, XlReader};
 use std::alloc::{AllocError, Global};
 use std::collections::BTreeMap;
 use xlsx_cells::{Asked, Wants};
@@ -77,31 +77,28 @@ fn ends_listing(error: &XlsxError) -> bool
 /// The range of values of the sheet of this name, whose part is at this path, or none where it
 /// isn't read for a cause in the parts.
 fn range_or_none<P: Package>(
-    alloc: Global,
-    package: &mut P,
+    xml: &mut XlReader<P>,
     path: Option<&KeptPath>,
     name: &str,
     asked: Asked<'_>,
     header_row: HeaderRow,
 ) -> Result<Option<Range<Data>>, XlsxError>
     requires { asked.wants ≡ values_alone }
-    ensures uses { let old = P.state «package».old in
-        let new = P.state «package».new in
-        Uses (placed_events (path_lent path.entry) old.parts) Io result old new }
-    ensures to_end { let old = P.state «package».old in
-        let new = P.state «package».new in
+    ensures uses { Uses (placed_events (path_lent path.entry) xml.old.source.parts) Io result
+        xml.old.source xml.new.source }
+    ensures to_end { let old = xml.old.source in
         let count = data_events (path_lent path.entry) old.parts in
         old.is_told ≡ true → IfOk result (λ found.
-        IfSome found (λ range. CountsUp count old.taken new.taken)) }
-    ensures reads { let old = P.state «package».old in
+        IfSome found (λ range. CountsUp count old.taken xml.new.source.taken)) }
+    ensures reads { let old = xml.old.source in
         let grounds = grounds_of asked.entry.book in
         let path = path_lent path.entry in
         old.is_told ≡ true → IfOk result (λ found. MatchOption found
         ((error : XlsxError) × RangeCause name.now values_alone grounds path old.parts error)
         (ReadsValues grounds header_row path old.parts)) }
-    ensures err { IfErr result (SoundFails (P.state «package».old) (P.state «package».new)) }
+    ensures err { IfErr result (SoundFails xml.old.source xml.new.source) }
 {
-    match read_values(alloc, package, path, name, asked, header_row) {
+    match read_values(xml, path, name, asked, header_row) {
         Ok(range) => Ok(Some(range)),
         Err(error) => {
             if ends_listing(&error) {
@@ -130,35 +127,33 @@ fn put_behind(
 
 /// The ranges of values of these sheets, each by the first sheet of its name.
 fn ranges_listed<P: Package>(
-    alloc: Global,
-    package: &mut P,
+    xml: &mut XlReader<P>,
     sheets: &[Sheet],
     paths: &[KeptPath],
     asked: Asked<'_>,
     header_row: HeaderRow,
 ) -> Result<Vec<(String, Range<Data>)>, XlsxError>
     requires { asked.wants ≡ values_alone }
-    ensures uses { let old = P.state «package».old in
-        let new = P.state «package».new in
-        let place = λ (name : List ℕ). path_listed name sheets.now paths.now in
-        Uses (listed_events place old.parts sheets.now) Io result old new }
-    ensures to_end { let old = P.state «package».old in
-        let new = P.state «package».new in
+    ensures uses { let place = λ (name : List ℕ). path_listed name sheets.now paths.now in
+        Uses (listed_events place xml.old.source.parts sheets.now) Io result xml.old.source
+        xml.new.source }
+    ensures to_end { let old = xml.old.source in
         let place = λ (name : List ℕ). path_listed name sheets.now paths.now in
         old.is_told ≡ true → IfOk result (λ listed.
-        CountsAtLeast (listed_data place old.parts listed.items) old.taken new.taken) }
-    ensures lists { let old = P.state «package».old in
-        let place = λ (name : List ℕ). path_listed name sheets.now paths.now in
-        old.is_told ≡ true → IfOk result (λ listed. AreListed (grounds_of asked.entry.book)
-        header_row place old.parts sheets.now listed.items) }
-    ensures err { IfErr result (SoundFails (P.state «package».old) (P.state «package».new)) }
+        CountsAtLeast (listed_data place old.parts listed.items) old.taken xml.new.source.taken) }
+    ensures lists { let place = λ (name : List ℕ). path_listed name sheets.now paths.now in
+        xml.old.source.is_told ≡ true →
+        IfOk result (λ listed. AreListed (grounds_of asked.entry.book)
+        header_row place xml.old.source.parts sheets.now listed.items) }
+    ensures err { IfErr result (SoundFails xml.old.source xml.new.source) }
 {
+    let alloc = xml.alloc();
     let firsts = first_paths(alloc, sheets, paths)?;
     let mut listed = Vec::new(alloc);
     'sheets: for sheet in sheets {
         let name = sheet.name.as_str();
         let path = kept_path(&firsts, name);
-        let range = range_or_none(alloc, package, path, name, asked, header_row)?;
+        let range = range_or_none(xml, path, name, asked, header_row)?;
         put_behind(alloc, &mut listed, name, range)?;
     }
     Ok(listed)

@@ -3,7 +3,7 @@ ghost use Rattle.std.specs.Prelude.{Ok, Err, IfOk, IfErr, MatchResult, IsOkAnd};
 ghost use Rattle.std.specs.Option.{option_copied, option_or, unwrap_or};
 ghost use Rattle.attr_text.specs.Attributes.{lookup};
 ghost use Rattle.part_events.specs.Event.{Tag, start, tag_of};
-ghost use Rattle.part_events.specs.Reading.{reading, IsReadingElement, ReadsElement, ahead};
+ghost use Rattle.part_events.specs.Reading.{IsReadingElement, ReadsElement, ahead};
 ghost use Rattle.part_events.specs.Section.{content};
 ghost use Rattle.cell_data.specs.NumberFormat.{builtin_code};
 ghost use Rattle.xlsx_error.specs.declared.error.XlsxError.TheVariants.{Io};
@@ -23,7 +23,7 @@ use crate::settings::{Settings, read_settings};
 use attr_text::{AttrFault, AttrValue, RawAttributes, four_values};
 use cell_data::{CellFormat, builtin_format_by_id, builtin_format_code_by_id};
 use cell_styles::{Borders, Fill, Font, NumberFormat, Style};
-use part_events::{Cursor, Package, StartTag};
+use part_events::{Package, StartTag, XlReader};
 use std::alloc::{AllocError, Global};
 use xlsx_error::XlsxError;
 use xlsx_sections::{number_text, start_tag};
@@ -176,31 +176,27 @@ fn formatting_named(
 ///
 /// A part that ends before is `XmlEof("xf")`. A lookup in a start that is refused is `XmlAttr`.
 pub fn read_format<P: Package>(
-    alloc: Global,
-    package: &mut P,
-    cursor: &mut Cursor,
+    xml: &mut XlReader<P>,
     lists: &NamedLists<'_>,
 ) -> Result<Formatting, XlsxError>
-    requires element { IsReadingElement (reading (P.state «package».old) cursor.old) }
-    ensures reads { ReadsElement Io result (reading (P.state «package».old) cursor.old)
-        (reading (P.state «package».new) cursor.new) }
-    ensures formatting { let old = reading (P.state «package».old) cursor.old in
-        old.source.is_told ≡ true → IfOk result (λ formatting.
-        (tag : Tag) (formats : List WrittenFormat) → start tag ≡ old.source.current →
+    requires element { IsReadingElement xml.old }
+    ensures reads { ReadsElement Io result xml.old xml.new }
+    ensures formatting { xml.old.source.is_told ≡ true → IfOk result (λ formatting.
+        (tag : Tag) (formats : List WrittenFormat) → start tag ≡ xml.old.source.current →
         AreCodes formats lists.now.codes.now →
-        formatting_of (named_said formats lists.now) tag (content 0 (ahead old))
+        formatting_of (named_said formats lists.now) tag (content 0 (ahead xml.old))
         ≡ Ok (formatting_said formatting)) }
-    ensures err { let old = reading (P.state «package».old) cursor.old in
-        let new = reading (P.state «package».new) cursor.new in
-        IfErr result (λ error. (tag : Tag) (said : NamedSaid) → start tag ≡ old.source.current →
-        ElementReadFails (always (codes "xf")) (formatting_of said tag) old new error) }
+    ensures err { IfErr result (λ error. (tag : Tag) (said : NamedSaid) →
+        start tag ≡ xml.old.source.current →
+        ElementReadFails (always (codes "xf")) (formatting_of said tag) xml.old xml.new error) }
     ensures kind { IfErr result (IsPlainError (codes "xf")) }
 {
-    let mut formatting = formatting_named(alloc, start_tag(package), lists)?;
+    let alloc = xml.alloc();
+    let mut formatting = formatting_named(alloc, start_tag(xml), lists)?;
     let Settings {
         alignment,
         protection,
-    } = read_settings(package, cursor)?;
+    } = read_settings(xml)?;
     formatting.style.alignment = alignment;
     formatting.style.protection = protection;
     Ok(formatting)

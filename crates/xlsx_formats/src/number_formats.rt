@@ -2,7 +2,7 @@ ghost use Rattle.std.specs.Prelude.{◌≡◌, ◌⊎◌, ◌++◌, List, ℕ, c
 ghost use Rattle.std.specs.Prelude.{Ok, OnOk, OnErr, IfErr, IsOkAnd};
 ghost use Rattle.attr_text.specs.Attributes.{lookup};
 ghost use Rattle.part_events.specs.Event.{tag_of};
-ghost use Rattle.part_events.specs.Reading.{reading, IsReadingElement, ReadsElement, ahead};
+ghost use Rattle.part_events.specs.Reading.{IsReadingElement, ReadsElement, ahead};
 ghost use Rattle.part_events.specs.Section.{content, starts_by};
 ghost use Rattle.xlsx_error.specs.declared.error.XlsxError.TheVariants.{Io};
 ghost use Rattle.xlsx_sections.specs.Elements.{ElementReadFails};
@@ -15,7 +15,7 @@ ghost use Rattle.xlsx_formats.specs.FormatCodes.{KeepsFront};
 
 use crate::format_codes::FormatCodes;
 use attr_text::{RawAttributes, get_attrs};
-use part_events::{Cursor, Package, StartTag};
+use part_events::{Package, StartTag, XlReader};
 use std::alloc::Global;
 use xlsx_error::XlsxError;
 use xlsx_sections::{decode_at, next_start_in, start_tag};
@@ -54,31 +54,26 @@ fn keep_format(
 /// is `Xml(Entity)` with the number of its start, counted from 0. A lookup in a `numFmt` that is
 /// refused is `XmlAttr`. After a refusal the codes are kept of some of the first starts.
 pub fn read_number_formats<P: Package>(
-    alloc: Global,
-    package: &mut P,
-    cursor: &mut Cursor,
+    xml: &mut XlReader<P>,
     kept: &mut FormatCodes,
 ) -> Result<(), XlsxError>
-    requires element { IsReadingElement (reading (P.state «package».old) cursor.old) }
-    ensures reads { ReadsElement Io result (reading (P.state «package».old) cursor.old)
-        (reading (P.state «package».new) cursor.new) }
-    ensures formats { let old = reading (P.state «package».old) cursor.old in
-        old.source.is_told ≡ true → OnOk result
-        (IsOkAnd (formats_written (content 0 (ahead old))) (λ formats.
+    requires element { IsReadingElement xml.old }
+    ensures reads { ReadsElement Io result xml.old xml.new }
+    ensures formats { xml.old.source.is_told ≡ true → OnOk result
+        (IsOkAnd (formats_written (content 0 (ahead xml.old))) (λ formats.
         (earlier : List WrittenFormat) → AreCodes earlier kept.old →
         AreCodes (earlier ++ formats) kept.new)) }
-    ensures front { let old = reading (P.state «package».old) cursor.old in
-        let starts = starts_by is_number_format (content 0 (ahead old)) in
-        old.source.is_told ≡ true → OnErr result (KeepsFront starts kept.old kept.new) }
-    ensures err { let old = reading (P.state «package».old) cursor.old in
-        let new = reading (P.state «package».new) cursor.new in
-        IfErr result (ElementReadFails (always (codes "numFmts")) formats_written old new) }
+    ensures front { let starts = starts_by is_number_format (content 0 (ahead xml.old)) in
+        xml.old.source.is_told ≡ true → OnErr result (KeepsFront starts kept.old kept.new) }
+    ensures err { IfErr result
+        (ElementReadFails (always (codes "numFmts")) formats_written xml.old xml.new) }
     ensures kind { IfErr result (λ error.
         IsPlainError (codes "numFmts") error ⊎ IsDecodeError error) }
 {
-    let base = cursor.depth();
-    'starts: while let Some(at) = next_start_in(package, cursor, base, "numFmt", "numFmts")? {
-        keep_format(alloc, kept, start_tag(package), at)?;
+    let alloc = xml.alloc();
+    let base = xml.depth();
+    'starts: while let Some(at) = next_start_in(xml, base, "numFmt", "numFmts")? {
+        keep_format(alloc, kept, start_tag(xml), at)?;
     }
     Ok(())
 }

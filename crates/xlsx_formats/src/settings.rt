@@ -1,7 +1,7 @@
 ghost use Rattle.std.proofs.Common.{rules};
 ghost use Rattle.std.specs.Prelude.{◌≡◌, ⊤, ℕ, codes, Ok, MatchResult, Err};
 ghost use Rattle.part_events.specs.Event.{tag_of};
-ghost use Rattle.part_events.specs.Reading.{reading, IsReadingElement};
+ghost use Rattle.part_events.specs.Reading.{IsReadingElement};
 ghost use Rattle.xlsx_sections.specs.PartSection.{always};
 ghost use Rattle.xlsx_sections.specs.Refusal.{plain, lookup_fault, placed_at};
 ghost use Rattle.xlsx_styles.specs.Errors.{IsPlainError};
@@ -11,7 +11,7 @@ ghost use Rattle.xlsx_formats.specs.declared.settings.Settings.{Settings};
 
 use attr_text::{AttrFault, RawAttributes};
 use cell_styles::{Alignment, Protection};
-use part_events::{Cursor, Package, StartTag};
+use part_events::{Package, StartTag, XlReader};
 use xlsx_error::XlsxError;
 use xlsx_sections::{Keeps, keep_in_element};
 use xlsx_styles::{parse_alignment, parse_protection};
@@ -61,25 +61,15 @@ impl Keeps for Settings {
 }
 
 /// Reads the cell format at whose start the package stands, to its end, for what is set in it.
-pub fn read_settings<P: Package>(
-    package: &mut P,
-    cursor: &mut Cursor,
-) -> Result<Settings, XlsxError>
-    requires element { IsReadingElement (reading (P.state «package».old) cursor.old) }
+pub fn read_settings<P: Package>(xml: &mut XlReader<P>) -> Result<Settings, XlsxError>
+    requires element { IsReadingElement xml.old }
     ensures { ReadsInside settings_of (λ settings. settings) (always (codes "xf"))
-        (IsPlainError (codes "xf")) result (reading (P.state «package».old) cursor.old)
-        (reading (P.state «package».new) cursor.new) }
+        (IsPlainError (codes "xf")) result xml.old xml.new }
 {
     let mut settings = Settings {
         alignment: None,
         protection: None,
     };
-    keep_in_element(
-        package,
-        cursor,
-        &["alignment", "protection"],
-        "xf",
-        &mut settings,
-    )?;
+    keep_in_element(xml, &["alignment", "protection"], "xf", &mut settings)?;
     Ok(settings)
 }

@@ -1,6 +1,6 @@
 ghost use Rattle.std.specs.Prelude.{◌≡◌, ℕ, codes, true, Ok, Err, IfOk, IfErr};
 ghost use Rattle.part_events.specs.Event.{Tag, start, tag_of};
-ghost use Rattle.part_events.specs.Reading.{reading, ahead, IsReadingElement, ReadsElement};
+ghost use Rattle.part_events.specs.Reading.{ahead, IsReadingElement, ReadsElement};
 ghost use Rattle.part_events.specs.Section.{content};
 ghost use Rattle.xlsx_error.specs.declared.error.XlsxError.TheVariants.{Io};
 ghost use Rattle.xlsx_sections.specs.Elements.{ElementReadFails};
@@ -12,8 +12,7 @@ ghost use Rattle.xlsx_formulas.specs.Refused.{IsShareError, IsFormulaError};
 
 use attr_text::{RawAttributes, get_attrs};
 use cell_refs::{Dimensions, get_dimension};
-use part_events::{Cursor, Package, StartTag};
-use std::alloc::Global;
+use part_events::{Package, StartTag, XlReader};
 use xlsx_error::XlsxError;
 use xlsx_sections::{number_text, read_element_text, start_tag};
 
@@ -71,27 +70,19 @@ pub fn share_of(tag: StartTag<'_>) -> Result<Share, XlsxError>
 ///
 /// It is refused as [`share_of`] its start is, where a reference in its text has no character, and
 /// where its end isn't there.
-pub fn read_formula<P: Package>(
-    alloc: Global,
-    package: &mut P,
-    cursor: &mut Cursor,
-) -> Result<Formula, XlsxError>
-    requires element { IsReadingElement (reading (P.state «package».old) cursor.old) }
-    ensures reads { let old = reading (P.state «package».old) cursor.old in
-        let new = reading (P.state «package».new) cursor.new in
-        ReadsElement Io result old new }
-    ensures formula { let old = reading (P.state «package».old) cursor.old in
-        let inside = content 0 (ahead old) in
-        old.source.is_told ≡ true → (tag : Tag) → start tag ≡ old.source.current →
+pub fn read_formula<P: Package>(xml: &mut XlReader<P>) -> Result<Formula, XlsxError>
+    requires element { IsReadingElement xml.old }
+    ensures reads { ReadsElement Io result xml.old xml.new }
+    ensures formula { let inside = content 0 (ahead xml.old) in
+        xml.old.source.is_told ≡ true → (tag : Tag) → start tag ≡ xml.old.source.current →
         IfOk result (λ found. formula_text tag inside ≡ Ok (formula_seen found)) }
-    ensures err { let old = reading (P.state «package».old) cursor.old in
-        let new = reading (P.state «package».new) cursor.new in
-        IfErr result (λ error. (tag : Tag) → start tag ≡ old.source.current →
-        ElementReadFails (always (codes "f")) (formula_text tag) old new error) }
+    ensures err { IfErr result (λ error. (tag : Tag) → start tag ≡ xml.old.source.current →
+        ElementReadFails (always (codes "f")) (formula_text tag) xml.old xml.new error) }
     ensures kind { IfErr result IsFormulaError }
 {
-    let share = share_of(start_tag(package))?;
+    let alloc = xml.alloc();
+    let share = share_of(start_tag(xml))?;
     let mut text = String::new(alloc);
-    read_element_text(package, cursor, &mut text, false, "f")?;
+    read_element_text(xml, &mut text, false, "f")?;
     Ok(Formula { share, text })
 }

@@ -12,7 +12,7 @@ ghost use Rattle.xlsx_relationships.specs.Paths.{folder_of};
 ghost use Rattle.xlsx_open.specs.SharedParts.{shared_said};
 
 use crate::shared_parts::{SharedParts, read_shared};
-use part_events::Package;
+use part_events::{Package, XlReader};
 use std::alloc::{AllocError, Global};
 use std::sync::ArcStr;
 use xlsx_error::XlsxError;
@@ -100,63 +100,54 @@ fn nothing_opened(alloc: Global, folder: ArcStr, shared: SharedParts) -> Opened
 
 /// The workbook at this path, whose sheets share this.
 fn open_workbook<P: Package>(
-    alloc: Global,
-    package: &mut P,
+    xml: &mut XlReader<P>,
     path: &str,
     shared: SharedParts,
 ) -> Result<Opened, XlsxError>
-    ensures uses { let old = P.state «package».old in
-        let new = P.state «package».new in
-        Uses (workbook_events old.parts path.now) Io result old new }
-    ensures to_end { let old = P.state «package».old in
-        let new = P.state «package».new in
+    ensures uses { Uses (workbook_events xml.old.source.parts path.now) Io result xml.old.source
+        xml.new.source }
+    ensures to_end { let old = xml.old.source in
         let count = workbook_sections old.parts path.now in
-        old.is_told ≡ true → OnOk result (CountsUp count old.taken new.taken) }
-    ensures opened { let old = P.state «package».old in
-        old.is_told ≡ true → IfOk result (λ o. (opening : Opening)
+        old.is_told ≡ true → OnOk result (CountsUp count old.taken xml.new.source.taken) }
+    ensures opened { xml.old.source.is_told ≡ true → IfOk result (λ o. (opening : Opening)
         × HoldsOpening o.metadata o.paths.items o.shared o.is_1904 opening
         × (opening.shared ≡ shared_said shared)
-        × WorkbookOpens old.parts path.now opening) }
+        × WorkbookOpens xml.old.source.parts path.now opening) }
     ensures folder { IfOk result (λ o. arc_str_bytes o.folder ≡ folder_of path.now) }
-    ensures err { let old = P.state «package».old in
-        let new = P.state «package».new in
-        IfErr result (WorkbookFails path.now old new) }
+    ensures err { IfErr result (WorkbookFails path.now xml.old.source xml.new.source) }
     ensures kind { IfErr result IsOpeningError }
 {
+    let alloc = xml.alloc();
     let part = relationships_part(alloc, path)?;
-    let relationships = read_relationships(alloc, package, part.as_str())?;
+    let relationships = read_relationships(xml, part.as_str())?;
     let part = workbook_part(alloc, path)?;
     let folder = ArcStr::from_str(alloc, folder_of(path))?;
     let places = SheetPlaces {
         folder: &folder,
         relationships: &relationships,
     };
-    match read_contents(alloc, package, part.as_str(), places)? {
+    match read_contents(xml, part.as_str(), places)? {
         Some(contents) => Ok(from_contents(alloc, contents, folder, shared)?),
         None => Ok(nothing_opened(alloc, folder, shared)),
     }
 }
 
 /// The workbook at this path, with what its sheets share.
-fn open_at<P: Package>(alloc: Global, package: &mut P, path: &str) -> Result<Opened, XlsxError>
-    ensures uses { let old = P.state «package».old in
-        let new = P.state «package».new in
-        Uses (book_events old.parts path.now) Io result old new }
-    ensures to_end { let old = P.state «package».old in
-        let new = P.state «package».new in
-        old.is_told ≡ true → OnOk result (TakesBook old.parts path.now old.taken new.taken) }
-    ensures opened { let old = P.state «package».old in
-        old.is_told ≡ true → IfOk result (λ o. (opening : Opening)
+fn open_at<P: Package>(xml: &mut XlReader<P>, path: &str) -> Result<Opened, XlsxError>
+    ensures uses { Uses (book_events xml.old.source.parts path.now) Io result xml.old.source
+        xml.new.source }
+    ensures to_end { let old = xml.old.source in
+        old.is_told ≡ true →
+        OnOk result (TakesBook old.parts path.now old.taken xml.new.source.taken) }
+    ensures opened { xml.old.source.is_told ≡ true → IfOk result (λ o. (opening : Opening)
         × HoldsOpening o.metadata o.paths.items o.shared o.is_1904 opening
-        × BookOpens old.parts path.now opening) }
+        × BookOpens xml.old.source.parts path.now opening) }
     ensures folder { IfOk result (λ o. arc_str_bytes o.folder ≡ folder_of path.now) }
-    ensures err { let old = P.state «package».old in
-        let new = P.state «package».new in
-        IfErr result (BookFails path.now old new) }
+    ensures err { IfErr result (BookFails path.now xml.old.source xml.new.source) }
     ensures kind { IfErr result IsOpeningError }
 {
-    let shared = read_shared(alloc, package, path)?;
-    open_workbook(alloc, package, path, shared)
+    let shared = read_shared(xml, path)?;
+    open_workbook(xml, path, shared)
 }
 
 /// The workbook of a package.
@@ -173,21 +164,16 @@ fn open_at<P: Package>(alloc: Global, package: &mut P, path: &str) -> Result<Ope
 /// Fails with `RelationshipNotFound` where no relationship leads to a workbook or to one of its
 /// sheets, and with `Unrecognized` where the state or the type of a sheet is none. Else a part that
 /// can't be read gives the refusal, which is `Xml`, `XmlAttr` or `XmlEof`.
-pub fn open<P: Package>(alloc: Global, package: &mut P) -> Result<Opened, XlsxError>
-    ensures uses { let old = P.state «package».old in
-        let new = P.state «package».new in
-        OpensPackage Io result old new }
-    ensures opens { let old = P.state «package».old in
-        old.is_told ≡ true → IfOk result (λ o. (opening : Opening)
+pub fn open<P: Package>(xml: &mut XlReader<P>) -> Result<Opened, XlsxError>
+    ensures uses { OpensPackage Io result xml.old.source xml.new.source }
+    ensures opens { xml.old.source.is_told ≡ true → IfOk result (λ o. (opening : Opening)
         × HoldsOpening o.metadata o.paths.items o.shared o.is_1904 opening
-        × OpensAs old.parts opening) }
-    ensures folder { let old = P.state «package».old in
-        old.is_told ≡ true → IfOk result (λ o. LiesIn old.parts (arc_str_bytes o.folder)) }
-    ensures err { let old = P.state «package».old in
-        let new = P.state «package».new in
-        IfErr result (OpeningFails old new) }
+        × OpensAs xml.old.source.parts opening) }
+    ensures folder { xml.old.source.is_told ≡ true →
+        IfOk result (λ o. LiesIn xml.old.source.parts (arc_str_bytes o.folder)) }
+    ensures err { IfErr result (OpeningFails xml.old.source xml.new.source) }
     ensures kind { IfErr result IsOpeningError }
 {
-    let path = read_path(alloc, package, "_rels/.rels")?;
-    open_at(alloc, package, path.as_str())
+    let path = read_path(xml, "_rels/.rels")?;
+    open_at(xml, path.as_str())
 }

@@ -15,7 +15,7 @@ ghost use Rattle.xlsx_open.specs.SharedParts.{shared_said, HasShared, SharedFail
 ghost use Rattle.xlsx_open.specs.SharedParts.{TakesShared};
 
 use cell_styles::Color;
-use part_events::Package;
+use part_events::{Package, XlReader};
 use std::alloc::{AllocError, Global};
 use xlsx_error::XlsxError;
 use xlsx_relationships::{folder_of, joined};
@@ -42,76 +42,61 @@ fn styles_part(alloc: Global, path: &str) -> Result<String, AllocError>
 }
 
 /// The shared strings of the workbook at this path.
-fn read_strings<P: Package>(
-    alloc: Global,
-    package: &mut P,
-    path: &str,
-) -> Result<Vec<String>, XlsxError>
-    ensures uses { let old = P.state «package».old in
-        let new = P.state «package».new in
-        Uses (event_count old.parts (strings_part path.now)) Io result old new }
+fn read_strings<P: Package>(xml: &mut XlReader<P>, path: &str) -> Result<Vec<String>, XlsxError>
+    ensures uses { Uses (event_count xml.old.source.parts (strings_part path.now)) Io result
+        xml.old.source xml.new.source }
     ensures to_end { ReadsToEnd (codes "sst") (strings_part path.now) result
-        (P.state «package».old) (P.state «package».new) }
-    ensures strings { let old = P.state «package».old in
-        old.is_told ≡ true → IfOk result (λ strings.
-        HasStrings old.parts (strings_part path.now) (map string_bytes strings.items)) }
-    ensures err { let old = P.state «package».old in
-        let new = P.state «package».new in
-        IfErr result (OptionalPartFails (codes "sst") end_in_strings (IsInsideRefused strings_in)
-        (strings_part path.now) old new) }
+        xml.old.source xml.new.source }
+    ensures strings { xml.old.source.is_told ≡ true → IfOk result (λ strings.
+        HasStrings xml.old.source.parts (strings_part path.now) (map string_bytes strings.items)) }
+    ensures err { IfErr result
+        (OptionalPartFails (codes "sst") end_in_strings (IsInsideRefused strings_in)
+        (strings_part path.now) xml.old.source xml.new.source) }
     ensures kind { IfErr result IsOpeningError }
 {
+    let alloc = xml.alloc();
     let part = strings_part(alloc, path)?;
-    read_shared_strings(alloc, package, part.as_str())
+    read_shared_strings(xml, part.as_str())
 }
 
 /// The colors of the theme of the workbook at this path.
-fn read_colors<P: Package>(
-    alloc: Global,
-    package: &mut P,
-    path: &str,
-) -> Result<ThemeColors, XlsxError>
-    ensures uses { let old = P.state «package».old in
-        let new = P.state «package».new in
-        Uses (event_count old.parts (theme_part path.now)) Io result old new }
-    ensures to_end { let old = P.state «package».old in
-        let new = P.state «package».new in
+fn read_colors<P: Package>(xml: &mut XlReader<P>, path: &str) -> Result<ThemeColors, XlsxError>
+    ensures uses { Uses (event_count xml.old.source.parts (theme_part path.now)) Io result
+        xml.old.source xml.new.source }
+    ensures to_end { let old = xml.old.source in
         old.is_told ≡ true → OnOk result ((count : ℕ)
         × TakesTheme old.parts (theme_part path.now) count
-        × CountsUp count old.taken new.taken) }
-    ensures theme { let old = P.state «package».old in
-        old.is_told ≡ true → IfOk result (HasTheme old.parts (theme_part path.now)) }
-    ensures err { IfErr result (SoundFails (P.state «package».old) (P.state «package».new)) }
+        × CountsUp count old.taken xml.new.source.taken) }
+    ensures theme { xml.old.source.is_told ≡ true →
+        IfOk result (HasTheme xml.old.source.parts (theme_part path.now)) }
+    ensures err { IfErr result (SoundFails xml.old.source xml.new.source) }
 {
+    let alloc = xml.alloc();
     let part = theme_part(alloc, path)?;
-    read_theme(alloc, package, part.as_str())
+    read_theme(xml, part.as_str())
 }
 
 /// The cell formats of the workbook at this path.
 fn read_style_sheet<P: Package>(
-    alloc: Global,
-    package: &mut P,
+    xml: &mut XlReader<P>,
     path: &str,
     theme_colors: &[Color],
 ) -> Result<StyleSheet, XlsxError>
-    ensures uses { let old = P.state «package».old in
-        let new = P.state «package».new in
-        Uses (event_count old.parts (styles_part path.now)) Io result old new }
+    ensures uses { Uses (event_count xml.old.source.parts (styles_part path.now)) Io result
+        xml.old.source xml.new.source }
     ensures to_end { ReadsToEnd (codes "styleSheet") (styles_part path.now) result
-        (P.state «package».old) (P.state «package».new) }
-    ensures styles { let old = P.state «package».old in
-        old.is_told ≡ true → IfOk result (λ sheet.
-        HasStyles theme_colors.now old.parts (styles_part path.now) sheet.formats.items
+        xml.old.source xml.new.source }
+    ensures styles { xml.old.source.is_told ≡ true → IfOk result (λ sheet.
+        HasStyles theme_colors.now xml.old.source.parts (styles_part path.now) sheet.formats.items
         (map style_said sheet.styles.items)) }
-    ensures err { let old = P.state «package».old in
-        let new = P.state «package».new in
-        let refused = IsInsideRefused (cell_formats_in theme_colors.now) in
+    ensures err { let refused = IsInsideRefused (cell_formats_in theme_colors.now) in
         IfErr result (OptionalPartFails (codes "styleSheet") end_in_styles refused
-        (styles_part path.now) old new) }
+        (styles_part path.now) xml.old.source xml.new.source) }
     ensures kind { IfErr result IsOpeningError }
 {
+    let alloc = xml.alloc();
     let part = styles_part(alloc, path)?;
-    read_styles(alloc, package, part.as_str(), theme_colors)
+    read_styles(xml, part.as_str(), theme_colors)
 }
 
 /// What the sheets of a workbook share, each with a part of its own.
@@ -127,29 +112,20 @@ pub struct SharedParts {
 
 /// What the sheets of the workbook at this path share: first the strings are read, then the theme,
 /// then the styles, which name their colors by the theme.
-pub fn read_shared<P: Package>(
-    alloc: Global,
-    package: &mut P,
-    path: &str,
-) -> Result<SharedParts, XlsxError>
-    ensures uses { let old = P.state «package».old in
-        let new = P.state «package».new in
-        Uses (shared_events old.parts path.now) Io result old new }
-    ensures to_end { let old = P.state «package».old in
-        let new = P.state «package».new in
+pub fn read_shared<P: Package>(xml: &mut XlReader<P>, path: &str) -> Result<SharedParts, XlsxError>
+    ensures uses { Uses (shared_events xml.old.source.parts path.now) Io result xml.old.source
+        xml.new.source }
+    ensures to_end { let old = xml.old.source in
         old.is_told ≡ true →
-        OnOk result (TakesShared old.parts path.now old.taken new.taken) }
-    ensures shared { let old = P.state «package».old in
-        old.is_told ≡ true → IfOk result (λ shared.
-        HasShared old.parts path.now (shared_said shared)) }
-    ensures err { let old = P.state «package».old in
-        let new = P.state «package».new in
-        IfErr result (SharedFails path.now old new) }
+        OnOk result (TakesShared old.parts path.now old.taken xml.new.source.taken) }
+    ensures shared { xml.old.source.is_told ≡ true → IfOk result (λ shared.
+        HasShared xml.old.source.parts path.now (shared_said shared)) }
+    ensures err { IfErr result (SharedFails path.now xml.old.source xml.new.source) }
     ensures kind { IfErr result IsOpeningError }
 {
-    let strings = read_strings(alloc, package, path)?;
-    let theme = read_colors(alloc, package, path)?;
-    let style_sheet = read_style_sheet(alloc, package, path, theme.colors.as_slice())?;
+    let strings = read_strings(xml, path)?;
+    let theme = read_colors(xml, path)?;
+    let style_sheet = read_style_sheet(xml, path, theme.colors.as_slice())?;
     Ok(SharedParts {
         strings,
         theme_defaulted: theme.defaulted,

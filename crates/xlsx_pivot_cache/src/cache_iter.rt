@@ -2,7 +2,7 @@ ghost use Rattle.std.specs.Prelude.{◌≡◌};
 
 use crate::pivot_cursor::PivotCursor;
 use cell_data::Data;
-use part_events::Package;
+use part_events::{Package, XlReader};
 use std::alloc::Global;
 use xlsx_error::XlsxError;
 
@@ -54,13 +54,12 @@ impl<'a, P: Package> PivotCacheIter<'a, P> {
         ensures same_reference { IfOk result (λ rows.
             rows_reference rows ≡ «package».entry.ghost_name) }
         ensures opens { IfOk result (λ rows. OpensRows definitions.now records.now
-            (P.state «package».old) (rows_by P.state rows)) }
-        ensures err { IfErr result
-            (OpenCacheFails definitions.now records.now (P.state «package».old)) }
-        ensures fault { IfErr result (LentFails Io P.state (P.state «package».old)) }
+            xml.old.source (rows_by P.state rows)) }
+        ensures err { IfErr result (OpenCacheFails definitions.now records.now xml.old.source) }
+        ensures fault { IfErr result (LentFails Io P.state xml.old.source) }
         ensures kind { IfErr result IsCacheFieldsError }
     {
-        let rows = PivotCursor::open(alloc, package, definitions, records)?;
+        let rows = PivotCursor::open(xml, definitions, records)?;
         Ok(PivotCacheIter { package, rows })
     }
 }

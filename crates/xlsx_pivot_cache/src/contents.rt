@@ -1,7 +1,7 @@
 ghost use Rattle.std.specs.Prelude.{◌≡◌, ◌||◌, ◌≤◌, ◌<◌, ◌-◌, ℕ, suc, List, [], ◌∷◌, length};
 ghost use Rattle.std.specs.Prelude.{map, true, false, Ok, Result, codes, IfOk, OnOk, IfErr};
 ghost use Rattle.part_events.specs.Event.{Event, start, end, tag_of, event_of};
-ghost use Rattle.part_events.specs.Reading.{reading, open_elements, IsReading, ReadsPart};
+ghost use Rattle.part_events.specs.Reading.{IsReading, ReadsPart};
 ghost use Rattle.part_events.specs.Walk.{section_ahead};
 ghost use Rattle.cell_data.specs.CellValue.{CellValue, value_of_data};
 ghost use Rattle.xlsx_error.specs.declared.error.XlsxError.TheVariants.{Io};
@@ -18,7 +18,7 @@ ghost use Rattle.xlsx_pivot_cache.specs.declared.contents.ItemsPlace.TheVariants
 
 use crate::item::{item_kind, item_of};
 use cell_data::Data;
-use part_events::{Cursor, Package, PartEvent, StartTag};
+use part_events::{Package, PartEvent, StartTag, XlReader};
 use std::alloc::Global;
 use xlsx_error::XlsxError;
 use xlsx_sections::next_event_in;
@@ -178,35 +178,28 @@ impl FieldContents {
 /// whose start reading stands.
 #[tactic(auto, using(crate::proofs::CacheErrors::fields_step, crate::proofs::CacheErrors::item_error))]
 pub(crate) fn contents_in<P: Package>(
-    alloc: Global,
-    package: &mut P,
-    cursor: &mut Cursor,
+    xml: &mut XlReader<P>,
     base: usize,
 ) -> Result<FieldContents, XlsxError>
-    requires reading { IsReading (reading (P.state «package».old) cursor.old) }
-    requires within { base ≤ length (open_elements cursor.old) }
-    ensures reads { let old = reading (P.state «package».old) cursor.old in
-        let new = reading (P.state «package».new) cursor.new in
-        ReadsPart Io result old new }
-    ensures depth { OnOk result (suc (length (open_elements cursor.new)) ≡ base) }
-    ensures reaches { let old = reading (P.state «package».old) cursor.old in
-        let new = reading (P.state «package».new) cursor.new in
-        old.source.is_told ≡ true → OnOk result (ReachesEnd base old new) }
-    ensures items { let old = reading (P.state «package».old) cursor.old in
-        old.source.is_told ≡ true → IfOk result (λ contents.
-        items_in (section_ahead base old) ≡ Ok (map value_of_data contents.items.items)) }
-    ensures groups { let old = reading (P.state «package».old) cursor.old in
-        old.source.is_told ≡ true →
-        IfOk result (λ contents. groups_items (section_ahead base old) ≡ contents.groups) }
-    ensures err { let old = reading (P.state «package».old) cursor.old in
-        let new = reading (P.state «package».new) cursor.new in
-        IfErr result (SectionFails (always (codes "cacheField")) (IsInsideRefused items_in) base
-        old new) }
+    requires reading { IsReading xml.old }
+    requires within { base ≤ length xml.old.names }
+    ensures reads { ReadsPart Io result xml.old xml.new }
+    ensures depth { OnOk result (suc (length xml.new.names) ≡ base) }
+    ensures reaches { xml.old.source.is_told ≡ true →
+        OnOk result (ReachesEnd base xml.old xml.new) }
+    ensures items { xml.old.source.is_told ≡ true → IfOk result (λ contents.
+        items_in (section_ahead base xml.old) ≡ Ok (map value_of_data contents.items.items)) }
+    ensures groups { xml.old.source.is_told ≡ true →
+        IfOk result (λ contents. groups_items (section_ahead base xml.old) ≡ contents.groups) }
+    ensures err { IfErr result
+        (SectionFails (always (codes "cacheField")) (IsInsideRefused items_in) base
+        xml.old xml.new) }
     ensures kind { IfErr result IsFieldsError }
 {
+    let alloc = xml.alloc();
     let mut contents = FieldContents::new(alloc);
-    'events: while let Some(_at) = next_event_in(package, cursor, base, "cacheField")? {
-        contents.take_event(alloc, package.event(), cursor.depth())?;
+    'events: while let Some(_at) = next_event_in(xml, base, "cacheField")? {
+        contents.take_event(xml.event(), xml.depth())?;
     }
     Ok(contents)
 }

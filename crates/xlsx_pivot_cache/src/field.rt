@@ -1,7 +1,7 @@
 ghost use Rattle.std.specs.Prelude.{◌≡◌, ℕ, suc, List, length, true, Ok, option_map, string_bytes};
 ghost use Rattle.std.specs.Prelude.{codes, IfOk, IfErr, MatchOption};
 ghost use Rattle.part_events.specs.Event.{Event, Tag, start, tag_of};
-ghost use Rattle.part_events.specs.Reading.{reading, events_taken, ahead, IsReadingElement};
+ghost use Rattle.part_events.specs.Reading.{ahead, IsReadingElement};
 ghost use Rattle.part_events.specs.Reading.{ReadsElement};
 ghost use Rattle.part_events.specs.Section.{content};
 ghost use Rattle.xlsx_error.specs.declared.error.XlsxError.TheVariants.{Io};
@@ -16,7 +16,7 @@ ghost use Rattle.xlsx_pivot_cache.specs.CacheFields.{items_in, field_kept};
 use crate::contents::contents_in;
 use attr_text::{RawAttributes, get_attrs};
 use cell_data::Data;
-use part_events::{Cursor, Package, StartTag};
+use part_events::{Package, StartTag, XlReader};
 use std::alloc::Global;
 use xlsx_error::XlsxError;
 use xlsx_sections::{decode_at, skip_element_in, start_tag};
@@ -57,32 +57,26 @@ fn field_name(alloc: Global, tag: StartTag<'_>, at: u64) -> Result<Option<String
 /// is no field: it has no name, or a formula, or it groups items of others.
 #[tactic(auto, using(crate::proofs::CacheErrors::name_error, crate::proofs::CacheErrors::end_error))]
 pub(crate) fn read_field<P: Package>(
-    alloc: Global,
-    package: &mut P,
-    cursor: &mut Cursor,
+    xml: &mut XlReader<P>,
     at: u64,
 ) -> Result<Option<CacheField>, XlsxError>
-    requires element { IsReadingElement (reading (P.state «package».old) cursor.old) }
-    requires place { suc at ≡ events_taken cursor.old }
-    ensures reads { let old = reading (P.state «package».old) cursor.old in
-        let new = reading (P.state «package».new) cursor.new in
-        ReadsElement Io result old new }
-    ensures field { let old = reading (P.state «package».old) cursor.old in
-        old.source.is_told ≡ true → IfOk result (λ field. (tag : Tag) →
-        start tag ≡ old.source.current →
-        field_said tag (content 0 (ahead old)) ≡ Ok (option_map field_kept field)) }
-    ensures err { let old = reading (P.state «package».old) cursor.old in
-        let new = reading (P.state «package».new) cursor.new in
-        IfErr result (λ error. (tag : Tag) → start tag ≡ old.source.current →
-        ElementReadFails (always (codes "cacheField")) (field_said tag) old new error) }
+    requires element { IsReadingElement xml.old }
+    requires place { suc at ≡ xml.old.at }
+    ensures reads { ReadsElement Io result xml.old xml.new }
+    ensures field { xml.old.source.is_told ≡ true → IfOk result (λ field. (tag : Tag) →
+        start tag ≡ xml.old.source.current →
+        field_said tag (content 0 (ahead xml.old)) ≡ Ok (option_map field_kept field)) }
+    ensures err { IfErr result (λ error. (tag : Tag) → start tag ≡ xml.old.source.current →
+        ElementReadFails (always (codes "cacheField")) (field_said tag) xml.old xml.new error) }
     ensures kind { IfErr result IsFieldsError }
 {
-    let Some(name) = field_name(alloc, start_tag(package), at)? else {
-        skip_element_in(package, cursor, Some("cacheField"))?;
+    let alloc = xml.alloc();
+    let Some(name) = field_name(alloc, start_tag(xml), at)? else {
+        skip_element_in(xml, Some("cacheField"))?;
         return Ok(None);
     };
-    let base = cursor.depth();
-    let contents = contents_in(alloc, package, cursor, base)?;
+    let base = xml.depth();
+    let contents = contents_in(xml, base)?;
     if contents.groups {
         return Ok(None);
     }

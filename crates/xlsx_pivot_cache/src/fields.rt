@@ -1,7 +1,7 @@
 ghost use Rattle.std.specs.Prelude.{◌≡◌, ◌++◌, map, length, true, Some, option_map, option_to_list};
 ghost use Rattle.std.specs.Prelude.{IfOk, OnOk, IfErr};
 ghost use Rattle.part_events.specs.Package.{Uses, CountsUp, event_count};
-ghost use Rattle.part_events.specs.Reading.{reading, events_of, IsReading, ReadsPart};
+ghost use Rattle.part_events.specs.Reading.{events_of, IsReading, ReadsPart};
 ghost use Rattle.xlsx_error.specs.declared.error.XlsxError.TheVariants.{Io};
 ghost use Rattle.xlsx_sections.specs.Failing.{FailsBy};
 ghost use Rattle.xlsx_pivot_cache.specs.CacheErrors.{IsFieldsError, IsCacheFieldsError};
@@ -9,7 +9,7 @@ ghost use Rattle.xlsx_pivot_cache.specs.CacheFields.{field_kept, fields_kept, fi
 ghost use Rattle.xlsx_pivot_cache.specs.CacheFields.{FieldsCause, fields_at, FieldsAtCause};
 
 use crate::field::{CacheField, read_field};
-use part_events::{Cursor, Package};
+use part_events::{Package, XlReader};
 use std::alloc::{AllocError, Global};
 use xlsx_error::XlsxError;
 use xlsx_parts::{next_element_of_part, open_part};
@@ -27,30 +27,22 @@ fn push_field(fields: &mut Vec<CacheField>, field: Option<CacheField>) -> Result
 
 /// The fields of a part of which nothing was taken, which is read to its end.
 #[tactic(auto, using(crate::proofs::CacheErrors::break_error))]
-fn fields_in<P: Package>(
-    alloc: Global,
-    package: &mut P,
-    cursor: &mut Cursor,
-) -> Result<Vec<CacheField>, XlsxError>
-    requires reading { IsReading (reading (P.state «package».old) cursor.old) }
-    requires first { (reading (P.state «package».old) cursor.old).at ≡ 0 }
-    ensures reads { let old = reading (P.state «package».old) cursor.old in
-        let new = reading (P.state «package».new) cursor.new in
-        ReadsPart Io result old new }
-    ensures ends { let old = reading (P.state «package».old) cursor.old in
-        let new = reading (P.state «package».new) cursor.new in
-        old.source.is_told ≡ true → OnOk result (new.at ≡ length (events_of old)) }
-    ensures fields { let old = reading (P.state «package».old) cursor.old in
-        old.source.is_told ≡ true → IfOk result (λ fields.
-        fields_said (events_of old) ≡ Some (fields_kept fields.items)) }
-    ensures err { let old = reading (P.state «package».old) cursor.old in
-        let new = reading (P.state «package».new) cursor.new in
-        IfErr result (FailsBy (FieldsCause (events_of old)) old.source new.source) }
+fn fields_in<P: Package>(xml: &mut XlReader<P>) -> Result<Vec<CacheField>, XlsxError>
+    requires reading { IsReading xml.old }
+    requires first { xml.old.at ≡ 0 }
+    ensures reads { ReadsPart Io result xml.old xml.new }
+    ensures ends { xml.old.source.is_told ≡ true →
+        OnOk result (xml.new.at ≡ length (events_of xml.old)) }
+    ensures fields { xml.old.source.is_told ≡ true → IfOk result (λ fields.
+        fields_said (events_of xml.old) ≡ Some (fields_kept fields.items)) }
+    ensures err { IfErr result
+        (FailsBy (FieldsCause (events_of xml.old)) xml.old.source xml.new.source) }
     ensures kind { IfErr result IsFieldsError }
 {
+    let alloc = xml.alloc();
     let mut fields = Vec::new(alloc);
-    'fields: while let Some(at) = next_element_of_part(package, cursor, "cacheField")? {
-        let field = read_field(alloc, package, cursor, at)?;
+    'fields: while let Some(at) = next_element_of_part(xml, "cacheField")? {
+        let field = read_field(xml, at)?;
         push_field(&mut fields, field)?;
     }
     Ok(fields)
@@ -69,26 +61,23 @@ fn fields_in<P: Package>(
 /// the number of its start, also where the element is no field. Attributes that end in a fault
 /// before what is looked up in them are `XmlAttr`.
 pub fn read_fields<P: Package>(
-    alloc: Global,
-    package: &mut P,
+    xml: &mut XlReader<P>,
     path: &str,
 ) -> Result<Vec<CacheField>, XlsxError>
-    ensures uses { let old = P.state «package».old in
-        let new = P.state «package».new in
-        Uses (event_count old.parts path.now) Io result old new }
-    ensures to_end { let old = P.state «package».old in
-        let new = P.state «package».new in
+    ensures uses { Uses (event_count xml.old.source.parts path.now) Io result xml.old.source
+        xml.new.source }
+    ensures to_end { let old = xml.old.source in
         old.is_told ≡ true →
-        OnOk result (CountsUp (event_count old.parts path.now) old.taken new.taken) }
-    ensures fields { let old = P.state «package».old in
-        old.is_told ≡ true → IfOk result (λ fields.
-        fields_at old.parts path.now ≡ Some (fields_kept fields.items)) }
-    ensures err { let old = P.state «package».old in
-        IfErr result (FailsBy (FieldsAtCause old.parts path.now) old (P.state «package».new)) }
+        OnOk result (CountsUp (event_count old.parts path.now) old.taken xml.new.source.taken) }
+    ensures fields { xml.old.source.is_told ≡ true → IfOk result (λ fields.
+        fields_at xml.old.source.parts path.now ≡ Some (fields_kept fields.items)) }
+    ensures err { IfErr result
+        (FailsBy (FieldsAtCause xml.old.source.parts path.now) xml.old.source xml.new.source) }
     ensures kind { IfErr result IsCacheFieldsError }
 {
-    let Some(mut cursor) = open_part(alloc, package, path)? else {
+    let alloc = xml.alloc();
+    if !open_part(xml, path)? {
         return Err(XlsxError::FileNotFound(String::from_str(alloc, path)?));
-    };
-    fields_in(alloc, package, &mut cursor)
+    }
+    fields_in(xml)
 }

@@ -14,8 +14,7 @@ use crate::field::CacheField;
 use crate::fields::read_fields;
 use crate::rows::{names_row, next_record};
 use cell_data::Data;
-use part_events::{Cursor, Package};
-use std::alloc::Global;
+use part_events::{Package, XlReader};
 use xlsx_error::XlsxError;
 use xlsx_parts::{find_element, open_part};
 
@@ -58,24 +57,22 @@ impl PivotCursor {
     /// The fields are refused as by `read_fields`. A part of records that is absent is
     /// `FileNotFound` of its path.
     pub fn open<P: Package>(
-        alloc: Global,
-        package: &mut P,
+        xml: &mut XlReader<P>,
         definitions: &str,
         records: &str,
     ) -> Result<PivotCursor, XlsxError>
-        ensures opens { let old = P.state «package».old in
-            IfOk result (λ rows.
-            OpensRows definitions.now records.now old (pivot_rows (P.state «package».new) rows)) }
-        ensures leaves { let old = P.state «package».old in
-            let new = P.state «package».new in
-            IfErr result (LeavesPackage (event_count old.parts definitions.now) Io old new) }
-        ensures err { let old = P.state «package».old in
-            let cause = OpenRowsCause old.parts definitions.now records.now in
-            IfErr result (FailsBy cause old (P.state «package».new)) }
+        ensures opens { IfOk result (λ rows.
+            OpensRows definitions.now records.now xml.old.source (pivot_rows xml.new.source rows)) }
+        ensures leaves { IfErr result
+            (LeavesPackage (event_count xml.old.source.parts definitions.now) Io xml.old.source
+            xml.new.source) }
+        ensures err { let cause = OpenRowsCause xml.old.source.parts definitions.now records.now in
+            IfErr result (FailsBy cause xml.old.source xml.new.source) }
         ensures kind { IfErr result IsCacheFieldsError }
     {
-        let fields = read_fields(alloc, package, definitions)?;
-        let Some(cursor) = open_part(alloc, package, records)? else {
+        let alloc = xml.alloc();
+        let fields = read_fields(xml, definitions)?;
+        let Some(cursor) = open_part(xml, records)? else {
             return Err(XlsxError::FileNotFound(String::from_str(alloc, records)?));
         };
         Ok(PivotCursor {
@@ -86,24 +83,24 @@ impl PivotCursor {
     }
 
     /// Reads on behind the start of the records, and gives the row of the names.
-    fn take_names<P: Package>(&mut self, package: &mut P) -> Result<Vec<Data>, XlsxError>
-        requires at { IsAtRecords (pivot_rows (P.state «package».old) self.old) }
+    fn take_names<P: Package>(&mut self, xml: &mut XlReader<P>) -> Result<Vec<Data>, XlsxError>
+        requires at { IsAtRecords (pivot_rows xml.old.source self.old) }
         requires place { self.old.place ≡ Before }
-        ensures at { IsAtRecords (pivot_rows (P.state «package».new) self.new) }
+        ensures at { IsAtRecords (pivot_rows xml.new.source self.new) }
         ensures fields { self.new.fields ≡ self.old.fields }
-        ensures reads { let old = pivot_rows (P.state «package».old) self.old in
-            let new = pivot_rows (P.state «package».new) self.new in
+        ensures reads { let old = pivot_rows xml.old.source self.old in
+            let new = pivot_rows xml.new.source self.new in
             ReadsPart Io result old.reading new.reading }
-        ensures gives { GivesRow (Some result) (pivot_rows (P.state «package».old) self.old)
-            (pivot_rows (P.state «package».new) self.new) }
+        ensures gives { GivesRow (Some result) (pivot_rows xml.old.source self.old)
+            (pivot_rows xml.new.source self.new) }
     {
         // Each refusal leaves it so.
         self.place = RecordsPlace::Done;
-        let names = names_row(self.cursor.alloc(), &self.fields)?;
-        let Some(_at) = find_element(package, &mut self.cursor, "pivotCacheRecords")? else {
+        let names = names_row(self.xml.alloc(), &self.fields)?;
+        let Some(_at) = find_element(xml, &mut self.cursor, "pivotCacheRecords")? else {
             return Err(XlsxError::XmlEof("pivotCacheRecords"));
         };
-        self.place = RecordsPlace::Within(self.cursor.depth());
+        self.place = RecordsPlace::Within(self.xml.depth());
         Ok(names)
     }
 
@@ -111,22 +108,22 @@ impl PivotCursor {
     /// at the section's end.
     fn take_record<P: Package>(
         &mut self,
-        package: &mut P,
+        xml: &mut XlReader<P>,
         base: usize,
     ) -> Result<Option<Vec<Data>>, XlsxError>
-        requires at { IsAtRecords (pivot_rows (P.state «package».old) self.old) }
+        requires at { IsAtRecords (pivot_rows xml.old.source self.old) }
         requires place { self.old.place ≡ Within base }
-        ensures at { IsAtRecords (pivot_rows (P.state «package».new) self.new) }
+        ensures at { IsAtRecords (pivot_rows xml.new.source self.new) }
         ensures fields { self.new.fields ≡ self.old.fields }
-        ensures reads { let old = pivot_rows (P.state «package».old) self.old in
-            let new = pivot_rows (P.state «package».new) self.new in
+        ensures reads { let old = pivot_rows xml.old.source self.old in
+            let new = pivot_rows xml.new.source self.new in
             ReadsPart Io result old.reading new.reading }
-        ensures gives { GivesRow (answer_of result) (pivot_rows (P.state «package».old) self.old)
-            (pivot_rows (P.state «package».new) self.new) }
+        ensures gives { GivesRow (answer_of result) (pivot_rows xml.old.source self.old)
+            (pivot_rows xml.new.source self.new) }
     {
         self.place = RecordsPlace::Done;
-        let alloc = self.cursor.alloc();
-        let next = next_record(alloc, package, &mut self.cursor, base, &self.fields)?;
+        let alloc = self.xml.alloc();
+        let next = next_record(xml, &mut self.cursor, base, &self.fields)?;
         let Some(row) = next else {
             return Ok(None);
         };
@@ -145,16 +142,19 @@ impl PivotCursor {
     /// 0. Attributes that end in a fault and have no `v` are `XmlAttr`. A `v` of an `x` that is no
     /// number of 64 bits, one where no field stands, and one past the items of its field is
     /// `Unexpected` of the text that says so.
-    pub fn next<P: Package>(&mut self, package: &mut P) -> Option<Result<Vec<Data>, XlsxError>>
-        requires { IsAtRecords (pivot_rows (P.state «package».old) self.old) }
-        ensures at { IsAtRecords (pivot_rows (P.state «package».new) self.new) }
+    pub fn next<P: Package>(
+        &mut self,
+        xml: &mut XlReader<P>,
+    ) -> Option<Result<Vec<Data>, XlsxError>>
+        requires { IsAtRecords (pivot_rows xml.old.source self.old) }
+        ensures at { IsAtRecords (pivot_rows xml.new.source self.new) }
         ensures fields { self.new.fields ≡ self.old.fields }
-        ensures gives { GivesRow result (pivot_rows (P.state «package».old) self.old)
-            (pivot_rows (P.state «package».new) self.new) }
+        ensures gives { GivesRow result (pivot_rows xml.old.source self.old)
+            (pivot_rows xml.new.source self.new) }
     {
         match self.place {
-            RecordsPlace::Before => Some(self.take_names(package)),
-            RecordsPlace::Within(base) => match self.take_record(package, base) {
+            RecordsPlace::Before => Some(self.take_names(xml)),
+            RecordsPlace::Within(base) => match self.take_record(xml, base) {
                 Ok(Some(row)) => Some(Ok(row)),
                 Ok(None) => None,
                 Err(error) => Some(Err(error)),

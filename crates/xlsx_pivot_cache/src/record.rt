@@ -2,7 +2,7 @@ ghost use Rattle.std.specs.Prelude.{◌≡◌, ◌++◌, ℕ, true, Ok, Some, op
 ghost use Rattle.std.specs.Prelude.{IfOk, OnOk, IfErr, slice_get, length};
 ghost use Rattle.std.specs.Option.{option_copied};
 ghost use Rattle.part_events.specs.Event.{tag_of};
-ghost use Rattle.part_events.specs.Reading.{reading, ahead, IsReadingElement, ReadsElement};
+ghost use Rattle.part_events.specs.Reading.{ahead, IsReadingElement, ReadsElement};
 ghost use Rattle.part_events.specs.Section.{content};
 ghost use Rattle.cell_data.specs.CellValue.{value_of_data};
 ghost use Rattle.xlsx_error.specs.declared.error.XlsxError.TheVariants.{Io};
@@ -19,7 +19,7 @@ use crate::field::CacheField;
 use crate::item::{item_kind, item_of};
 use attr_text::RawAttributes;
 use cell_data::Data;
-use part_events::{Cursor, Package, StartTag};
+use part_events::{Package, StartTag, XlReader};
 use std::alloc::{AllocError, Global};
 use xlsx_error::XlsxError;
 use xlsx_sections::{next_child_in, number_text, skip_element_in, start_tag};
@@ -137,30 +137,24 @@ fn push_value(row: &mut Vec<Data>, value: Option<Data>) -> Result<(), AllocError
 /// and empty without `v`.
 #[tactic(auto, using(crate::proofs::CacheErrors::value_row, crate::proofs::CacheErrors::row_step, crate::proofs::CacheErrors::row_end))]
 pub(crate) fn read_record<P: Package>(
-    alloc: Global,
-    package: &mut P,
-    cursor: &mut Cursor,
+    xml: &mut XlReader<P>,
     fields: &[CacheField],
 ) -> Result<Vec<Data>, XlsxError>
-    requires element { IsReadingElement (reading (P.state «package».old) cursor.old) }
-    ensures reads { let old = reading (P.state «package».old) cursor.old in
-        let new = reading (P.state «package».new) cursor.new in
-        ReadsElement Io result old new }
-    ensures row { let old = reading (P.state «package».old) cursor.old in
-        old.source.is_told ≡ true → IfOk result (λ row.
-        row_in (fields_kept fields.now) (content 0 (ahead old)) ≡ Ok (row_kept row.items)) }
-    ensures err { let old = reading (P.state «package».old) cursor.old in
-        let new = reading (P.state «package».new) cursor.new in
-        IfErr result
-        (ElementReadFails (always records_name) (row_in (fields_kept fields.now)) old new) }
+    requires element { IsReadingElement xml.old }
+    ensures reads { ReadsElement Io result xml.old xml.new }
+    ensures row { xml.old.source.is_told ≡ true → IfOk result (λ row.
+        row_in (fields_kept fields.now) (content 0 (ahead xml.old)) ≡ Ok (row_kept row.items)) }
+    ensures err { IfErr result
+        (ElementReadFails (always records_name) (row_in (fields_kept fields.now)) xml.old xml.new) }
     ensures kind { IfErr result IsRowError }
 {
-    let base = cursor.depth();
+    let alloc = xml.alloc();
+    let base = xml.depth();
     let mut row = Vec::new(alloc);
-    'values: while let Some(_at) = next_child_in(package, cursor, base, "pivotCacheRecords")? {
-        let value = value_said(alloc, field_at(fields, &row), start_tag(package))?;
+    'values: while let Some(_at) = next_child_in(xml, base, "pivotCacheRecords")? {
+        let value = value_said(alloc, field_at(fields, &row), start_tag(xml))?;
         push_value(&mut row, value)?;
-        skip_element_in(package, cursor, Some("pivotCacheRecords"))?;
+        skip_element_in(xml, Some("pivotCacheRecords"))?;
     }
     Ok(row)
 }

@@ -1,6 +1,6 @@
 ghost use Rattle.std.specs.Prelude.{◌≡◌, ◌≤◌, length, true, IfOk, IfErr, IfSome};
 ghost use Rattle.std.specs.Prelude.{MatchOption};
-ghost use Rattle.part_events.specs.Reading.{reading, open_elements, IsReading, ReadsPart};
+ghost use Rattle.part_events.specs.Reading.{IsReading, ReadsPart};
 ghost use Rattle.xlsx_error.specs.declared.error.XlsxError.TheVariants.{Io};
 ghost use Rattle.xlsx_sections.specs.Failing.{FailsBy};
 ghost use Rattle.xlsx_pivot_cache.specs.CacheErrors.{IsRowError};
@@ -12,7 +12,7 @@ ghost use Rattle.xlsx_pivot_cache.specs.PivotRows.{NextRecordCause};
 use crate::field::CacheField;
 use crate::record::read_record;
 use cell_data::Data;
-use part_events::{Cursor, Package};
+use part_events::{Package, XlReader};
 use std::alloc::{AllocError, Global};
 use xlsx_error::XlsxError;
 use xlsx_sections::next_element_in;
@@ -32,37 +32,28 @@ pub(crate) fn names_row(alloc: Global, fields: &[CacheField]) -> Result<Vec<Data
 /// counted from 1, to its end. None at the section's end.
 #[tactic(auto, using(crate::proofs::CacheErrors::row_step))]
 pub(crate) fn next_record<P: Package>(
-    alloc: Global,
-    package: &mut P,
-    cursor: &mut Cursor,
+    xml: &mut XlReader<P>,
     base: usize,
     fields: &[CacheField],
 ) -> Result<Option<Vec<Data>>, XlsxError>
-    requires reading { IsReading (reading (P.state «package».old) cursor.old) }
-    requires within { base ≤ length (open_elements cursor.old) }
-    ensures reads { let old = reading (P.state «package».old) cursor.old in
-        let new = reading (P.state «package».new) cursor.new in
-        ReadsPart Io result old new }
+    requires reading { IsReading xml.old }
+    requires within { base ≤ length xml.old.names }
+    ensures reads { ReadsPart Io result xml.old xml.new }
     ensures within { IfOk result (λ found.
-        MatchOption found (Unit {0}) (λ row. base ≤ length (open_elements cursor.new))) }
-    ensures row { let old = reading (P.state «package».old) cursor.old in
-        let new = reading (P.state «package».new) cursor.new in
-        let said = fields_kept fields.now in
+        MatchOption found (Unit {0}) (λ row. base ≤ length xml.new.names)) }
+    ensures row { let said = fields_kept fields.now in
         IfOk result (λ found. MatchOption found
-        (old.source.is_told ≡ true → EndsRecords base old new)
-        (λ row. TakesRecord said base (row_kept row.items) old new)) }
-    ensures step { let old = reading (P.state «package».old) cursor.old in
-        let new = reading (P.state «package».new) cursor.new in
-        IfOk result (λ found. IfSome found (λ row. IsFewer old new)) }
-    ensures err { let old = reading (P.state «package».old) cursor.old in
-        let new = reading (P.state «package».new) cursor.new in
-        IfErr result (FailsBy (NextRecordCause (fields_kept fields.now) base old) old.source
-        new.source) }
+        (xml.old.source.is_told ≡ true → EndsRecords base xml.old xml.new)
+        (λ row. TakesRecord said base (row_kept row.items) xml.old xml.new)) }
+    ensures step { IfOk result (λ found. IfSome found (λ row. IsFewer xml.old xml.new)) }
+    ensures err { IfErr result
+        (FailsBy (NextRecordCause (fields_kept fields.now) base xml.old) xml.old.source
+        xml.new.source) }
     ensures kind { IfErr result IsRowError }
 {
-    let Some(_at) = next_element_in(package, cursor, base, &["r"], "pivotCacheRecords")? else {
+    let Some(_at) = next_element_in(xml, base, &["r"], "pivotCacheRecords")? else {
         return Ok(None);
     };
-    let row = read_record(alloc, package, cursor, fields)?;
+    let row = read_record(xml, fields)?;
     Ok(Some(row))
 }

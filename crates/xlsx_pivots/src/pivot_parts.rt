@@ -3,7 +3,7 @@ ghost use Rattle.std.specs.Prelude.{◌≡◌, ⊤, ℕ, List, Option, Ok, Some,
 ghost use Rattle.std.specs.Prelude.{option_map, string_bytes, IfOk, OnOk, IfErr};
 ghost use Rattle.part_events.specs.Event.{tag_of};
 ghost use Rattle.part_events.specs.Package.{Uses, event_count};
-ghost use Rattle.part_events.specs.Reading.{reading, IsReading, ReadsPart, events_of};
+ghost use Rattle.part_events.specs.Reading.{IsReading, ReadsPart, events_of};
 ghost use Rattle.xlsx_error.specs.declared.error.XlsxError.TheVariants.{Io};
 ghost use Rattle.xlsx_sections.specs.Failing.{FailsBy};
 ghost use Rattle.xlsx_sections.specs.Refusal.{ElementFails, placed_at};
@@ -13,7 +13,7 @@ ghost use Rattle.xlsx_pivots.specs.PivotParts.{name_kept, name_in_part, NameCaus
 ghost use Rattle.xlsx_pivots.specs.Pivots.{pivot_name_at, NameAtCause};
 
 use crate::single::Single;
-use part_events::{Cursor, Package, StartTag};
+use part_events::{Package, StartTag, XlReader};
 use std::alloc::Global;
 use xlsx_error::XlsxError;
 use xlsx_parts::{find_element, open_part};
@@ -68,37 +68,27 @@ impl Keeps for NameKeeper {
 
 /// The name of the first pivot table of a part of which nothing was taken.
 #[tactic(auto, using(crate::proofs::PivotsRead::break_error))]
-fn name_in_part<P: Package>(
-    alloc: Global,
-    package: &mut P,
-    cursor: &mut Cursor,
-) -> Result<String, XlsxError>
-    requires reading { IsReading (reading (P.state «package».old) cursor.old) }
-    requires first { (reading (P.state «package».old) cursor.old).at ≡ 0 }
-    ensures reads { let old = reading (P.state «package».old) cursor.old in
-        let new = reading (P.state «package».new) cursor.new in
-        ReadsPart Io result old new }
-    ensures ends { let old = reading (P.state «package».old) cursor.old in
-        let new = reading (P.state «package».new) cursor.new in
-        let count = section_events (codes "pivotTableDefinition") (events_of old) in
-        old.source.is_told ≡ true → OnOk result (new.at ≡ count) }
-    ensures name { let old = reading (P.state «package».old) cursor.old in
-        old.source.is_told ≡ true →
-        IfOk result (λ name. name_in_part (events_of old) ≡ Some (Some (string_bytes name))) }
-    ensures err { let old = reading (P.state «package».old) cursor.old in
-        let new = reading (P.state «package».new) cursor.new in
-        IfErr result (FailsBy (NameCause (events_of old)) old.source new.source) }
+fn name_in_part<P: Package>(xml: &mut XlReader<P>) -> Result<String, XlsxError>
+    requires reading { IsReading xml.old }
+    requires first { xml.old.at ≡ 0 }
+    ensures reads { ReadsPart Io result xml.old xml.new }
+    ensures ends { let count = section_events (codes "pivotTableDefinition") (events_of xml.old) in
+        xml.old.source.is_told ≡ true → OnOk result (xml.new.at ≡ count) }
+    ensures name { xml.old.source.is_told ≡ true →
+        IfOk result (λ name. name_in_part (events_of xml.old) ≡ Some (Some (string_bytes name))) }
+    ensures err { IfErr result
+        (FailsBy (NameCause (events_of xml.old)) xml.old.source xml.new.source) }
     ensures kind { IfErr result IsPivotsError }
 {
-    let Some(at) = find_element(package, cursor, "pivotTableDefinition")? else {
+    let alloc = xml.alloc();
+    let Some(at) = find_element(xml, "pivotTableDefinition")? else {
         return Err(XlsxError::XmlEof("pivotTableDefinition"));
     };
     let mut keeper = NameKeeper { alloc, kept: None };
-    keep_name(alloc, &mut keeper.kept, start_tag(package), at)?;
-    let base = cursor.depth();
+    keep_name(alloc, &mut keeper.kept, start_tag(xml), at)?;
+    let base = xml.depth();
     keep_starts(
-        package,
-        cursor,
+        xml,
         base,
         &["pivotTableDefinition"],
         "pivotTableDefinition",
@@ -118,21 +108,20 @@ fn name_in_part<P: Package>(
 /// in it, is `XmlEof("pivotTableDefinition")`. Without a name, or with another one, it is
 /// `Unexpected` of the text that says so. A name with a reference without a character is
 /// `Xml(Entity)` with the number of its start, counted from 0.
-pub fn name_at<P: Package>(alloc: Global, package: &mut P, path: &str) -> Result<String, XlsxError>
-    ensures uses { let old = P.state «package».old in
-        let new = P.state «package».new in
-        Uses (event_count old.parts path.now) Io result old new }
+pub fn name_at<P: Package>(xml: &mut XlReader<P>, path: &str) -> Result<String, XlsxError>
+    ensures uses { Uses (event_count xml.old.source.parts path.now) Io result xml.old.source
+        xml.new.source }
     ensures to_end { ReadsToEnd (codes "pivotTableDefinition") path.now result
-        (P.state «package».old) (P.state «package».new) }
-    ensures name { let old = P.state «package».old in
-        old.is_told ≡ true →
-        IfOk result (λ name. pivot_name_at old.parts path.now ≡ Some (string_bytes name)) }
-    ensures err { let old = P.state «package».old in
-        IfErr result (FailsBy (NameAtCause old.parts path.now) old (P.state «package».new)) }
+        xml.old.source xml.new.source }
+    ensures name { xml.old.source.is_told ≡ true →
+        IfOk result (λ name. pivot_name_at xml.old.source.parts path.now ≡ Some (string_bytes name)) }
+    ensures err { IfErr result
+        (FailsBy (NameAtCause xml.old.source.parts path.now) xml.old.source xml.new.source) }
     ensures kind { IfErr result IsPivotsError }
 {
-    let Some(mut cursor) = open_part(alloc, package, path)? else {
+    let alloc = xml.alloc();
+    if !open_part(xml, path)? {
         return Err(XlsxError::FileNotFound(String::from_str(alloc, path)?));
-    };
-    name_in_part(alloc, package, &mut cursor)
+    }
+    name_in_part(xml)
 }

@@ -15,7 +15,7 @@ ghost use Rattle.xlsx_pivots.specs.Pivots.{pivots_ask};
 use crate::pivot_parts::name_at;
 use crate::pivot_tables::{PivotTable, PivotTables};
 use crate::targets::{definitions_at, records_at};
-use part_events::Package;
+use part_events::{Package, XlReader};
 use std::alloc::Global;
 use xlsx_error::XlsxError;
 use xlsx_relationships::{ReadsRelated, push_related};
@@ -25,29 +25,26 @@ const PIVOT_TYPE: &str =
 
 /// The pivot table of the part at this path, on the sheet of this name.
 fn pivot_at<P: Package>(
-    alloc: Global,
-    package: &mut P,
+    xml: &mut XlReader<P>,
     sheet: &str,
     path: &str,
     folder: &str,
 ) -> Result<PivotTable, XlsxError>
-    ensures uses { let old = P.state «package».old in
-        let new = P.state «package».new in
-        Uses (pivot_events old.parts path.now) Io result old new }
-    ensures to_end { let old = P.state «package».old in
-        let new = P.state «package».new in
+    ensures uses { Uses (pivot_events xml.old.source.parts path.now) Io result xml.old.source
+        xml.new.source }
+    ensures to_end { let old = xml.old.source in
         let count = pivot_sections old.parts path.now in
-        old.is_told ≡ true → OnOk result (CountsUp count old.taken new.taken) }
-    ensures pivot { let old = P.state «package».old in
-        old.is_told ≡ true → IfOk result (λ pivot.
-        pivot_at old.parts folder.now sheet.now path.now ≡ Some (pivot_kept pivot)) }
-    ensures err { let old = P.state «package».old in
-        IfErr result (FailsBy (PivotCause old.parts path.now) old (P.state «package».new)) }
+        old.is_told ≡ true → OnOk result (CountsUp count old.taken xml.new.source.taken) }
+    ensures pivot { xml.old.source.is_told ≡ true → IfOk result (λ pivot.
+        pivot_at xml.old.source.parts folder.now sheet.now path.now ≡ Some (pivot_kept pivot)) }
+    ensures err { IfErr result
+        (FailsBy (PivotCause xml.old.source.parts path.now) xml.old.source xml.new.source) }
     ensures kind { IfErr result IsPivotsError }
 {
-    let name = name_at(alloc, package, path)?;
-    let definitions = definitions_at(alloc, package, path)?;
-    let records = records_at(alloc, package, definitions.as_str(), folder)?;
+    let alloc = xml.alloc();
+    let name = name_at(xml, path)?;
+    let definitions = definitions_at(xml, path)?;
+    let records = records_at(xml, definitions.as_str(), folder)?;
     Ok(PivotTable {
         name,
         sheet: String::from_str(alloc, sheet)?,
@@ -81,11 +78,11 @@ impl ReadsRelated for PivotReader<'_> {
 
     fn push<P: Package>(
         &self,
-        package: &mut P,
+        xml: &mut XlReader<P>,
         pivots: &mut Vec<PivotTable>,
         path: &str,
     ) -> Result<(), XlsxError> {
-        let pivot = pivot_at(self.alloc, package, self.sheet, path, self.folder)?;
+        let pivot = pivot_at(xml, self.sheet, path, self.folder)?;
         pivots.push(pivot)?;
         Ok(())
     }
@@ -95,8 +92,7 @@ impl ReadsRelated for PivotReader<'_> {
 /// folder, as `find_pivot_tables` finds those of many sheets. After a refusal some of them may be
 /// appended, behind those that were there.
 pub fn read_sheet_pivots<P: Package>(
-    alloc: Global,
-    package: &mut P,
+    xml: &mut XlReader<P>,
     found: &mut PivotTables,
     sheet: &str,
     path: &str,
@@ -104,16 +100,17 @@ pub fn read_sheet_pivots<P: Package>(
 ) -> Result<(), XlsxError>
     ensures answers { let ask = pivots_on_ask folder.now (sheet_at sheet.now path.now) in
         Appends ask (pivots_kept found.old) (pivots_kept found.new) result
-        (P.state «package».old) (P.state «package».new) }
+        xml.old.source xml.new.source }
     ensures kept { (more : List PivotSaid)
         × (pivots_kept found.new ≡ pivots_kept found.old ++ more) }
 {
+    let alloc = xml.alloc();
     let by = PivotReader {
         alloc,
         sheet,
         folder,
     };
-    push_related(alloc, package, &mut found.pivots, path, PIVOT_TYPE, &by)
+    push_related(xml, &mut found.pivots, path, PIVOT_TYPE, &by)
 }
 
 /// Finds the pivot tables of these sheets, which are given by their names and the paths of their
@@ -135,26 +132,19 @@ pub fn read_sheet_pivots<P: Package>(
 /// part, counted from 0. Attributes that end in a fault and lack one of the wanted keys are
 /// `XmlAttr`.
 pub fn find_pivot_tables<P: Package>(
-    alloc: Global,
-    package: &mut P,
+    xml: &mut XlReader<P>,
     sheets: &[(String, String)],
     xl_path: &str,
 ) -> Result<PivotTables, XlsxError>
     ensures answers { let ask = pivots_ask xl_path.now (map sheet_given sheets.now) in
-        Answers ask pivots_kept result (P.state «package».old) (P.state «package».new) }
+        Answers ask pivots_kept result xml.old.source xml.new.source }
 {
+    let alloc = xml.alloc();
     let mut found = PivotTables::new(alloc);
     let mut left = sheets;
     'sheets: while let Some((sheet, others)) = left.split_first() {
         let (name, path) = sheet;
-        read_sheet_pivots(
-            alloc,
-            package,
-            &mut found,
-            name.as_str(),
-            path.as_str(),
-            xl_path,
-        )?;
+        read_sheet_pivots(xml, &mut found, name.as_str(), path.as_str(), xl_path)?;
         left = others;
     }
     Ok(found)

@@ -16,7 +16,7 @@ ghost use Rattle.xlsx_pivots.specs.Targets.{records_at};
 ghost use Rattle.xlsx_pivots.specs.declared.single.Single.TheVariants as single;
 
 use crate::single::Single;
-use part_events::{Package, StartTag};
+use part_events::{Package, StartTag, XlReader};
 use std::alloc::{AllocError, Global};
 use xlsx_error::XlsxError;
 use xlsx_relationships::{behind_slash, joined, relationships_beside, target_path, typed_target};
@@ -107,31 +107,30 @@ impl Keeps for TargetKeeper<'_> {
 /// The only target of the relationships of this type which the part at this path has.
 #[tactic(auto, using(crate::proofs::PivotsRead::relationships_step))]
 fn target_beside<P: Package>(
-    alloc: Global,
-    package: &mut P,
+    xml: &mut XlReader<P>,
     path: &str,
     wanted: &str,
     single: Single,
 ) -> Result<String, XlsxError>
-    ensures uses { let old = P.state «package».old in
-        let new = P.state «package».new in
-        Uses (event_count old.parts (relationships_beside path.now)) Io result old new }
+    ensures uses { Uses (event_count xml.old.source.parts (relationships_beside path.now)) Io result
+        xml.old.source xml.new.source }
     ensures to_end { ReadsToEnd (codes "Relationships") (relationships_beside path.now) result
-        (P.state «package».old) (P.state «package».new) }
-    ensures target { let old = P.state «package».old in
-        old.is_told ≡ true → IfOk result (λ target.
-        target_beside old.parts wanted.now single path.now ≡ Some (Some (string_bytes target))) }
+        xml.old.source xml.new.source }
+    ensures target { xml.old.source.is_told ≡ true → IfOk result (λ target.
+        target_beside xml.old.source.parts wanted.now single path.now ≡ Some
+        (Some (string_bytes target))) }
     ensures written { IfOk result (λ target. HasText (Some (string_bytes target))) }
-    ensures err { let old = P.state «package».old in
-        IfErr result (FailsBy (TargetCause old.parts wanted.now single path.now) old
-        (P.state «package».new)) }
+    ensures err { IfErr result
+        (FailsBy (TargetCause xml.old.source.parts wanted.now single path.now) xml.old.source
+        xml.new.source) }
     ensures kind { IfErr result IsPivotsError }
 {
+    let alloc = xml.alloc();
     let part = relationships_beside(alloc, path)?;
-    let Some(mut cursor) = enter_part(alloc, package, part.as_str(), "Relationships")? else {
+    if !enter_part(xml, part.as_str(), "Relationships")? {
         return Err(XlsxError::FileNotFound(part));
-    };
-    let base = cursor.depth();
+    }
+    let base = xml.depth();
     let names = ["Relationship"];
     let mut by = TargetKeeper {
         alloc,
@@ -139,7 +138,7 @@ fn target_beside<P: Package>(
         single,
         kept: None,
     };
-    keep_starts(package, &mut cursor, base, &names, "Relationships", &mut by)?;
+    keep_starts(xml, base, &names, "Relationships", &mut by)?;
     let kept = by.kept;
     match kept {
         Some(target) => Ok(target),
@@ -153,26 +152,21 @@ fn target_beside<P: Package>(
 /// Relationships that are absent are `FileNotFound` of their path, and a part that has no section
 /// `Relationships`, or ends in it, is `XmlEof("Relationships")`. Where no such target is found that
 /// isn't empty, or one more behind the first, it is `Unexpected` of the text that says so.
-pub fn definitions_at<P: Package>(
-    alloc: Global,
-    package: &mut P,
-    path: &str,
-) -> Result<String, XlsxError>
-    ensures uses { let old = P.state «package».old in
-        let new = P.state «package».new in
-        Uses (event_count old.parts (relationships_beside path.now)) Io result old new }
+pub fn definitions_at<P: Package>(xml: &mut XlReader<P>, path: &str) -> Result<String, XlsxError>
+    ensures uses { Uses (event_count xml.old.source.parts (relationships_beside path.now)) Io result
+        xml.old.source xml.new.source }
     ensures to_end { ReadsToEnd (codes "Relationships") (relationships_beside path.now) result
-        (P.state «package».old) (P.state «package».new) }
-    ensures path { let old = P.state «package».old in
-        old.is_told ≡ true → IfOk result (λ there.
-        definitions_at old.parts path.now ≡ Some (string_bytes there)) }
-    ensures err { let old = P.state «package».old in
-        IfErr result (FailsBy
-        (TargetCause old.parts definitions_type single.Definitions path.now) old
-        (P.state «package».new)) }
+        xml.old.source xml.new.source }
+    ensures path { xml.old.source.is_told ≡ true → IfOk result (λ there.
+        definitions_at xml.old.source.parts path.now ≡ Some (string_bytes there)) }
+    ensures err { IfErr result (FailsBy
+        (TargetCause xml.old.source.parts definitions_type single.Definitions path.now)
+        xml.old.source
+        xml.new.source) }
     ensures kind { IfErr result IsPivotsError }
 {
-    let target = target_beside(alloc, package, path, DEFINITIONS_TYPE, Single::Definitions)?;
+    let alloc = xml.alloc();
+    let target = target_beside(xml, path, DEFINITIONS_TYPE, Single::Definitions)?;
     match target_path(alloc, path, target.as_str())? {
         Some(there) => Ok(there),
         None => unreachable!(),
@@ -201,24 +195,23 @@ fn records_path(alloc: Global, folder: &str, target: &str) -> Result<String, All
 ///
 /// Fails as `definitions_at`.
 pub fn records_at<P: Package>(
-    alloc: Global,
-    package: &mut P,
+    xml: &mut XlReader<P>,
     path: &str,
     folder: &str,
 ) -> Result<String, XlsxError>
-    ensures uses { let old = P.state «package».old in
-        let new = P.state «package».new in
-        Uses (event_count old.parts (relationships_beside path.now)) Io result old new }
+    ensures uses { Uses (event_count xml.old.source.parts (relationships_beside path.now)) Io result
+        xml.old.source xml.new.source }
     ensures to_end { ReadsToEnd (codes "Relationships") (relationships_beside path.now) result
-        (P.state «package».old) (P.state «package».new) }
-    ensures path { let old = P.state «package».old in
-        old.is_told ≡ true → IfOk result (λ there.
-        records_at old.parts folder.now path.now ≡ Some (string_bytes there)) }
-    ensures err { let old = P.state «package».old in
-        IfErr result (FailsBy (TargetCause old.parts records_type single.Records path.now) old
-        (P.state «package».new)) }
+        xml.old.source xml.new.source }
+    ensures path { xml.old.source.is_told ≡ true → IfOk result (λ there.
+        records_at xml.old.source.parts folder.now path.now ≡ Some (string_bytes there)) }
+    ensures err { IfErr result
+        (FailsBy (TargetCause xml.old.source.parts records_type single.Records path.now)
+        xml.old.source
+        xml.new.source) }
     ensures kind { IfErr result IsPivotsError }
 {
-    let target = target_beside(alloc, package, path, RECORDS_TYPE, Single::Records)?;
+    let alloc = xml.alloc();
+    let target = target_beside(xml, path, RECORDS_TYPE, Single::Records)?;
     Ok(records_path(alloc, folder, target.as_str())?)
 }

@@ -3,7 +3,7 @@ ghost use Rattle.std.specs.Prelude.{OnOk, IfErr};
 ghost use Rattle.part_events.specs.Event.{Event, event_of};
 ghost use Rattle.part_events.specs.Nesting.{whole};
 ghost use Rattle.part_events.specs.Package.{Uses, CountsUp, part_of, event_count};
-ghost use Rattle.part_events.specs.Reading.{reading, events_of, IsReading, ReadsPart};
+ghost use Rattle.part_events.specs.Reading.{events_of, IsReading, ReadsPart};
 ghost use Rattle.xlsx_error.specs.declared.error.XlsxError.TheVariants.{Io};
 ghost use Rattle.xlsx_sections.specs.Answers.{or_earlier};
 ghost use Rattle.xlsx_sections.specs.Failing.{FailsBy};
@@ -13,8 +13,7 @@ ghost use Rattle.xlsx_properties.specs.Errors.{IsPropertyError};
 ghost use Rattle.xlsx_properties.specs.Parts.{said_by, SaidCause, IsWholeIfThere};
 ghost use Rattle.xlsx_properties.specs.Said.{Saying, AreRefused};
 
-use part_events::{Cursor, Package, PartEvent};
-use std::alloc::Global;
+use part_events::{Package, PartEvent, XlReader};
 use xlsx_error::XlsxError;
 use xlsx_parts::{next_event_of_part, open_part};
 
@@ -51,66 +50,56 @@ pub(crate) trait KeepsTexts {
 /// that breaks the nesting is `Xml(EndMismatch)` with its number in the part, counted from 0.
 #[tactic(auto, using(crate::proofs::Errors::step_error))]
 fn keep_texts<P: Package, K: KeepsTexts>(
-    package: &mut P,
-    cursor: &mut Cursor,
+    xml: &mut XlReader<P>,
     keeper: &mut K,
 ) -> Result<(), XlsxError>
-    requires reading { IsReading (reading (P.state «package».old) cursor.old) }
-    requires first { (reading (P.state «package».old) cursor.old).at ≡ 0 }
-    ensures reads { let old = reading (P.state «package».old) cursor.old in
-        let new = reading (P.state «package».new) cursor.new in
-        ReadsPart Io result old new }
-    ensures ends { let old = reading (P.state «package».old) cursor.old in
-        let new = reading (P.state «package».new) cursor.new in
-        old.source.is_told ≡ true → OnOk result (new.at ≡ length (events_of old)) }
-    ensures whole { let old = reading (P.state «package».old) cursor.old in
-        old.source.is_told ≡ true → OnOk result (whole (events_of old) ≡ events_of old) }
-    ensures said { let old = reading (P.state «package».old) cursor.old in
-        old.source.is_told ≡ true → OnOk result ((key : K.Key) →
-        or_earlier (K.held keeper.old key) (K.following keeper.old key (events_of old))
+    requires reading { IsReading xml.old }
+    requires first { xml.old.at ≡ 0 }
+    ensures reads { ReadsPart Io result xml.old xml.new }
+    ensures ends { xml.old.source.is_told ≡ true →
+        OnOk result (xml.new.at ≡ length (events_of xml.old)) }
+    ensures whole { xml.old.source.is_told ≡ true →
+        OnOk result (whole (events_of xml.old) ≡ events_of xml.old) }
+    ensures said { xml.old.source.is_told ≡ true → OnOk result ((key : K.Key) →
+        or_earlier (K.held keeper.old key) (K.following keeper.old key (events_of xml.old))
         ≡ Ok (K.held keeper.new key)) }
     ensures beside { (other : K.Other) →
         K.beside keeper.new other ≡ K.beside keeper.old other }
-    ensures err { let old = reading (P.state «package».old) cursor.old in
-        let new = reading (P.state «package».new) cursor.new in
-        IfErr result (WholePartFails (AreRefused (K.following keeper.old)) old new.source) }
+    ensures err { IfErr result
+        (WholePartFails (AreRefused (K.following keeper.old)) xml.old xml.new.source) }
     ensures kind { IfErr result IsPropertyError }
 {
-    'events: while let Some(at) = next_event_of_part(package, cursor)? {
-        keeper.take(package.event(), at)?;
+    'events: while let Some(at) = next_event_of_part(xml)? {
+        keeper.take(xml.event(), at)?;
     }
     Ok(())
 }
 
 /// Keeps the texts of the part at this path, where there is one, which is read to its end.
 pub(crate) fn keep_part<P: Package, K: KeepsTexts>(
-    alloc: Global,
-    package: &mut P,
+    xml: &mut XlReader<P>,
     path: &str,
     keeper: &mut K,
 ) -> Result<(), XlsxError>
-    ensures uses { let old = P.state «package».old in
-        let new = P.state «package».new in
-        Uses (event_count old.parts path.now) Io result old new }
-    ensures to_end { let old = P.state «package».old in
-        let new = P.state «package».new in
+    ensures uses { Uses (event_count xml.old.source.parts path.now) Io result xml.old.source
+        xml.new.source }
+    ensures to_end { let old = xml.old.source in
         old.is_told ≡ true →
-        OnOk result (CountsUp (event_count old.parts path.now) old.taken new.taken) }
-    ensures whole { let old = P.state «package».old in
-        old.is_told ≡ true → OnOk result (IsWholeIfThere (part_of old.parts path.now)) }
-    ensures said { let old = P.state «package».old in
-        old.is_told ≡ true → OnOk result ((key : K.Key) → or_earlier (K.held keeper.old key)
-        (said_by (K.following keeper.old) key (part_of old.parts path.now))
+        OnOk result (CountsUp (event_count old.parts path.now) old.taken xml.new.source.taken) }
+    ensures whole { xml.old.source.is_told ≡ true →
+        OnOk result (IsWholeIfThere (part_of xml.old.source.parts path.now)) }
+    ensures said { xml.old.source.is_told ≡ true →
+        OnOk result ((key : K.Key) → or_earlier (K.held keeper.old key)
+        (said_by (K.following keeper.old) key (part_of xml.old.source.parts path.now))
         ≡ Ok (K.held keeper.new key)) }
     ensures beside { (other : K.Other) →
         K.beside keeper.new other ≡ K.beside keeper.old other }
-    ensures err { let old = P.state «package».old in
-        let cause = SaidCause (K.following keeper.old) path.now old.parts in
-        IfErr result (FailsBy cause old (P.state «package».new)) }
+    ensures err { let cause = SaidCause (K.following keeper.old) path.now xml.old.source.parts in
+        IfErr result (FailsBy cause xml.old.source xml.new.source) }
     ensures kind { IfErr result IsPropertyError }
 {
-    if let Some(mut cursor) = open_part(alloc, package, path)? {
-        keep_texts(package, &mut cursor, keeper)?;
+    if let Some(mut cursor) = open_part(xml, path)? {
+        keep_texts(xml, keeper)?;
     }
     Ok(())
 }

@@ -12,8 +12,7 @@ use crate::keeping_texts::keep_part;
 use crate::open_custom::CustomKeeper;
 use crate::open_property::{PropertyKeeper, PropertyPart};
 use crate::workbook_properties::WorkbookProperties;
-use part_events::Package;
-use std::alloc::Global;
+use part_events::{Package, XlReader};
 use xlsx_error::XlsxError;
 
 /// The properties of a workbook: of `docProps/core.xml` those of all names, then of
@@ -23,36 +22,29 @@ use xlsx_error::XlsxError;
 /// A part whose nesting breaks is `Xml(EndMismatch)` with the number of the end that breaks it, a
 /// reference without a character in a text or in a user's name `Xml(Entity)` with the number of its
 /// event, counted from 0, and a lookup of such a name that is refused `XmlAttr`.
-pub fn read_properties<P: Package>(
-    alloc: Global,
-    package: &mut P,
-) -> Result<WorkbookProperties, XlsxError>
-    ensures uses { let old = P.state «package».old in
-        let new = P.state «package».new in
-        Uses (property_events old.parts) Io result old new }
-    ensures to_end { let old = P.state «package».old in
-        let new = P.state «package».new in
+pub fn read_properties<P: Package>(xml: &mut XlReader<P>) -> Result<WorkbookProperties, XlsxError>
+    ensures uses { Uses (property_events xml.old.source.parts) Io result xml.old.source
+        xml.new.source }
+    ensures to_end { let old = xml.old.source in
         old.is_told ≡ true →
-        OnOk result (CountsUp (property_events old.parts) old.taken new.taken) }
-    ensures whole { let old = P.state «package».old in
-        old.is_told ≡ true → OnOk result (AreWhole old.parts) }
-    ensures properties { let old = P.state «package».old in
-        old.is_told ≡ true → IfOk result (λ properties. (wanted : Property) →
-        property_said old.parts wanted ≡ Ok (held wanted properties)) }
-    ensures custom { let old = P.state «package».old in
-        old.is_told ≡ true → IfOk result (λ properties. (name : List ℕ) →
-        custom_said old.parts name ≡ Ok (custom_held name properties)) }
-    ensures err { let old = P.state «package».old in
-        let new = P.state «package».new in
-        IfErr result (FailsBy (PropertiesCause old.parts) old new) }
+        OnOk result (CountsUp (property_events old.parts) old.taken xml.new.source.taken) }
+    ensures whole { xml.old.source.is_told ≡ true → OnOk result (AreWhole xml.old.source.parts) }
+    ensures properties { xml.old.source.is_told ≡ true →
+        IfOk result (λ properties. (wanted : Property) →
+        property_said xml.old.source.parts wanted ≡ Ok (held wanted properties)) }
+    ensures custom { xml.old.source.is_told ≡ true → IfOk result (λ properties. (name : List ℕ) →
+        custom_said xml.old.source.parts name ≡ Ok (custom_held name properties)) }
+    ensures err { IfErr result
+        (FailsBy (PropertiesCause xml.old.source.parts) xml.old.source xml.new.source) }
     ensures kind { IfErr result IsPropertyError }
 {
+    let alloc = xml.alloc();
     let none = WorkbookProperties::new(alloc);
     let mut core = PropertyKeeper::new(alloc, PropertyPart::Core, none);
-    keep_part(alloc, package, "docProps/core.xml", &mut core)?;
+    keep_part(xml, "docProps/core.xml", &mut core)?;
     let mut program = PropertyKeeper::new(alloc, PropertyPart::Program, core.properties);
-    keep_part(alloc, package, "docProps/app.xml", &mut program)?;
+    keep_part(xml, "docProps/app.xml", &mut program)?;
     let mut custom = CustomKeeper::new(alloc, program.properties);
-    keep_part(alloc, package, "docProps/custom.xml", &mut custom)?;
+    keep_part(xml, "docProps/custom.xml", &mut custom)?;
     Ok(custom.properties)
 }

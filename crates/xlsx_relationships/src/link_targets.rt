@@ -20,7 +20,7 @@ ghost use Rattle.xlsx_relationships.specs.RelationshipErrors.{IsRelatedError};
 use crate::paths::relationships_beside;
 use crate::relationships::text_or;
 use attr_text::{RawAttributes, get_attrs, unescaped};
-use part_events::{Package, StartTag};
+use part_events::{Package, StartTag, XlReader};
 use std::alloc::Global;
 use std::collections::BTreeMap;
 use xlsx_error::XlsxError;
@@ -143,40 +143,29 @@ impl Keeps for KeepsTargets {
 /// the number of its start, counted from 0, and attributes that end in a fault are `XmlAttr`, where
 /// `Id`, `Type` or `Target` isn't before it.
 pub fn read_sheet_hyperlink_rels<P: Package>(
-    alloc: Global,
-    package: &mut P,
+    xml: &mut XlReader<P>,
     sheet_path: &str,
 ) -> Result<BTreeMap<String, String>, XlsxError>
-    ensures uses { let old = P.state «package».old in
-        let new = P.state «package».new in
-        let part = relationships_beside sheet_path.now in
-        Uses (event_count old.parts part) Io result old new }
+    ensures uses { let part = relationships_beside sheet_path.now in
+        Uses (event_count xml.old.source.parts part) Io result xml.old.source xml.new.source }
     ensures to_end { let part = relationships_beside sheet_path.now in
-        ReadsToEnd (codes "Relationships") part result (P.state «package».old)
-        (P.state «package».new) }
-    ensures targets { let old = P.state «package».old in
-        old.is_told ≡ true → IfOk result (λ kept.
-        IsSomeAnd (link_targets old.parts sheet_path.now) (λ targets.
+        ReadsToEnd (codes "Relationships") part result xml.old.source xml.new.source }
+    ensures targets { xml.old.source.is_told ≡ true → IfOk result (λ kept.
+        IsSomeAnd (link_targets xml.old.source.parts sheet_path.now) (λ targets.
         HoldsTargets targets kept)) }
-    ensures err { let old = P.state «package».old in
-        IfErr result (FailsBy (LinkTargetsCause old.parts sheet_path.now) old
-        (P.state «package».new)) }
+    ensures err { IfErr result
+        (FailsBy (LinkTargetsCause xml.old.source.parts sheet_path.now) xml.old.source
+        xml.new.source) }
     ensures kind { IfErr result IsRelatedError }
 {
+    let alloc = xml.alloc();
     let part = relationships_beside(alloc, sheet_path)?;
-    let Some(mut cursor) = enter_part(alloc, package, part.as_str(), "Relationships")? else {
+    if !enter_part(xml, part.as_str(), "Relationships")? {
         return Ok(BTreeMap::new(alloc));
-    };
-    let base = cursor.depth();
+    }
+    let base = xml.depth();
     let targets = BTreeMap::new(alloc);
     let mut keeper = KeepsTargets { alloc, targets };
-    keep_starts(
-        package,
-        &mut cursor,
-        base,
-        &["Relationship"],
-        "Relationships",
-        &mut keeper,
-    )?;
+    keep_starts(xml, base, &["Relationship"], "Relationships", &mut keeper)?;
     Ok(keeper.targets)
 }

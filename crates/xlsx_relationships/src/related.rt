@@ -12,7 +12,7 @@ use crate::paths::relationships_beside;
 use crate::relationships::text_or;
 use crate::targets::target_path;
 use attr_text::{RawAttributes, get_attrs};
-use part_events::{Package, StartTag};
+use part_events::{Package, StartTag, XlReader};
 use std::alloc::Global;
 use xlsx_error::XlsxError;
 use xlsx_sections::{Reads, decode_at, enter_part, keep_all};
@@ -104,32 +104,23 @@ impl Reads for Leads<'_> {
 /// `Xml(Entity)` with the number of its start, counted from 0.
 #[tactic(auto, using(crate::proofs::RelationshipErrors::related_step))]
 pub fn related_parts<P: Package>(
-    alloc: Global,
-    package: &mut P,
+    xml: &mut XlReader<P>,
     path: &str,
     typ: &str,
 ) -> Result<Vec<String>, XlsxError>
     ensures answers { let ask = related_ask typ.now path.now in
-        Answers ask (λ paths. map string_bytes paths.items) result (P.state «package».old)
-        (P.state «package».new) }
+        Answers ask (λ paths. map string_bytes paths.items) result xml.old.source xml.new.source }
 {
+    let alloc = xml.alloc();
     let part = relationships_beside(alloc, path)?;
-    let Some(mut cursor) = enter_part(alloc, package, part.as_str(), "Relationships")? else {
+    if !enter_part(xml, part.as_str(), "Relationships")? {
         return Ok(Vec::new(alloc));
-    };
-    let base = cursor.depth();
+    }
+    let base = xml.depth();
     let by = Leads {
         alloc,
         path,
         wanted: typ,
     };
-    keep_all(
-        alloc,
-        package,
-        &mut cursor,
-        base,
-        &["Relationship"],
-        "Relationships",
-        by,
-    )
+    keep_all(xml, base, &["Relationship"], "Relationships", by)
 }

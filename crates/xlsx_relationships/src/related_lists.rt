@@ -6,8 +6,7 @@ ghost use Rattle.xlsx_relationships.specs.RelatedAsked.{each_related};
 ghost use Rattle.xlsx_relationships.specs.RelationshipErrors.{IsRelatedError};
 
 use crate::related::related_parts;
-use part_events::Package;
-use std::alloc::Global;
+use part_events::{Package, XlReader};
 use xlsx_error::XlsxError;
 
 /// Reads what a part says that a relationship leads to, and keeps it.
@@ -25,14 +24,13 @@ pub trait ReadsRelated {
     /// Appends what the part at this path says. After a refusal some of it may be appended.
     fn push<P: Package>(
         &self,
-        package: &mut P,
+        xml: &mut XlReader<P>,
         items: &mut Vec<Self::Item>,
         path: &str,
     ) -> Result<(), XlsxError>
         ensures answers { let before = map (kept self.now) items.old.items in
             let after = map (kept self.now) items.new.items in
-            Appends (ask self.now path.now) before after result (P.state «package».old)
-            (P.state «package».new) }
+            Appends (ask self.now path.now) before after result xml.old.source xml.new.source }
         ensures kept { (more : List Self.Item) × (items.new.items ≡ items.old.items ++ more) };
 
     ghost kinds: { (by : Self) (path : List ℕ) (error : XlsxError) → (ask by path).kind error → Kind error };
@@ -47,8 +45,7 @@ pub trait ReadsRelated {
 /// Fails as `related_parts`, and by one of the parts as `by` says. After a refusal some of it may
 /// be appended, behind what was there.
 pub fn push_related<P: Package, R: ReadsRelated>(
-    alloc: Global,
-    package: &mut P,
+    xml: &mut XlReader<P>,
     items: &mut Vec<R::Item>,
     path: &str,
     typ: &str,
@@ -57,13 +54,13 @@ pub fn push_related<P: Package, R: ReadsRelated>(
     ensures answers { let before = map (R.kept by.now) items.old.items in
         let after = map (R.kept by.now) items.new.items in
         Appends (each_related R.Kind (R.ask by.now) typ.now path.now) before after result
-        (P.state «package».old) (P.state «package».new) }
+        xml.old.source xml.new.source }
     ensures kept { (more : List R.Item) × (items.new.items ≡ items.old.items ++ more) }
 {
-    let paths = related_parts(alloc, package, path, typ)?;
+    let paths = related_parts(xml, path, typ)?;
     let mut left = paths.as_slice();
     'paths: while let Some((there, others)) = left.split_first() {
-        by.push(package, items, there.as_str())?;
+        by.push(xml, items, there.as_str())?;
         left = others;
     }
     Ok(())

@@ -10,8 +10,7 @@ ghost use Rattle.xlsx_relationships.specs.Relationships.{IsPathRefused, AreRelat
 ghost use Rattle.xlsx_relationships.specs.RelationshipErrors.{IsRelationshipsError};
 
 use crate::relationships::{KeepsRelated, OfficeTargets, Relationship};
-use part_events::Package;
-use std::alloc::Global;
+use part_events::{Package, XlReader};
 use std::collections::BTreeMap;
 use xlsx_error::XlsxError;
 use xlsx_sections::{enter_part, keep_last, keep_starts};
@@ -23,39 +22,27 @@ use xlsx_sections::{enter_part, keep_last, keep_starts};
 /// ends in it, is `XmlEof("Relationships")`. Such a target with a reference without a character is
 /// `Xml(Entity)` with the number of its start, counted from 0.
 #[tactic(auto, using(crate::proofs::RelationshipErrors::relationships_step))]
-pub fn read_path<P: Package>(
-    alloc: Global,
-    package: &mut P,
-    part: &str,
-) -> Result<String, XlsxError>
-    ensures uses { let old = P.state «package».old in
-        let new = P.state «package».new in
-        Uses (event_count old.parts part.now) Io result old new }
-    ensures to_end { ReadsToEnd (codes "Relationships") part.now result (P.state «package».old)
-        (P.state «package».new) }
-    ensures path { let old = P.state «package».old in
-        let inside = closed_section_of (codes "Relationships") part.now old.parts in
-        old.is_told ≡ true → IfOk result (λ path.
+pub fn read_path<P: Package>(xml: &mut XlReader<P>, part: &str) -> Result<String, XlsxError>
+    ensures uses { Uses (event_count xml.old.source.parts part.now) Io result xml.old.source
+        xml.new.source }
+    ensures to_end { ReadsToEnd (codes "Relationships") part.now result xml.old.source
+        xml.new.source }
+    ensures path { let inside = closed_section_of (codes "Relationships") part.now
+        xml.old.source.parts in
+        xml.old.source.is_told ≡ true → IfOk result (λ path.
         IsSomeAnd inside (λ inside. path_in inside ≡ Ok (Some (string_bytes path)))) }
-    ensures err { let old = P.state «package».old in
-        let new = P.state «package».new in
-        let name = codes "Relationships" in
-        IfErr result (PartFails name (always name) IsPathRefused part.now old new) }
+    ensures err { let name = codes "Relationships" in
+        IfErr result (PartFails name (always name) IsPathRefused part.now xml.old.source
+        xml.new.source) }
     ensures kind { IfErr result IsRelationshipsError }
 {
-    let Some(mut cursor) = enter_part(alloc, package, part, "Relationships")? else {
+    let alloc = xml.alloc();
+    if !enter_part(xml, part, "Relationships")? {
         return Err(XlsxError::FileNotFound(String::from_str(alloc, part)?));
-    };
-    let base = cursor.depth();
+    }
+    let base = xml.depth();
     let by = OfficeTargets { alloc };
-    match keep_last(
-        package,
-        &mut cursor,
-        base,
-        &["Relationship"],
-        "Relationships",
-        by,
-    )? {
+    match keep_last(xml, base, &["Relationship"], "Relationships", by)? {
         Some(path) => Ok(path),
         None => Err(XlsxError::RelationshipNotFound),
     }
@@ -67,38 +54,30 @@ pub fn read_path<P: Package>(
 /// `Relationships`, or ends in it, is `XmlEof("Relationships")`.
 #[tactic(auto, using(crate::proofs::RelationshipErrors::relationships_step))]
 pub fn read_relationships<P: Package>(
-    alloc: Global,
-    package: &mut P,
+    xml: &mut XlReader<P>,
     part: &str,
 ) -> Result<BTreeMap<String, Relationship>, XlsxError>
-    ensures uses { let old = P.state «package».old in
-        let new = P.state «package».new in
-        Uses (event_count old.parts part.now) Io result old new }
-    ensures to_end { ReadsToEnd (codes "Relationships") part.now result (P.state «package».old)
-        (P.state «package».new) }
-    ensures related { let old = P.state «package».old in
-        let inside = closed_section_of (codes "Relationships") part.now old.parts in
-        old.is_told ≡ true → IfOk result (λ map. IsSomeAnd inside (λ inside. (id : List ℕ) →
+    ensures uses { Uses (event_count xml.old.source.parts part.now) Io result xml.old.source
+        xml.new.source }
+    ensures to_end { ReadsToEnd (codes "Relationships") part.now result xml.old.source
+        xml.new.source }
+    ensures related { let inside = closed_section_of (codes "Relationships") part.now
+        xml.old.source.parts in
+        xml.old.source.is_told ≡ true →
+        IfOk result (λ map. IsSomeAnd inside (λ inside. (id : List ℕ) →
         related_in inside id ≡ Ok (related_by_id map id))) }
-    ensures err { let old = P.state «package».old in
-        let new = P.state «package».new in
-        let name = codes "Relationships" in
-        IfErr result (PartFails name (always name) AreRelationshipsRefused part.now old new) }
+    ensures err { let name = codes "Relationships" in
+        IfErr result (PartFails name (always name) AreRelationshipsRefused part.now xml.old.source
+        xml.new.source) }
     ensures kind { IfErr result IsRelationshipsError }
 {
-    let Some(mut cursor) = enter_part(alloc, package, part, "Relationships")? else {
+    let alloc = xml.alloc();
+    if !enter_part(xml, part, "Relationships")? {
         return Err(XlsxError::FileNotFound(String::from_str(alloc, part)?));
-    };
-    let base = cursor.depth();
+    }
+    let base = xml.depth();
     let map = BTreeMap::new(alloc);
     let mut keeper = KeepsRelated { alloc, map };
-    keep_starts(
-        package,
-        &mut cursor,
-        base,
-        &["Relationship"],
-        "Relationships",
-        &mut keeper,
-    )?;
+    keep_starts(xml, base, &["Relationship"], "Relationships", &mut keeper)?;
     Ok(keeper.map)
 }

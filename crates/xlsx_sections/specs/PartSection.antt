@@ -6,7 +6,7 @@ use Rattle.std.specs.Prelude.{MatchOption, string_bytes}
 use Rattle.part_events.specs.Event.{Tag, Event, IsStartAnd}
 use Rattle.part_events.specs.Nesting.{whole}
 use Rattle.part_events.specs.Package.{Part, PackageState, SameParts, part_of, event_count}
-use Rattle.part_events.specs.Package.{CountsUp}
+use Rattle.part_events.specs.Package.{CountsUp, UsesPackage}
 use Rattle.part_events.specs.Reading.{Reading, ReadsOn, IsReading, TakesEvent, IsAtElement}
 use Rattle.part_events.specs.Reading.{BreaksAt, ahead, events_of}
 use Rattle.part_events.specs.Section.{content, is_closed, behind_start, is_named}
@@ -126,6 +126,11 @@ IsStartLacking name old error =
 -- why the search for the start of a section fails
 abbrev pub StartFails : List ℕ → Reading → Reading → XlsxError → Type 0
 StartFails name old new error = FailsBy (IsStartLacking name old) old.source new.source error
+
+-- there is no part of this name, and nothing was taken
+pub record HasNoPart (path : List ℕ) (old new : PackageState) : Type 0 where
+  pub uses : UsesPackage 0 old new
+  pub absent : old.is_told ≡ true → part_of old.parts path ≡ None
 
 -- the part at this path was opened, and is read on behind the start of its first section of this
 -- name

@@ -1,7 +1,7 @@
 ghost use Rattle.std.specs.Prelude.{◌≡◌, ℕ, List, map, true, Ok, Result, Option, IfOk, OnOk};
 ghost use Rattle.std.specs.Prelude.{IfErr};
 ghost use Rattle.part_events.specs.Event.{Tag, Event, start};
-ghost use Rattle.part_events.specs.Reading.{reading, IsReadingElement, ReadsElement, ahead};
+ghost use Rattle.part_events.specs.Reading.{IsReadingElement, ReadsElement, ahead};
 ghost use Rattle.part_events.specs.Section.{content};
 ghost use Rattle.xlsx_error.specs.declared.error.XlsxError.{XlsxError};
 ghost use Rattle.xlsx_error.specs.declared.error.XlsxError.TheVariants.{Io};
@@ -12,7 +12,7 @@ ghost use Rattle.xlsx_sections.specs.PartSection.{IsStepError};
 ghost use Rattle.xlsx_sections.specs.Refusal.{Refusal};
 
 use crate::elements::next_element_in;
-use part_events::{Cursor, Package};
+use part_events::{Package, XlReader};
 use xlsx_error::XlsxError;
 
 /// Reads one element of a list.
@@ -32,23 +32,14 @@ pub trait ReadsEach {
     ghost Kind: { XlsxError → Type 0 };
 
     /// The element at whose start the package stands, which is read to its end.
-    fn read<P: Package>(
-        &self,
-        package: &mut P,
-        cursor: &mut Cursor,
-    ) -> Result<Self::Item, XlsxError>
-        requires element { IsReadingElement (reading (P.state «package».old) cursor.old) }
-        ensures reads { let old = reading (P.state «package».old) cursor.old in
-            let new = reading (P.state «package».new) cursor.new in
-            ReadsElement Io result old new }
-        ensures said { let old = reading (P.state «package».old) cursor.old in
-            old.source.is_told ≡ true → IfOk result (λ item. (tag : Tag) →
-            start tag ≡ old.source.current →
-            meaning self.now tag (content 0 (ahead old)) ≡ Ok (said item)) }
-        ensures err { let old = reading (P.state «package».old) cursor.old in
-            let new = reading (P.state «package».new) cursor.new in
-            IfErr result (λ error. (tag : Tag) → start tag ≡ old.source.current →
-            ElementReadFails ending (meaning self.now tag) old new error) }
+    fn read<P: Package>(&self, xml: &mut XlReader<P>) -> Result<Self::Item, XlsxError>
+        requires element { IsReadingElement xml.old }
+        ensures reads { ReadsElement Io result xml.old xml.new }
+        ensures said { xml.old.source.is_told ≡ true → IfOk result (λ item. (tag : Tag) →
+            start tag ≡ xml.old.source.current →
+            meaning self.now tag (content 0 (ahead xml.old)) ≡ Ok (said item)) }
+        ensures err { IfErr result (λ error. (tag : Tag) → start tag ≡ xml.old.source.current →
+            ElementReadFails ending (meaning self.now tag) xml.old xml.new error) }
         ensures kind { IfErr result Kind };
 
     ghost kinds: { (error : XlsxError) → IsStepError section error → Kind error };
@@ -60,32 +51,27 @@ pub trait ReadsEach {
 /// A part that ends between them is `XmlEof(section)`, and an end that breaks the nesting is
 /// `Xml(EndMismatch)` with its number in the part, counted from 0.
 pub fn keep_elements<P: Package, R: ReadsEach>(
-    package: &mut P,
-    cursor: &mut Cursor,
+    xml: &mut XlReader<P>,
     names: &[&str],
     section: &'static str,
     by: &R,
     items: &mut Vec<R::Item>,
 ) -> Result<(), XlsxError>
-    requires element { IsReadingElement (reading (P.state «package».old) cursor.old) }
+    requires element { IsReadingElement xml.old }
     requires section { section.now ≡ R.section }
-    ensures reads { let old = reading (P.state «package».old) cursor.old in
-        let new = reading (P.state «package».new) cursor.new in
-        ReadsElement Io result old new }
-    ensures kept { let old = reading (P.state «package».old) cursor.old in
-        let list = list_said (named_among names.now) (R.meaning by.now) (content 0 (ahead old)) in
-        old.source.is_told ≡ true → OnOk result
+    ensures reads { ReadsElement Io result xml.old xml.new }
+    ensures kept { let list = list_said (named_among names.now) (R.meaning by.now) (content 0 (ahead
+        xml.old)) in
+        xml.old.source.is_told ≡ true → OnOk result
         (prepended (map R.said items.old.items) list ≡ Ok (map R.said items.new.items)) }
-    ensures err { let old = reading (P.state «package».old) cursor.old in
-        let new = reading (P.state «package».new) cursor.new in
-        let wanted = named_among names.now in
+    ensures err { let wanted = named_among names.now in
         IfErr result (ElementReadFails (end_in_list wanted section.now R.ending)
-        (list_said wanted (R.meaning by.now)) old new) }
+        (list_said wanted (R.meaning by.now)) xml.old xml.new) }
     ensures kind { IfErr result R.Kind }
 {
-    let base = cursor.depth();
-    'elements: while let Some(_at) = next_element_in(package, cursor, base, names, section)? {
-        items.push(by.read(package, cursor)?)?;
+    let base = xml.depth();
+    'elements: while let Some(_at) = next_element_in(xml, base, names, section)? {
+        items.push(by.read(xml)?)?;
     }
     Ok(())
 }

@@ -1,7 +1,7 @@
 ghost use Rattle.std.specs.Prelude.{◌≡◌, ◌≤◌, ◌++◌, List, [], ℕ, suc, length, true, Ok};
 ghost use Rattle.std.specs.Prelude.{Option, option_map, string_bytes, IfOk, OnOk, IfErr, OnErr};
 ghost use Rattle.part_events.specs.JoinedText.{joined_text, IsFrontOf, PutsFront};
-ghost use Rattle.part_events.specs.Reading.{Reading, reading, open_elements, IsReading};
+ghost use Rattle.part_events.specs.Reading.{Reading, IsReading};
 ghost use Rattle.part_events.specs.Reading.{IsReadingElement, ReadsElement, ReadsPart, ahead};
 ghost use Rattle.part_events.specs.Section.{Element, content, outermost, is_any};
 ghost use Rattle.part_events.specs.Walk.{section_ahead};
@@ -15,7 +15,7 @@ ghost use Rattle.xlsx_sections.specs.Elements.{KeepsElements, IfCutOff};
 ghost use Rattle.xlsx_sections.specs.Steps.{StepsToElement, StepsFromAny, ElementStepFails};
 ghost use Rattle.xlsx_sections.specs.Steps.{ElementStepRefused};
 
-use part_events::{Cursor, Package, Step, XmlFault};
+use part_events::{Package, Step, XlReader, XmlFault};
 use xlsx_error::XlsxError;
 
 /// Reads on to the next element with one of these local names in a section, whose element is number
@@ -28,40 +28,30 @@ use xlsx_error::XlsxError;
 /// `Xml(EndMismatch)` with its number in the part, counted from 0. Neither comes while such an
 /// element is left.
 pub fn next_element_in<P: Package>(
-    package: &mut P,
-    cursor: &mut Cursor,
+    xml: &mut XlReader<P>,
     base: usize,
     names: &[&str],
     section: &'static str,
 ) -> Result<Option<u64>, XlsxError>
-    requires reading { IsReading (reading (P.state «package».old) cursor.old) }
-    requires within { base ≤ length (open_elements cursor.old) }
-    ensures reads { let old = reading (P.state «package».old) cursor.old in
-        let new = reading (P.state «package».new) cursor.new in
-        ReadsPart Io result old new }
-    ensures stands { let old = reading (P.state «package».old) cursor.old in
-        let new = reading (P.state «package».new) cursor.new in
-        IfOk result (λ found. StandsAtStart (named_among names.now) base found old new) }
-    ensures found { let old = reading (P.state «package».old) cursor.old in
-        let new = reading (P.state «package».new) cursor.new in
-        old.source.is_told ≡ true → IfOk result
-        (λ found. FindsElementIn (named_among names.now) base found old new) }
-    ensures err { let old = reading (P.state «package».old) cursor.old in
-        let new = reading (P.state «package».new) cursor.new in
-        IfErr result (ElementStepFails (named_among names.now) section.now base old new) }
-    ensures step { let old = reading (P.state «package».old) cursor.old in
-        let new = reading (P.state «package».new) cursor.new in
-        IfOk result (λ found. StepsFromAny (named_among names.now) base found old new) }
-    ensures refused { let old = reading (P.state «package».old) cursor.old in
-        let new = reading (P.state «package».new) cursor.new in
-        IfErr result (ElementStepRefused (named_among names.now) section.now base old new) }
-    ensures cut { let old = reading (P.state «package».old) cursor.old in
-        let left = outermost (named_among names.now) (section_ahead base old) in
-        IfErr result (IfCutOff (old.source.is_told ≡ true → left ≡ [])) }
+    requires reading { IsReading xml.old }
+    requires within { base ≤ length xml.old.names }
+    ensures reads { ReadsPart Io result xml.old xml.new }
+    ensures stands { IfOk result (λ found. StandsAtStart (named_among names.now) base found xml.old
+        xml.new) }
+    ensures found { xml.old.source.is_told ≡ true → IfOk result
+        (λ found. FindsElementIn (named_among names.now) base found xml.old xml.new) }
+    ensures err { IfErr result (ElementStepFails (named_among names.now) section.now base xml.old
+        xml.new) }
+    ensures step { IfOk result (λ found. StepsFromAny (named_among names.now) base found xml.old
+        xml.new) }
+    ensures refused { IfErr result (ElementStepRefused (named_among names.now) section.now base
+        xml.old xml.new) }
+    ensures cut { let left = outermost (named_among names.now) (section_ahead base xml.old) in
+        IfErr result (IfCutOff (xml.old.source.is_told ≡ true → left ≡ [])) }
     ensures kind { IfErr result (IsStepError section.now) }
 {
-    match cursor.next_element(package, base, names)? {
-        Step::Found => Ok(Some(cursor.at() - 1)),
+    match xml.next_element(base, names)? {
+        Step::Found => Ok(Some(xml.at() - 1)),
         Step::Closed => Ok(None),
         Step::Ended => Err(XlsxError::XmlEof(section)),
     }
@@ -75,40 +65,28 @@ pub fn next_element_in<P: Package>(
 /// A part that ends in the element is `XmlEof(section)`, and an end that breaks the nesting is
 /// `Xml(EndMismatch)` with its number in the part, counted from 0.
 pub fn next_child_in<P: Package>(
-    package: &mut P,
-    cursor: &mut Cursor,
+    xml: &mut XlReader<P>,
     base: usize,
     section: &'static str,
 ) -> Result<Option<u64>, XlsxError>
-    requires reading { IsReading (reading (P.state «package».old) cursor.old) }
-    requires within { base ≤ length (open_elements cursor.old) }
-    ensures reads { let old = reading (P.state «package».old) cursor.old in
-        let new = reading (P.state «package».new) cursor.new in
-        ReadsPart Io result old new }
-    ensures stands { let old = reading (P.state «package».old) cursor.old in
-        let new = reading (P.state «package».new) cursor.new in
-        IfOk result (λ found. StandsAtStart is_any base found old new) }
-    ensures found { let old = reading (P.state «package».old) cursor.old in
-        let new = reading (P.state «package».new) cursor.new in
-        old.source.is_told ≡ true → IfOk result
-        (λ found. FindsElementIn is_any base found old new) }
-    ensures err { let old = reading (P.state «package».old) cursor.old in
-        let new = reading (P.state «package».new) cursor.new in
-        IfErr result (λ error. (inner : Element → Option (List ℕ)) →
-        SectionFails (end_among is_any section.now inner) Never base old new error) }
-    ensures step { let old = reading (P.state «package».old) cursor.old in
-        let new = reading (P.state «package».new) cursor.new in
-        IfOk result (λ found. (first : Reading) → KeepsElements is_any base first old →
-        StepsToElement is_any base found first old new) }
-    ensures refused { let old = reading (P.state «package».old) cursor.old in
-        let new = reading (P.state «package».new) cursor.new in
-        IfErr result (λ error. (first : Reading) (inner : Element → Option (List ℕ)) →
-        KeepsElements is_any base first old →
-        SectionFails (end_among is_any section.now inner) Never base first new error) }
+    requires reading { IsReading xml.old }
+    requires within { base ≤ length xml.old.names }
+    ensures reads { ReadsPart Io result xml.old xml.new }
+    ensures stands { IfOk result (λ found. StandsAtStart is_any base found xml.old xml.new) }
+    ensures found { xml.old.source.is_told ≡ true → IfOk result
+        (λ found. FindsElementIn is_any base found xml.old xml.new) }
+    ensures err { IfErr result (λ error. (inner : Element → Option (List ℕ)) →
+        SectionFails (end_among is_any section.now inner) Never base xml.old xml.new error) }
+    ensures step { IfOk result (λ found. (first : Reading) → KeepsElements is_any base first xml.old
+        →
+        StepsToElement is_any base found first xml.old xml.new) }
+    ensures refused { IfErr result (λ error. (first : Reading) (inner : Element → Option (List ℕ)) →
+        KeepsElements is_any base first xml.old →
+        SectionFails (end_among is_any section.now inner) Never base first xml.new error) }
     ensures kind { IfErr result (IsStepError section.now) }
 {
-    match cursor.next_child(package, base)? {
-        Step::Found => Ok(Some(cursor.at() - 1)),
+    match xml.next_child(base)? {
+        Step::Found => Ok(Some(xml.at() - 1)),
         Step::Closed => Ok(None),
         Step::Ended => Err(XlsxError::XmlEof(section)),
     }
@@ -123,33 +101,26 @@ pub fn next_child_in<P: Package>(
 /// `Xml(Entity)`, and an end that breaks the nesting is `Xml(EndMismatch)`, each with its number in
 /// the part, counted from 0.
 pub fn read_element_text<P: Package>(
-    package: &mut P,
-    cursor: &mut Cursor,
+    xml: &mut XlReader<P>,
     out: &mut String,
     char_data: bool,
     name: &'static str,
 ) -> Result<(), XlsxError>
-    requires element { IsReadingElement (reading (P.state «package».old) cursor.old) }
-    ensures reads { let old = reading (P.state «package».old) cursor.old in
-        let new = reading (P.state «package».new) cursor.new in
-        ReadsElement Io result old new }
-    ensures text { let old = reading (P.state «package».old) cursor.old in
-        let inside = content 0 (ahead old) in
+    requires element { IsReadingElement xml.old }
+    ensures reads { ReadsElement Io result xml.old xml.new }
+    ensures text { let inside = content 0 (ahead xml.old) in
         let text = joined_text char_data inside in
-        old.source.is_told ≡ true → OnOk result
-        ((element_text char_data inside ≡ Ok text)
+        xml.old.source.is_told ≡ true → OnOk result ((element_text char_data inside ≡ Ok text)
         × (string_bytes out.new ≡ string_bytes out.old ++ text)) }
     ensures kept { IsFrontOf (string_bytes out.old) (string_bytes out.new) }
-    ensures front { let old = reading (P.state «package».old) cursor.old in
-        let texts : List ℕ × List ℕ = (string_bytes out.old, string_bytes out.new) in
-        old.source.is_told ≡ true → OnErr result
-        (PutsFront char_data (content 0 (ahead old)) texts) }
-    ensures err { let old = reading (P.state «package».old) cursor.old in
-        let new = reading (P.state «package».new) cursor.new in
-        IfErr result (ElementReadFails (always name.now) (element_text char_data) old new) }
+    ensures front { let texts : List ℕ × List ℕ = (string_bytes out.old, string_bytes out.new) in
+        xml.old.source.is_told ≡ true → OnErr result
+        (PutsFront char_data (content 0 (ahead xml.old)) texts) }
+    ensures err { IfErr result (ElementReadFails (always name.now) (element_text char_data) xml.old
+        xml.new) }
     ensures kind { IfErr result (IsTextError name.now) }
 {
-    if !cursor.read_text(package, out, char_data)? {
+    if !xml.read_text(out, char_data)? {
         return Err(XlsxError::XmlEof(name));
     }
     Ok(())
@@ -160,31 +131,24 @@ pub fn read_element_text<P: Package>(
 /// with the number of the part's events. An end that breaks the nesting is `Xml(EndMismatch)` with
 /// its number in the part, counted from 0.
 pub fn read_to_end<P: Package>(
-    package: &mut P,
-    cursor: &mut Cursor,
+    xml: &mut XlReader<P>,
     base: usize,
     name: Option<&'static str>,
 ) -> Result<(), XlsxError>
-    requires reading { IsReading (reading (P.state «package».old) cursor.old) }
-    requires within { base ≤ length (open_elements cursor.old) }
-    ensures reads { let old = reading (P.state «package».old) cursor.old in
-        let new = reading (P.state «package».new) cursor.new in
-        ReadsPart Io result old new }
-    ensures depth { OnOk result (suc (length (open_elements cursor.new)) ≡ base) }
-    ensures reaches { let old = reading (P.state «package».old) cursor.old in
-        let new = reading (P.state «package».new) cursor.new in
-        old.source.is_told ≡ true → OnOk result (ReachesEnd base old new) }
-    ensures err { let old = reading (P.state «package».old) cursor.old in
-        let new = reading (P.state «package».new) cursor.new in
-        let ending = named_end (option_map (λ n. n.now) name.entry) in
-        IfErr result (SectionFails ending Never base old new) }
+    requires reading { IsReading xml.old }
+    requires within { base ≤ length xml.old.names }
+    ensures reads { ReadsPart Io result xml.old xml.new }
+    ensures depth { OnOk result (suc (length xml.new.names) ≡ base) }
+    ensures reaches { xml.old.source.is_told ≡ true → OnOk result (ReachesEnd base xml.old xml.new) }
+    ensures err { let ending = named_end (option_map (λ n. n.now) name.entry) in
+        IfErr result (SectionFails ending Never base xml.old xml.new) }
     ensures kind { IfErr result (IsEndError (option_map (λ n. n.now) name.entry)) }
 {
-    match cursor.next_start(package, base, &[])? {
+    match xml.next_start(base, &[])? {
         Step::Closed => Ok(()),
         Step::Ended => match name {
             Some(name) => Err(XlsxError::XmlEof(name)),
-            None => Err(XlsxError::Xml(XmlFault::Unclosed { at: cursor.at() })),
+            None => Err(XlsxError::Xml(XmlFault::Unclosed { at: xml.at() })),
         },
         Step::Found => unreachable!(),
     }
@@ -195,20 +159,15 @@ pub fn read_to_end<P: Package>(
 /// part's events. An end that breaks the nesting is `Xml(EndMismatch)` with its number in the part,
 /// counted from 0.
 pub fn skip_element_in<P: Package>(
-    package: &mut P,
-    cursor: &mut Cursor,
+    xml: &mut XlReader<P>,
     name: Option<&'static str>,
 ) -> Result<(), XlsxError>
-    requires element { IsReadingElement (reading (P.state «package».old) cursor.old) }
-    ensures reads { let old = reading (P.state «package».old) cursor.old in
-        let new = reading (P.state «package».new) cursor.new in
-        ReadsElement Io result old new }
-    ensures err { let old = reading (P.state «package».old) cursor.old in
-        let new = reading (P.state «package».new) cursor.new in
-        let ending = named_end (option_map (λ n. n.now) name.entry) in
-        IfErr result (SectionFails ending Never (length old.names) old new) }
+    requires element { IsReadingElement xml.old }
+    ensures reads { ReadsElement Io result xml.old xml.new }
+    ensures err { let ending = named_end (option_map (λ n. n.now) name.entry) in
+        IfErr result (SectionFails ending Never (length xml.old.names) xml.old xml.new) }
     ensures kind { IfErr result (IsEndError (option_map (λ n. n.now) name.entry)) }
 {
-    let base = cursor.depth();
-    read_to_end(package, cursor, base, name)
+    let base = xml.depth();
+    read_to_end(xml, base, name)
 }

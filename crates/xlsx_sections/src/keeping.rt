@@ -1,7 +1,7 @@
 ghost use Rattle.std.specs.Prelude.{◌≡◌, ◌≤◌, ℕ, List, length, map, suc, true, Ok, Result};
 ghost use Rattle.std.specs.Prelude.{Option, IfOk, OnOk, IfErr, option_map};
 ghost use Rattle.part_events.specs.Event.{tag_of};
-ghost use Rattle.part_events.specs.Reading.{reading, open_elements, IsReading, ReadsPart};
+ghost use Rattle.part_events.specs.Reading.{IsReading, ReadsPart};
 ghost use Rattle.part_events.specs.Reading.{IsReadingElement, ReadsElement, ahead};
 ghost use Rattle.part_events.specs.Section.{PlacedTag, is_named, content};
 ghost use Rattle.part_events.specs.Walk.{section_ahead};
@@ -13,7 +13,7 @@ ghost use Rattle.xlsx_sections.specs.PartSection.{always, IsStepError, SectionFa
 ghost use Rattle.xlsx_sections.specs.Refusal.{Refusal, ElementFails, placed_at};
 
 use crate::section::{next_start_among, start_tag};
-use part_events::{Cursor, Package, StartTag};
+use part_events::{Package, StartTag, XlReader};
 use xlsx_error::XlsxError;
 
 /// Keeps what the starts of a section give.
@@ -52,39 +52,31 @@ pub trait Keeps {
 /// A part that ends in the section is `XmlEof(section)`, and an end that breaks the nesting is
 /// `Xml(EndMismatch)` with its number in the part, counted from 0.
 pub fn keep_starts<P: Package, K: Keeps>(
-    package: &mut P,
-    cursor: &mut Cursor,
+    xml: &mut XlReader<P>,
     base: usize,
     names: &[&str],
     section: &'static str,
     keeper: &mut K,
 ) -> Result<(), XlsxError>
-    requires reading { IsReading (reading (P.state «package».old) cursor.old) }
-    requires within { base ≤ length (open_elements cursor.old) }
+    requires reading { IsReading xml.old }
+    requires within { base ≤ length xml.old.names }
     requires section { section.now ≡ K.section }
-    ensures reads { let old = reading (P.state «package».old) cursor.old in
-        let new = reading (P.state «package».new) cursor.new in
-        ReadsPart Io result old new }
-    ensures depth { OnOk result (suc (length (open_elements cursor.new)) ≡ base) }
-    ensures reaches { let old = reading (P.state «package».old) cursor.old in
-        let new = reading (P.state «package».new) cursor.new in
-        old.source.is_told ≡ true → OnOk result (ReachesEnd base old new) }
-    ensures kept { let old = reading (P.state «package».old) cursor.old in
-        let wanted = is_named (map (λ name. name.now) names.now) in
-        old.source.is_told ≡ true → OnOk result ((i : K.Index) →
-        changed_in wanted (K.change keeper.old i) (K.held keeper.old i) (section_ahead base old)
+    ensures reads { ReadsPart Io result xml.old xml.new }
+    ensures depth { OnOk result (suc (length xml.new.names) ≡ base) }
+    ensures reaches { xml.old.source.is_told ≡ true → OnOk result (ReachesEnd base xml.old xml.new) }
+    ensures kept { let wanted = is_named (map (λ name. name.now) names.now) in
+        xml.old.source.is_told ≡ true → OnOk result ((i : K.Index) →
+        changed_in wanted (K.change keeper.old i) (K.held keeper.old i) (section_ahead base xml.old)
         ≡ Ok (K.held keeper.new i)) }
-    ensures err { let old = reading (P.state «package».old) cursor.old in
-        let new = reading (P.state «package».new) cursor.new in
-        let wanted = is_named (map (λ name. name.now) names.now) in
+    ensures err { let wanted = is_named (map (λ name. name.now) names.now) in
         let meaning = λ (i : K.Index). changed_in wanted (K.change keeper.old i)
         (K.held keeper.old i) in
         IfErr result (λ error. (i : K.Index) → SectionFails (always section.now)
-        (IsInsideRefused (meaning i)) base old new error) }
+        (IsInsideRefused (meaning i)) base xml.old xml.new error) }
     ensures kind { IfErr result K.Kind }
 {
-    'starts: while let Some(at) = next_start_among(package, cursor, base, names, section)? {
-        keeper.take(start_tag(package), at)?;
+    'starts: while let Some(at) = next_start_among(xml, base, names, section)? {
+        keeper.take(start_tag(xml), at)?;
     }
     Ok(())
 }
@@ -92,31 +84,25 @@ pub fn keep_starts<P: Package, K: Keeps>(
 /// Keeps what the starts of these local names give in the element at whose start the package
 /// stands. Reads to the element's end, and is refused as `keep_starts`.
 pub fn keep_in_element<P: Package, K: Keeps>(
-    package: &mut P,
-    cursor: &mut Cursor,
+    xml: &mut XlReader<P>,
     names: &[&str],
     section: &'static str,
     keeper: &mut K,
 ) -> Result<(), XlsxError>
-    requires element { IsReadingElement (reading (P.state «package».old) cursor.old) }
+    requires element { IsReadingElement xml.old }
     requires section { section.now ≡ K.section }
-    ensures reads { let old = reading (P.state «package».old) cursor.old in
-        let new = reading (P.state «package».new) cursor.new in
-        ReadsElement Io result old new }
-    ensures kept { let old = reading (P.state «package».old) cursor.old in
-        let wanted = is_named (map (λ name. name.now) names.now) in
-        old.source.is_told ≡ true → OnOk result ((i : K.Index) →
-        changed_in wanted (K.change keeper.old i) (K.held keeper.old i) (content 0 (ahead old))
+    ensures reads { ReadsElement Io result xml.old xml.new }
+    ensures kept { let wanted = is_named (map (λ name. name.now) names.now) in
+        xml.old.source.is_told ≡ true → OnOk result ((i : K.Index) →
+        changed_in wanted (K.change keeper.old i) (K.held keeper.old i) (content 0 (ahead xml.old))
         ≡ Ok (K.held keeper.new i)) }
-    ensures err { let old = reading (P.state «package».old) cursor.old in
-        let new = reading (P.state «package».new) cursor.new in
-        let wanted = is_named (map (λ name. name.now) names.now) in
+    ensures err { let wanted = is_named (map (λ name. name.now) names.now) in
         let meaning = λ (i : K.Index). changed_in wanted (K.change keeper.old i)
         (K.held keeper.old i) in
         IfErr result (λ error. (i : K.Index) →
-        ElementReadFails (always section.now) (meaning i) old new error) }
+        ElementReadFails (always section.now) (meaning i) xml.old xml.new error) }
     ensures kind { IfErr result K.Kind }
 {
-    let base = cursor.depth();
-    keep_starts(package, cursor, base, names, section, keeper)
+    let base = xml.depth();
+    keep_starts(xml, base, names, section, keeper)
 }

@@ -1,7 +1,7 @@
 ghost use Rattle.std.specs.Prelude.{◌≡◌, ◌≤◌, ℕ, List, ⊤, length, map, suc, true, Ok, Result};
 ghost use Rattle.std.specs.Prelude.{Option, IfOk, OnOk, IfErr, option_map};
 ghost use Rattle.part_events.specs.Event.{tag_of};
-ghost use Rattle.part_events.specs.Reading.{reading, open_elements, IsReading, ReadsPart};
+ghost use Rattle.part_events.specs.Reading.{IsReading, ReadsPart};
 ghost use Rattle.part_events.specs.Section.{PlacedTag, is_named};
 ghost use Rattle.part_events.specs.Walk.{section_ahead};
 ghost use Rattle.xlsx_error.specs.declared.error.XlsxError.{XlsxError};
@@ -12,8 +12,7 @@ ghost use Rattle.xlsx_sections.specs.PartSection.{always, IsStepError, SectionFa
 ghost use Rattle.xlsx_sections.specs.Refusal.{Refusal, ElementFails, placed_at};
 
 use crate::keeping::{Keeps, keep_starts};
-use part_events::{Cursor, Package, StartTag};
-use std::alloc::Global;
+use part_events::{Package, StartTag, XlReader};
 use xlsx_error::XlsxError;
 
 /// Reads what a start gives, if anything.
@@ -74,37 +73,31 @@ impl<R: Reads> Keeps for All<R> {
 /// What the starts of these local names give in a section, whose element is number `base` of the
 /// open ones, in order. Reads to the section's end, and is refused as `keep_starts`.
 pub fn keep_all<P: Package, R: Reads + Drop>(
-    alloc: Global,
-    package: &mut P,
-    cursor: &mut Cursor,
+    xml: &mut XlReader<P>,
     base: usize,
     names: &[&str],
     section: &'static str,
     by: R,
 ) -> Result<Vec<R::Item>, XlsxError>
-    requires reading { IsReading (reading (P.state «package».old) cursor.old) }
-    requires within { base ≤ length (open_elements cursor.old) }
+    requires reading { IsReading xml.old }
+    requires within { base ≤ length xml.old.names }
     requires section { section.now ≡ R.section }
-    ensures reads { let old = reading (P.state «package».old) cursor.old in
-        let new = reading (P.state «package».new) cursor.new in
-        ReadsPart Io result old new }
-    ensures depth { OnOk result (suc (length (open_elements cursor.new)) ≡ base) }
-    ensures reaches { let old = reading (P.state «package».old) cursor.old in
-        let new = reading (P.state «package».new) cursor.new in
-        old.source.is_told ≡ true → OnOk result (ReachesEnd base old new) }
-    ensures kept { let old = reading (P.state «package».old) cursor.old in
-        let wanted = is_named (map (λ name. name.now) names.now) in
-        old.source.is_told ≡ true → IfOk result (λ items.
-        some_in wanted (R.meaning by) (section_ahead base old) ≡ Ok (map R.said items.items)) }
-    ensures err { let old = reading (P.state «package».old) cursor.old in
-        let new = reading (P.state «package».new) cursor.new in
-        let meaning = some_in (is_named (map (λ name. name.now) names.now)) (R.meaning by) in
-        IfErr result (SectionFails (always section.now) (IsInsideRefused meaning) base old new) }
+    ensures reads { ReadsPart Io result xml.old xml.new }
+    ensures depth { OnOk result (suc (length xml.new.names) ≡ base) }
+    ensures reaches { xml.old.source.is_told ≡ true → OnOk result (ReachesEnd base xml.old xml.new) }
+    ensures kept { let wanted = is_named (map (λ name. name.now) names.now) in
+        xml.old.source.is_told ≡ true → IfOk result (λ items.
+        some_in wanted (R.meaning by) (section_ahead base xml.old) ≡ Ok (map R.said items.items)) }
+    ensures err { let meaning = some_in (is_named (map (λ name. name.now) names.now)) (R.meaning by)
+        in
+        IfErr result (SectionFails (always section.now) (IsInsideRefused meaning) base xml.old
+        xml.new) }
     ensures kind { IfErr result R.Kind }
 {
+    let alloc = xml.alloc();
     let items = Vec::new(alloc);
     let mut keeper = All { by, items };
-    keep_starts(package, cursor, base, names, section, &mut keeper)?;
+    keep_starts(xml, base, names, section, &mut keeper)?;
     Ok(keeper.items)
 }
 
@@ -142,34 +135,28 @@ impl<R: Reads> Keeps for Last<R> {
 /// element is number `base` of the open ones. Reads to the section's end, and is refused as
 /// `keep_starts`.
 pub fn keep_last<P: Package, R: Reads + Drop>(
-    package: &mut P,
-    cursor: &mut Cursor,
+    xml: &mut XlReader<P>,
     base: usize,
     names: &[&str],
     section: &'static str,
     by: R,
 ) -> Result<Option<R::Item>, XlsxError>
-    requires reading { IsReading (reading (P.state «package».old) cursor.old) }
-    requires within { base ≤ length (open_elements cursor.old) }
+    requires reading { IsReading xml.old }
+    requires within { base ≤ length xml.old.names }
     requires section { section.now ≡ R.section }
-    ensures reads { let old = reading (P.state «package».old) cursor.old in
-        let new = reading (P.state «package».new) cursor.new in
-        ReadsPart Io result old new }
-    ensures depth { OnOk result (suc (length (open_elements cursor.new)) ≡ base) }
-    ensures reaches { let old = reading (P.state «package».old) cursor.old in
-        let new = reading (P.state «package».new) cursor.new in
-        old.source.is_told ≡ true → OnOk result (ReachesEnd base old new) }
-    ensures kept { let old = reading (P.state «package».old) cursor.old in
-        let wanted = is_named (map (λ name. name.now) names.now) in
-        old.source.is_told ≡ true → IfOk result (λ item.
-        last_in wanted (R.meaning by) (section_ahead base old) ≡ Ok (option_map R.said item)) }
-    ensures err { let old = reading (P.state «package».old) cursor.old in
-        let new = reading (P.state «package».new) cursor.new in
-        let meaning = last_in (is_named (map (λ name. name.now) names.now)) (R.meaning by) in
-        IfErr result (SectionFails (always section.now) (IsInsideRefused meaning) base old new) }
+    ensures reads { ReadsPart Io result xml.old xml.new }
+    ensures depth { OnOk result (suc (length xml.new.names) ≡ base) }
+    ensures reaches { xml.old.source.is_told ≡ true → OnOk result (ReachesEnd base xml.old xml.new) }
+    ensures kept { let wanted = is_named (map (λ name. name.now) names.now) in
+        xml.old.source.is_told ≡ true → IfOk result (λ item.
+        last_in wanted (R.meaning by) (section_ahead base xml.old) ≡ Ok (option_map R.said item)) }
+    ensures err { let meaning = last_in (is_named (map (λ name. name.now) names.now)) (R.meaning by)
+        in
+        IfErr result (SectionFails (always section.now) (IsInsideRefused meaning) base xml.old
+        xml.new) }
     ensures kind { IfErr result R.Kind }
 {
     let mut keeper = Last { by, item: None };
-    keep_starts(package, cursor, base, names, section, &mut keeper)?;
+    keep_starts(xml, base, names, section, &mut keeper)?;
     Ok(keeper.item)
 }

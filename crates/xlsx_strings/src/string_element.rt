@@ -3,7 +3,7 @@ ghost use Rattle.std.specs.Prelude.{string_bytes, IfOk, OnOk, OnErr, IfErr};
 ghost use Rattle.attr_text.specs.Text.{unescaped};
 ghost use Rattle.part_events.specs.Event.{Tag, start, tag_of};
 ghost use Rattle.part_events.specs.JoinedText.{IsFrontOf};
-ghost use Rattle.part_events.specs.Reading.{reading, IsReadingElement, ReadsElement, ahead};
+ghost use Rattle.part_events.specs.Reading.{IsReadingElement, ReadsElement, ahead};
 ghost use Rattle.part_events.specs.Section.{content};
 ghost use Rattle.xlsx_error.specs.declared.error.XlsxError.TheVariants.{Io};
 ghost use Rattle.xlsx_sections.specs.Elements.{ElementReadFails};
@@ -12,7 +12,7 @@ ghost use Rattle.xlsx_strings.specs.Strings.{end_in_piece, end_in_string, IsStri
 
 use crate::trim::trimmed;
 use attr_text::{AttrFault, RawAttributes, push_unescaped};
-use part_events::{Cursor, Package, StartTag};
+use part_events::{Package, StartTag, XlReader};
 use std::alloc::{AllocError, Global};
 use xlsx_error::XlsxError;
 use xlsx_sections::{next_element_in, read_element_text, skip_element_in, start_tag};
@@ -44,33 +44,28 @@ fn push_spaced(alloc: Global, out: &mut String, written: &str, kept: bool) -> Re
 /// Appends what the element at whose start the package stands adds to its string, and reads to its
 /// end: a text is read, and what is said of the pronunciation is passed.
 fn read_piece<P: Package>(
-    alloc: Global,
-    package: &mut P,
-    cursor: &mut Cursor,
+    xml: &mut XlReader<P>,
     out: &mut String,
     scratch: &mut String,
 ) -> Result<(), XlsxError>
-    requires element { IsReadingElement (reading (P.state «package».old) cursor.old) }
-    ensures reads { let old = reading (P.state «package».old) cursor.old in
-        let new = reading (P.state «package».new) cursor.new in
-        ReadsElement Io result old new }
-    ensures text { let old = reading (P.state «package».old) cursor.old in
-        old.source.is_told ≡ true → OnOk result ((tag : Tag) → start tag ≡ old.source.current →
-        (text : List ℕ) × (piece_of tag (content 0 (ahead old)) ≡ Ok text)
+    requires element { IsReadingElement xml.old }
+    ensures reads { ReadsElement Io result xml.old xml.new }
+    ensures text { xml.old.source.is_told ≡ true →
+        OnOk result ((tag : Tag) → start tag ≡ xml.old.source.current →
+        (text : List ℕ) × (piece_of tag (content 0 (ahead xml.old)) ≡ Ok text)
         × (string_bytes out.new ≡ string_bytes out.old ++ text)) }
     ensures front { IsFrontOf (string_bytes out.old) (string_bytes out.new) }
-    ensures err { let old = reading (P.state «package».old) cursor.old in
-        let new = reading (P.state «package».new) cursor.new in
-        IfErr result (λ error. (tag : Tag) → start tag ≡ old.source.current →
-        ElementReadFails (end_in_piece tag) (piece_of tag) old new error) }
+    ensures err { IfErr result (λ error. (tag : Tag) → start tag ≡ xml.old.source.current →
+        ElementReadFails (end_in_piece tag) (piece_of tag) xml.old xml.new error) }
     ensures kind { IfErr result IsStringError }
 {
-    if start_tag(package).local_name() != "t" {
-        return skip_element_in(package, cursor, Some(""));
+    let alloc = xml.alloc();
+    if start_tag(xml).local_name() != "t" {
+        return skip_element_in(xml, Some(""));
     }
-    let kept = keeps_blanks(start_tag(package))?;
+    let kept = keeps_blanks(start_tag(xml))?;
     scratch.clear();
-    read_element_text(package, cursor, scratch, true, "t")?;
+    read_element_text(xml, scratch, true, "t")?;
     push_spaced(alloc, out, scratch.as_str(), kept)?;
     Ok(())
 }
@@ -83,29 +78,22 @@ fn read_piece<P: Package>(
 /// A part that ends in a `t` is `XmlEof("t")`, and one that ends elsewhere in the string
 /// `XmlEof("")`. After a refusal the text begins with what it was.
 pub fn read_string<P: Package>(
-    alloc: Global,
-    package: &mut P,
-    cursor: &mut Cursor,
+    xml: &mut XlReader<P>,
     out: &mut String,
     scratch: &mut String,
 ) -> Result<(), XlsxError>
-    requires element { IsReadingElement (reading (P.state «package».old) cursor.old) }
-    ensures reads { let old = reading (P.state «package».old) cursor.old in
-        let new = reading (P.state «package».new) cursor.new in
-        ReadsElement Io result old new }
-    ensures text { let old = reading (P.state «package».old) cursor.old in
-        old.source.is_told ≡ true → OnOk result ((text : List ℕ)
-        × (string_of (content 0 (ahead old)) ≡ Ok text)
+    requires element { IsReadingElement xml.old }
+    ensures reads { ReadsElement Io result xml.old xml.new }
+    ensures text { xml.old.source.is_told ≡ true → OnOk result ((text : List ℕ)
+        × (string_of (content 0 (ahead xml.old)) ≡ Ok text)
         × (string_bytes out.new ≡ string_bytes out.old ++ text)) }
     ensures front { IsFrontOf (string_bytes out.old) (string_bytes out.new) }
-    ensures err { let old = reading (P.state «package».old) cursor.old in
-        let new = reading (P.state «package».new) cursor.new in
-        IfErr result (ElementReadFails end_in_string string_of old new) }
+    ensures err { IfErr result (ElementReadFails end_in_string string_of xml.old xml.new) }
     ensures kind { IfErr result IsStringError }
 {
-    let base = cursor.depth();
-    'pieces: while let Some(_at) = next_element_in(package, cursor, base, &["t", "rPh"], "")? {
-        read_piece(alloc, package, cursor, out, scratch)?;
+    let base = xml.depth();
+    'pieces: while let Some(_at) = next_element_in(xml, base, &["t", "rPh"], "")? {
+        read_piece(xml, out, scratch)?;
     }
     Ok(())
 }

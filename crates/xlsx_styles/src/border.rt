@@ -3,7 +3,7 @@ ghost use Rattle.std.specs.Prelude.{◌≡◌, codes};
 ghost use Rattle.std.specs.Option.{option_copied};
 ghost use Rattle.attr_text.specs.Attributes.{local_name_of};
 ghost use Rattle.part_events.specs.Event.{tag_of};
-ghost use Rattle.part_events.specs.Reading.{reading, IsReadingElement};
+ghost use Rattle.part_events.specs.Reading.{IsReadingElement};
 ghost use Rattle.cell_styles.specs.declared.color.Color.{Color};
 ghost use Rattle.xlsx_sections.specs.PartSection.{always};
 ghost use Rattle.xlsx_styles.specs.Borders.{line_named, border_line, side_line, side_color};
@@ -15,7 +15,7 @@ ghost use Rattle.xlsx_styles.specs.ReadElements.{ReadsInside, ReadsWithStart};
 use crate::color_text::parse_color;
 use attr_text::{AttrFault, RawAttributes};
 use cell_styles::{Border, BorderStyle, Borders, Color};
-use part_events::{Cursor, Package, StartTag};
+use part_events::{Package, StartTag, XlReader};
 use xlsx_error::XlsxError;
 use xlsx_sections::{Reads, keep_last, next_element_in, start_tag};
 
@@ -112,36 +112,27 @@ impl Reads for SideColors<'_> {
 
 /// The color of the side at whose start the package stands, which is read to its end.
 fn read_side_color<P: Package>(
-    package: &mut P,
-    cursor: &mut Cursor,
+    xml: &mut XlReader<P>,
     theme_colors: &[Color],
 ) -> Result<Option<Color>, XlsxError>
-    requires element { IsReadingElement (reading (P.state «package».old) cursor.old) }
+    requires element { IsReadingElement xml.old }
     ensures { ReadsInside (color_in theme_colors.now) (λ color. color)
-        (always (codes "border side")) (IsPlainError (codes "border side")) result
-        (reading (P.state «package».old) cursor.old)
-        (reading (P.state «package».new) cursor.new) }
+        (always (codes "border side")) (IsPlainError (codes "border side")) result xml.old xml.new }
 {
-    let base = cursor.depth();
+    let base = xml.depth();
     let by = SideColors { theme_colors };
-    keep_last(package, cursor, base, &["color"], "border side", by)
+    keep_last(xml, base, &["color"], "border side", by)
 }
 
 /// The side at whose start the package stands, which is read to its end.
 #[tactic(auto, using(crate::proofs::StepErrors::side_step, crate::proofs::Sides::side_fails))]
-fn read_side<P: Package>(
-    package: &mut P,
-    cursor: &mut Cursor,
-    theme_colors: &[Color],
-) -> Result<Border, XlsxError>
-    requires element { IsReadingElement (reading (P.state «package».old) cursor.old) }
+fn read_side<P: Package>(xml: &mut XlReader<P>, theme_colors: &[Color]) -> Result<Border, XlsxError>
+    requires element { IsReadingElement xml.old }
     ensures { ReadsWithStart (side_of theme_colors.now) (λ side. side)
-        (always (codes "border side")) IsBorderError result
-        (reading (P.state «package».old) cursor.old)
-        (reading (P.state «package».new) cursor.new) }
+        (always (codes "border side")) IsBorderError result xml.old xml.new }
 {
-    let style = side_line(start_tag(package))?;
-    let color = read_side_color(package, cursor, theme_colors)?;
+    let style = side_line(start_tag(xml))?;
+    let color = read_side_color(xml, theme_colors)?;
     Ok(Border { style, color })
 }
 
@@ -174,29 +165,25 @@ fn place_side(borders: &mut Borders, side: Side, border: Border, down: bool, up:
 /// element `XmlEof("border")`.
 #[tactic(auto, using(crate::proofs::StepErrors::border_step))]
 pub fn read_border<P: Package>(
-    package: &mut P,
-    cursor: &mut Cursor,
+    xml: &mut XlReader<P>,
     diagonal_down: bool,
     diagonal_up: bool,
     theme_colors: &[Color],
 ) -> Result<Borders, XlsxError>
-    requires element { IsReadingElement (reading (P.state «package».old) cursor.old) }
+    requires element { IsReadingElement xml.old }
     ensures { ReadsInside (border_of theme_colors.now diagonal_down diagonal_up)
-        (λ borders. borders) end_in_border IsBorderError result
-        (reading (P.state «package».old) cursor.old)
-        (reading (P.state «package».new) cursor.new) }
+        (λ borders. borders) end_in_border IsBorderError result xml.old xml.new }
 {
-    let base = cursor.depth();
+    let base = xml.depth();
     let mut borders = Borders::default();
     'sides: while let Some(_at) = next_element_in(
-        package,
-        cursor,
+        xml,
         base,
         &["left", "right", "top", "bottom", "diagonal"],
         "border",
     )? {
-        let side = side_of(start_tag(package));
-        let border = read_side(package, cursor, theme_colors)?;
+        let side = side_of(start_tag(xml));
+        let border = read_side(xml, theme_colors)?;
         place_side(&mut borders, side, border, diagonal_down, diagonal_up);
     }
     Ok(borders)

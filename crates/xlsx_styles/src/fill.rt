@@ -3,7 +3,7 @@ ghost use Rattle.std.specs.Prelude.{◌≡◌, ⊤, codes, Ok, Err, MatchResult}
 ghost use Rattle.std.specs.Option.{option_copied};
 ghost use Rattle.attr_text.specs.Attributes.{value_of};
 ghost use Rattle.part_events.specs.Event.{tag_of};
-ghost use Rattle.part_events.specs.Reading.{reading, IsReadingElement};
+ghost use Rattle.part_events.specs.Reading.{IsReadingElement};
 ghost use Rattle.xlsx_sections.specs.PartSection.{always};
 ghost use Rattle.xlsx_sections.specs.Changes.{changed_with};
 ghost use Rattle.xlsx_styles.specs.Errors.{IsPlainError};
@@ -15,7 +15,7 @@ ghost use Rattle.cell_styles.specs.declared.fill.Fill.{Fill};
 use crate::color_text::parse_color;
 use attr_text::{AttrFault, RawAttributes};
 use cell_styles::{Color, Fill, FillPattern};
-use part_events::{Cursor, Package, StartTag};
+use part_events::{Package, StartTag, XlReader};
 use xlsx_error::XlsxError;
 use xlsx_sections::{Keeps, keep_in_element};
 
@@ -127,20 +127,17 @@ impl Keeps for FillKeeper<'_> {
 ///
 /// A part that ends before is `XmlEof("fill")`.
 pub fn read_fill<P: Package>(
-    package: &mut P,
-    cursor: &mut Cursor,
+    xml: &mut XlReader<P>,
     theme_colors: &[Color],
 ) -> Result<Fill, XlsxError>
-    requires element { IsReadingElement (reading (P.state «package».old) cursor.old) }
+    requires element { IsReadingElement xml.old }
     ensures { ReadsInside (fill_of theme_colors.now) (λ fill. fill) (always (codes "fill"))
-        (IsPlainError (codes "fill")) result (reading (P.state «package».old) cursor.old)
-        (reading (P.state «package».new) cursor.new) }
+        (IsPlainError (codes "fill")) result xml.old xml.new }
 {
     let fill = Fill::default();
     let mut keeper = FillKeeper { theme_colors, fill };
     keep_in_element(
-        package,
-        cursor,
+        xml,
         &["patternFill", "fgColor", "bgColor"],
         "fill",
         &mut keeper,

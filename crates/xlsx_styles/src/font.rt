@@ -2,7 +2,7 @@ ghost use Rattle.std.proofs.Common.{rules};
 ghost use Rattle.std.specs.Prelude.{◌≡◌, ⊤, ℕ, codes, Ok, OnOk, IfErr};
 ghost use Rattle.attr_text.specs.Attributes.{value_of};
 ghost use Rattle.part_events.specs.Event.{tag_of};
-ghost use Rattle.part_events.specs.Reading.{reading, IsReadingElement};
+ghost use Rattle.part_events.specs.Reading.{IsReadingElement};
 ghost use Rattle.xlsx_sections.specs.PartSection.{always};
 ghost use Rattle.xlsx_sections.specs.Refusal.{ElementFails, placed_at};
 ghost use Rattle.xlsx_styles.specs.Errors.{IsFontError};
@@ -12,7 +12,7 @@ ghost use Rattle.xlsx_styles.specs.ReadElements.{ReadsInside};
 use crate::font_parts::{change_color, change_value};
 use attr_text::RawAttributes;
 use cell_styles::{Color, Font};
-use part_events::{Cursor, Package, StartTag};
+use part_events::{Package, StartTag, XlReader};
 use std::alloc::Global;
 use xlsx_error::XlsxError;
 use xlsx_sections::{Keeps, decode_at, keep_in_element};
@@ -92,24 +92,21 @@ impl Keeps for FontKeeper<'_> {
 /// A part that ends before is `XmlEof("font")`, and a name with a reference without a character is
 /// `Xml(Entity)` with the number of its start, counted from 0.
 pub fn read_font<P: Package>(
-    alloc: Global,
-    package: &mut P,
-    cursor: &mut Cursor,
+    xml: &mut XlReader<P>,
     theme_colors: &[Color],
 ) -> Result<Font, XlsxError>
-    requires element { IsReadingElement (reading (P.state «package».old) cursor.old) }
+    requires element { IsReadingElement xml.old }
     ensures { ReadsInside (font_of theme_colors.now) said_of (always (codes "font"))
-        IsFontError result (reading (P.state «package».old) cursor.old)
-        (reading (P.state «package».new) cursor.new) }
+        IsFontError result xml.old xml.new }
 {
+    let alloc = xml.alloc();
     let mut keeper = FontKeeper {
         alloc,
         theme_colors,
         font: Font::default(),
     };
     keep_in_element(
-        package,
-        cursor,
+        xml,
         &["name", "sz", "family", "b", "i", "u", "strike", "color"],
         "font",
         &mut keeper,

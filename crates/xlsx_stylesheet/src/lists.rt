@@ -3,7 +3,7 @@ ghost use Rattle.std.specs.Prelude.{◌≡◌, ◌∷◌, [], codes, map, Ok, Er
 ghost use Rattle.std.specs.Option.{option_copied};
 ghost use Rattle.attr_text.specs.Attributes.{lookup};
 ghost use Rattle.part_events.specs.Event.{tag_of};
-ghost use Rattle.part_events.specs.Reading.{reading, IsReadingElement};
+ghost use Rattle.part_events.specs.Reading.{IsReadingElement};
 ghost use Rattle.cell_styles.specs.declared.border.Borders.{Borders};
 ghost use Rattle.cell_styles.specs.declared.fill.Fill.{Fill};
 ghost use Rattle.xlsx_sections.specs.PartSection.{always};
@@ -22,7 +22,7 @@ ghost use Rattle.xlsx_stylesheet.specs.StylesErrors.{AreStylesError};
 
 use attr_text::{AttrFault, AttrValue, RawAttributes, two_values};
 use cell_styles::{Borders, Color, Fill, Font};
-use part_events::{Cursor, Package, StartTag};
+use part_events::{Package, StartTag, XlReader};
 use std::alloc::Global;
 use xlsx_error::XlsxError;
 use xlsx_formats::{Formatting, NamedLists, read_format};
@@ -53,30 +53,28 @@ impl ReadsEach for FontReader<'_> {
 
     ghost kinds = { Prim.search rules };
 
-    fn read<P: Package>(&self, package: &mut P, cursor: &mut Cursor) -> Result<Font, XlsxError> {
-        read_font(self.alloc, package, cursor, self.theme_colors)
+    fn read<P: Package>(&self, xml: &mut XlReader<P>) -> Result<Font, XlsxError> {
+        read_font(xml, self.theme_colors)
     }
 }
 
 /// Appends the fonts of the element at whose start the package stands, which is read to its end
 /// (ECMA-376 part 1, section 18.8.23).
 pub fn read_fonts<P: Package>(
-    alloc: Global,
-    package: &mut P,
-    cursor: &mut Cursor,
+    xml: &mut XlReader<P>,
     theme_colors: &[Color],
     fonts: &mut Vec<Font>,
 ) -> Result<(), XlsxError>
-    requires element { IsReadingElement (reading (P.state «package».old) cursor.old) }
+    requires element { IsReadingElement xml.old }
     ensures { ReadsBehind (fonts_in theme_colors.now) (map said_of) end_in_fonts result
-        fonts.old.items fonts.new.items (reading (P.state «package».old) cursor.old)
-        (reading (P.state «package».new) cursor.new) }
+        fonts.old.items fonts.new.items xml.old xml.new }
 {
+    let alloc = xml.alloc();
     let by = FontReader {
         alloc,
         theme_colors,
     };
-    keep_elements(package, cursor, &["font"], "fonts", &by, fonts)
+    keep_elements(xml, &["font"], "fonts", &by, fonts)
 }
 
 /// Reads fills.
@@ -102,8 +100,8 @@ impl ReadsEach for FillReader<'_> {
 
     ghost kinds = { Prim.search rules };
 
-    fn read<P: Package>(&self, package: &mut P, cursor: &mut Cursor) -> Result<Fill, XlsxError> {
-        read_fill(package, cursor, self.theme_colors)
+    fn read<P: Package>(&self, xml: &mut XlReader<P>) -> Result<Fill, XlsxError> {
+        read_fill(xml, self.theme_colors)
     }
 }
 
@@ -111,18 +109,16 @@ impl ReadsEach for FillReader<'_> {
 /// (ECMA-376 part 1, section 18.8.21).
 #[tactic(auto, using(xlsx_sections::proofs::StartsKept::own_items))]
 pub fn read_fills<P: Package>(
-    package: &mut P,
-    cursor: &mut Cursor,
+    xml: &mut XlReader<P>,
     theme_colors: &[Color],
     fills: &mut Vec<Fill>,
 ) -> Result<(), XlsxError>
-    requires element { IsReadingElement (reading (P.state «package».old) cursor.old) }
+    requires element { IsReadingElement xml.old }
     ensures { ReadsBehind (fills_in theme_colors.now) (λ fills. fills) end_in_fills result
-        fills.old.items fills.new.items (reading (P.state «package».old) cursor.old)
-        (reading (P.state «package».new) cursor.new) }
+        fills.old.items fills.new.items xml.old xml.new }
 {
     let by = FillReader { theme_colors };
-    keep_elements(package, cursor, &["fill"], "fills", &by, fills)
+    keep_elements(xml, &["fill"], "fills", &by, fills)
 }
 
 /// The texts of a start's attributes: which ways the diagonal goes.
@@ -146,17 +142,15 @@ fn diagonals_of(tag: &StartTag<'_>) -> Result<(bool, bool), AttrFault>
 /// The borders at whose start the package stands, which is read to its end. Its start says which
 /// ways the diagonal goes.
 fn read_one_border<P: Package>(
-    package: &mut P,
-    cursor: &mut Cursor,
+    xml: &mut XlReader<P>,
     theme_colors: &[Color],
 ) -> Result<Borders, XlsxError>
-    requires element { IsReadingElement (reading (P.state «package».old) cursor.old) }
+    requires element { IsReadingElement xml.old }
     ensures { ReadsWithStart (border_said theme_colors.now) (λ borders. borders)
-        end_in_border IsBorderError result (reading (P.state «package».old) cursor.old)
-        (reading (P.state «package».new) cursor.new) }
+        end_in_border IsBorderError result xml.old xml.new }
 {
-    let (down, up) = diagonals_of(&start_tag(package))?;
-    read_border(package, cursor, down, up, theme_colors)
+    let (down, up) = diagonals_of(&start_tag(xml))?;
+    read_border(xml, down, up, theme_colors)
 }
 
 /// Reads borders.
@@ -182,8 +176,8 @@ impl ReadsEach for BorderReader<'_> {
 
     ghost kinds = { Prim.search rules };
 
-    fn read<P: Package>(&self, package: &mut P, cursor: &mut Cursor) -> Result<Borders, XlsxError> {
-        read_one_border(package, cursor, self.theme_colors)
+    fn read<P: Package>(&self, xml: &mut XlReader<P>) -> Result<Borders, XlsxError> {
+        read_one_border(xml, self.theme_colors)
     }
 }
 
@@ -191,19 +185,16 @@ impl ReadsEach for BorderReader<'_> {
 /// (ECMA-376 part 1, section 18.8.5).
 #[tactic(auto, using(xlsx_sections::proofs::StartsKept::own_items))]
 pub fn read_borders<P: Package>(
-    package: &mut P,
-    cursor: &mut Cursor,
+    xml: &mut XlReader<P>,
     theme_colors: &[Color],
     borders: &mut Vec<Borders>,
 ) -> Result<(), XlsxError>
-    requires element { IsReadingElement (reading (P.state «package».old) cursor.old) }
+    requires element { IsReadingElement xml.old }
     ensures { ReadsBehind (borders_in theme_colors.now) (λ borders. borders)
-        end_in_borders result borders.old.items borders.new.items
-        (reading (P.state «package».old) cursor.old)
-        (reading (P.state «package».new) cursor.new) }
+        end_in_borders result borders.old.items borders.new.items xml.old xml.new }
 {
     let by = BorderReader { theme_colors };
-    keep_elements(package, cursor, &["border"], "borders", &by, borders)
+    keep_elements(xml, &["border"], "borders", &by, borders)
 }
 
 /// Reads cell formats.
@@ -230,30 +221,23 @@ impl ReadsEach for FormatReader<'_> {
 
     ghost kinds = { Prim.search rules };
 
-    fn read<P: Package>(
-        &self,
-        package: &mut P,
-        cursor: &mut Cursor,
-    ) -> Result<Formatting, XlsxError> {
-        read_format(self.alloc, package, cursor, self.lists)
+    fn read<P: Package>(&self, xml: &mut XlReader<P>) -> Result<Formatting, XlsxError> {
+        read_format(xml, self.lists)
     }
 }
 
 /// Appends the cell formats of the element at whose start the package stands, which is read to its
 /// end (ECMA-376 part 1, section 18.8.10). They name what was read before.
 pub fn read_formats<P: Package>(
-    alloc: Global,
-    package: &mut P,
-    cursor: &mut Cursor,
+    xml: &mut XlReader<P>,
     lists: &NamedLists<'_>,
     formattings: &mut Vec<Formatting>,
 ) -> Result<(), XlsxError>
-    requires element { IsReadingElement (reading (P.state «package».old) cursor.old) }
+    requires element { IsReadingElement xml.old }
     ensures { ReadsBehind (formattings_in (named_kept lists.now)) (map formatting_said)
-        end_in_formats result formattings.old.items formattings.new.items
-        (reading (P.state «package».old) cursor.old)
-        (reading (P.state «package».new) cursor.new) }
+        end_in_formats result formattings.old.items formattings.new.items xml.old xml.new }
 {
+    let alloc = xml.alloc();
     let by = FormatReader { alloc, lists };
-    keep_elements(package, cursor, &["xf"], "cellXfs", &by, formattings)
+    keep_elements(xml, &["xf"], "cellXfs", &by, formattings)
 }

@@ -1,6 +1,6 @@
 ghost use Rattle.std.specs.Prelude.{◌≡◌, ◌≤◌, List, [], codes, length, true, Ok, IfOk, OnOk, IfErr};
 ghost use Rattle.part_events.specs.Event.{tag_of};
-ghost use Rattle.part_events.specs.Reading.{reading, open_elements, IsReading, IsReadingElement};
+ghost use Rattle.part_events.specs.Reading.{IsReading, IsReadingElement};
 ghost use Rattle.part_events.specs.Reading.{ReadsElement, ReadsPart};
 ghost use Rattle.part_events.specs.Walk.{section_ahead};
 ghost use Rattle.xlsx_error.specs.declared.error.XlsxError.TheVariants.{Io};
@@ -14,7 +14,7 @@ ghost use Rattle.xlsx_stylesheet.specs.StylesErrors.{AreStylesError};
 use crate::lists::{read_borders, read_fills, read_fonts, read_formats};
 use attr_text::RawAttributes;
 use cell_styles::{Borders, Color, Fill, Font};
-use part_events::{Cursor, Package, StartTag};
+use part_events::{Package, StartTag, XlReader};
 use std::alloc::Global;
 use xlsx_error::XlsxError;
 use xlsx_formats::{FormatCodes, Formatting, NamedLists, read_number_formats};
@@ -76,30 +76,22 @@ fn list_of(tag: StartTag<'_>) -> StyleList
 /// Appends what the element at whose start the package stands says to its list, and reads to its
 /// end.
 fn read_list<P: Package>(
-    alloc: Global,
-    package: &mut P,
-    cursor: &mut Cursor,
+    xml: &mut XlReader<P>,
     theme_colors: &[Color],
     lists: &mut StyleLists,
 ) -> Result<(), XlsxError>
-    requires element { IsReadingElement (reading (P.state «package».old) cursor.old) }
-    ensures reads { ReadsElement Io result (reading (P.state «package».old) cursor.old)
-        (reading (P.state «package».new) cursor.new) }
-    ensures lists { let old = reading (P.state «package».old) cursor.old in
-        old.source.is_told ≡ true →
-        OnOk result (ReadsList theme_colors.now lists.old lists.new old) }
-    ensures err { let old = reading (P.state «package».old) cursor.old in
-        let new = reading (P.state «package».new) cursor.new in
-        IfErr result (ListFails theme_colors.now lists.old old new) }
+    requires element { IsReadingElement xml.old }
+    ensures reads { ReadsElement Io result xml.old xml.new }
+    ensures lists { xml.old.source.is_told ≡ true →
+        OnOk result (ReadsList theme_colors.now lists.old lists.new xml.old) }
+    ensures err { IfErr result (ListFails theme_colors.now lists.old xml.old xml.new) }
     ensures kind { IfErr result AreStylesError }
 {
-    match list_of(start_tag(package)) {
-        StyleList::NumberFormats => {
-            read_number_formats(alloc, package, cursor, &mut lists.codes)
-        }
-        StyleList::Fonts => read_fonts(alloc, package, cursor, theme_colors, &mut lists.fonts),
-        StyleList::Fills => read_fills(package, cursor, theme_colors, &mut lists.fills),
-        StyleList::Borders => read_borders(package, cursor, theme_colors, &mut lists.borders),
+    match list_of(start_tag(xml)) {
+        StyleList::NumberFormats => { read_number_formats(xml, &mut lists.codes) }
+        StyleList::Fonts => read_fonts(xml, theme_colors, &mut lists.fonts),
+        StyleList::Fills => read_fills(xml, theme_colors, &mut lists.fills),
+        StyleList::Borders => read_borders(xml, theme_colors, &mut lists.borders),
         StyleList::Formats => {
             let named = NamedLists {
                 codes: &lists.codes,
@@ -107,45 +99,39 @@ fn read_list<P: Package>(
                 fills: lists.fills.as_slice(),
                 borders: lists.borders.as_slice(),
             };
-            read_formats(alloc, package, cursor, &named, &mut lists.formattings)
+            read_formats(xml, &named, &mut lists.formattings)
         }
     }
 }
 
 /// The lists of a section of styles whose element is number `base` of the open ones.
 pub fn lists_in<P: Package>(
-    alloc: Global,
-    package: &mut P,
-    cursor: &mut Cursor,
+    xml: &mut XlReader<P>,
     base: usize,
     theme_colors: &[Color],
 ) -> Result<StyleLists, XlsxError>
-    requires reading { IsReading (reading (P.state «package».old) cursor.old) }
-    requires within { base ≤ length (open_elements cursor.old) }
-    ensures reads { ReadsPart Io result (reading (P.state «package».old) cursor.old)
-        (reading (P.state «package».new) cursor.new) }
-    ensures reaches { let old = reading (P.state «package».old) cursor.old in
-        let new = reading (P.state «package».new) cursor.new in
-        old.source.is_told ≡ true → OnOk result (ReachesEnd base old new) }
-    ensures lists { let old = reading (P.state «package».old) cursor.old in
-        old.source.is_told ≡ true → IfOk result (λ lists. (formats : List WrittenFormat)
+    requires reading { IsReading xml.old }
+    requires within { base ≤ length xml.old.names }
+    ensures reads { ReadsPart Io result xml.old xml.new }
+    ensures reaches { xml.old.source.is_told ≡ true →
+        OnOk result (ReachesEnd base xml.old xml.new) }
+    ensures lists { xml.old.source.is_told ≡ true →
+        IfOk result (λ lists. (formats : List WrittenFormat)
         × AreCodes formats lists.codes
-        × (lists_in theme_colors.now (section_ahead base old) ≡ Ok (lists_said formats lists))) }
-    ensures err { let old = reading (P.state «package».old) cursor.old in
-        let new = reading (P.state «package».new) cursor.new in
-        let refused = IsInsideRefused (lists_in theme_colors.now) in
-        IfErr result (SectionFails end_in_styles refused base old new) }
+        × (lists_in theme_colors.now (section_ahead base xml.old) ≡ Ok (lists_said formats lists))) }
+    ensures err { let refused = IsInsideRefused (lists_in theme_colors.now) in
+        IfErr result (SectionFails end_in_styles refused base xml.old xml.new) }
     ensures kind { IfErr result AreStylesError }
 {
+    let alloc = xml.alloc();
     let mut lists = StyleLists::new(alloc);
     'lists: while let Some(_at) = next_element_in(
-        package,
-        cursor,
+        xml,
         base,
         &["numFmts", "fonts", "fills", "borders", "cellXfs"],
         "styleSheet",
     )? {
-        read_list(alloc, package, cursor, theme_colors, &mut lists)?;
+        read_list(xml, theme_colors, &mut lists)?;
     }
     Ok(lists)
 }

@@ -12,7 +12,7 @@ ghost use Rattle.xlsx_stylesheet.specs.StylesErrors.{AreStylesError};
 use crate::style_lists::lists_in;
 use cell_data::CellFormat;
 use cell_styles::{Color, Style};
-use part_events::Package;
+use part_events::{Package, XlReader};
 use std::alloc::{AllocError, Global};
 use xlsx_error::XlsxError;
 use xlsx_formats::Formatting;
@@ -50,36 +50,31 @@ fn from_formattings(alloc: Global, formattings: Vec<Formatting>) -> Result<Style
 /// A part that ends before its section of styles does is `XmlEof` with the name of the innermost
 /// list, element of a list or side of a border that is open, else `XmlEof("styleSheet")`.
 pub fn read_styles<P: Package>(
-    alloc: Global,
-    package: &mut P,
+    xml: &mut XlReader<P>,
     path: &str,
     theme_colors: &[Color],
 ) -> Result<StyleSheet, XlsxError>
-    ensures uses { let old = P.state «package».old in
-        let new = P.state «package».new in
-        Uses (event_count old.parts path.now) Io result old new }
-    ensures to_end { ReadsToEnd (codes "styleSheet") path.now result (P.state «package».old)
-        (P.state «package».new) }
-    ensures styles { let old = P.state «package».old in
-        old.is_told ≡ true → IfOk result (λ found.
-        HasStyles theme_colors.now old.parts path.now found.formats.items
+    ensures uses { Uses (event_count xml.old.source.parts path.now) Io result xml.old.source
+        xml.new.source }
+    ensures to_end { ReadsToEnd (codes "styleSheet") path.now result xml.old.source xml.new.source }
+    ensures styles { xml.old.source.is_told ≡ true → IfOk result (λ found.
+        HasStyles theme_colors.now xml.old.source.parts path.now found.formats.items
         (map style_said found.styles.items)) }
     ensures lengths { IfOk result (λ found.
         length found.formats.items ≡ length found.styles.items) }
-    ensures err { let old = P.state «package».old in
-        let new = P.state «package».new in
-        let refused = IsInsideRefused (cell_formats_in theme_colors.now) in
+    ensures err { let refused = IsInsideRefused (cell_formats_in theme_colors.now) in
         IfErr result (OptionalPartFails (codes "styleSheet") end_in_styles refused path.now
-        old new) }
+        xml.old.source xml.new.source) }
     ensures kind { IfErr result AreStylesError }
 {
-    let Some(mut cursor) = enter_part(alloc, package, path, "styleSheet")? else {
+    let alloc = xml.alloc();
+    if !enter_part(xml, path, "styleSheet")? {
         return Ok(StyleSheet {
             formats: Vec::new(alloc),
             styles: Vec::new(alloc),
         });
-    };
-    let base = cursor.depth();
-    let lists = lists_in(alloc, package, &mut cursor, base, theme_colors)?;
+    }
+    let base = xml.depth();
+    let lists = lists_in(xml, base, theme_colors)?;
     Ok(from_formattings(alloc, lists.formattings)?)
 }

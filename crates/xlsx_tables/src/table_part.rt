@@ -6,7 +6,7 @@ ghost use Rattle.std.specs.Result.{is_err};
 ghost use Rattle.cell_refs.specs.Positions.{are_sheet_bounds};
 ghost use Rattle.part_events.specs.Package.{Uses, event_count, part_of};
 ghost use Rattle.part_events.specs.Reader.{reading_by, SamePackage};
-ghost use Rattle.part_events.specs.Reading.{reading, open_elements, IsReading, ReadsPart};
+ghost use Rattle.part_events.specs.Reading.{IsReading, ReadsPart};
 ghost use Rattle.part_events.specs.Reading.{events_of};
 ghost use Rattle.part_events.specs.Walk.{section_ahead};
 ghost use Rattle.xlsx_error.specs.declared.error.XlsxError.TheVariants.{Io};
@@ -21,7 +21,7 @@ ghost use Rattle.xlsx_tables.specs.TableParts.{columns_in, table_of, table_kept}
 
 use crate::table_start::start_said;
 use cell_refs::Dimensions;
-use part_events::{Cursor, Package, StartTag, XlReader};
+use part_events::{Package, StartTag, XlReader};
 use std::alloc::Global;
 use xlsx_error::XlsxError;
 use xlsx_parts::{find_element, open_part};
@@ -67,72 +67,46 @@ impl Reads for Columns {
 }
 
 /// The names of the columns in a table whose element is number `base` of the open ones.
-fn columns_in<P: Package>(
-    alloc: Global,
-    package: &mut P,
-    cursor: &mut Cursor,
-    base: usize,
-) -> Result<Vec<String>, XlsxError>
-    requires reading { IsReading (reading (P.state «package».old) cursor.old) }
-    requires within { base ≤ length (open_elements cursor.old) }
-    ensures reads { let old = reading (P.state «package».old) cursor.old in
-        let new = reading (P.state «package».new) cursor.new in
-        ReadsPart Io result old new }
-    ensures depth { OnOk result (suc (length (open_elements cursor.new)) ≡ base) }
-    ensures reaches { let old = reading (P.state «package».old) cursor.old in
-        let new = reading (P.state «package».new) cursor.new in
-        old.source.is_told ≡ true → OnOk result (ReachesEnd base old new) }
-    ensures columns { let old = reading (P.state «package».old) cursor.old in
-        old.source.is_told ≡ true → IfOk result (λ columns.
-        columns_in (section_ahead base old) ≡ Ok (map string_bytes columns.items)) }
-    ensures err { let old = reading (P.state «package».old) cursor.old in
-        let new = reading (P.state «package».new) cursor.new in
-        IfErr result (SectionFails (always (codes "Table")) (IsInsideRefused columns_in) base
-        old new) }
+fn columns_in<P: Package>(xml: &mut XlReader<P>, base: usize) -> Result<Vec<String>, XlsxError>
+    requires reading { IsReading xml.old }
+    requires within { base ≤ length xml.old.names }
+    ensures reads { ReadsPart Io result xml.old xml.new }
+    ensures depth { OnOk result (suc (length xml.new.names) ≡ base) }
+    ensures reaches { xml.old.source.is_told ≡ true →
+        OnOk result (ReachesEnd base xml.old xml.new) }
+    ensures columns { xml.old.source.is_told ≡ true → IfOk result (λ columns.
+        columns_in (section_ahead base xml.old) ≡ Ok (map string_bytes columns.items)) }
+    ensures err { IfErr result
+        (SectionFails (always (codes "Table")) (IsInsideRefused columns_in) base
+        xml.old xml.new) }
     ensures kind { IfErr result IsTableError }
 {
-    keep_all(
-        alloc,
-        package,
-        cursor,
-        base,
-        &["tableColumn"],
-        "Table",
-        Columns { alloc },
-    )
+    let alloc = xml.alloc();
+    keep_all(xml, base, &["tableColumn"], "Table", Columns { alloc })
 }
 
 /// The first table of a part of which nothing was taken.
 #[tactic(auto, using(crate::proofs::TablesRead::break_error, crate::proofs::TablesRead::start_error))]
-fn table_of<P: Package>(
-    alloc: Global,
-    package: &mut P,
-    cursor: &mut Cursor,
-) -> Result<TablePart, XlsxError>
-    requires reading { IsReading (reading (P.state «package».old) cursor.old) }
-    requires first { (reading (P.state «package».old) cursor.old).at ≡ 0 }
-    ensures reads { let old = reading (P.state «package».old) cursor.old in
-        let new = reading (P.state «package».new) cursor.new in
-        ReadsPart Io result old new }
-    ensures ends { let old = reading (P.state «package».old) cursor.old in
-        let new = reading (P.state «package».new) cursor.new in
-        let count = section_events (codes "table") (events_of old) in
-        old.source.is_told ≡ true → OnOk result (new.at ≡ count) }
-    ensures table { let old = reading (P.state «package».old) cursor.old in
-        old.source.is_told ≡ true →
-        IfOk result (λ part. table_of (events_of old) ≡ Some (table_kept part)) }
+fn table_of<P: Package>(xml: &mut XlReader<P>) -> Result<TablePart, XlsxError>
+    requires reading { IsReading xml.old }
+    requires first { xml.old.at ≡ 0 }
+    ensures reads { ReadsPart Io result xml.old xml.new }
+    ensures ends { let count = section_events (codes "table") (events_of xml.old) in
+        xml.old.source.is_told ≡ true → OnOk result (xml.new.at ≡ count) }
+    ensures table { xml.old.source.is_told ≡ true →
+        IfOk result (λ part. table_of (events_of xml.old) ≡ Some (table_kept part)) }
     ensures inside { IfOk result (λ part. are_sheet_bounds part.area ≡ true) }
-    ensures err { let old = reading (P.state «package».old) cursor.old in
-        let new = reading (P.state «package».new) cursor.new in
-        IfErr result (FailsBy (TableCause (events_of old)) old.source new.source) }
+    ensures err { IfErr result
+        (FailsBy (TableCause (events_of xml.old)) xml.old.source xml.new.source) }
     ensures kind { IfErr result IsTableError }
 {
-    let Some(at) = find_element(package, cursor, "table")? else {
+    let alloc = xml.alloc();
+    let Some(at) = find_element(xml, "table")? else {
         return Err(XlsxError::XmlEof("Table"));
     };
-    let begun = start_said(alloc, start_tag(package), at)?;
-    let base = cursor.depth();
-    let columns = columns_in(alloc, package, cursor, base)?;
+    let begun = start_said(alloc, start_tag(xml), at)?;
+    let base = xml.depth();
+    let columns = columns_in(xml, base)?;
     Ok(TablePart {
         display_name: begun.name,
         columns,
@@ -185,29 +159,25 @@ pub fn read_table_part<P: Package>(xml: &mut XlReader<'_, P>) -> Result<TablePar
 ///
 /// Fails as `read_table_part`.
 pub fn read_table_at<P: Package>(
-    alloc: Global,
-    package: &mut P,
+    xml: &mut XlReader<P>,
     path: &str,
 ) -> Result<Option<TablePart>, XlsxError>
-    ensures uses { let old = P.state «package».old in
-        let new = P.state «package».new in
-        Uses (event_count old.parts path.now) Io result old new }
-    ensures to_end { ReadsToEnd (codes "table") path.now result (P.state «package».old)
-        (P.state «package».new) }
-    ensures table { let old = P.state «package».old in
+    ensures uses { Uses (event_count xml.old.source.parts path.now) Io result xml.old.source
+        xml.new.source }
+    ensures to_end { ReadsToEnd (codes "table") path.now result xml.old.source xml.new.source }
+    ensures table { let old = xml.old.source in
         old.is_told ≡ true → IfOk result (λ found. MatchOption found
         (part_of old.parts path.now ≡ None)
-        (λ part. option_and_then table_of (part_of old.parts path.now)
-        ≡ Some (table_kept part))) }
+        (λ part. option_and_then table_of (part_of old.parts path.now) ≡ Some (table_kept part))) }
     ensures inside { IfOk result (λ found. IfSome found (λ part.
         are_sheet_bounds part.area ≡ true)) }
-    ensures err { let old = P.state «package».old in
-        IfErr result (FailsBy (IfThere TableCause (part_of old.parts path.now)) old
-        (P.state «package».new)) }
+    ensures err { IfErr result
+        (FailsBy (IfThere TableCause (part_of xml.old.source.parts path.now)) xml.old.source
+        xml.new.source) }
     ensures kind { IfErr result IsTableError }
 {
-    let Some(mut cursor) = open_part(alloc, package, path)? else {
+    if !open_part(xml, path)? {
         return Ok(None);
-    };
-    Ok(Some(table_of(alloc, package, &mut cursor)?))
+    }
+    Ok(Some(table_of(xml)?))
 }

@@ -10,7 +10,7 @@ ghost use Rattle.xlsx_tables.specs.declared.loaded.LoadedTable.{LoadedTable};
 
 use crate::loaded::LoadedTable;
 use crate::table_part::{TablePart, read_table_at};
-use part_events::Package;
+use part_events::{Package, XlReader};
 use std::alloc::{AllocError, Global};
 use xlsx_error::XlsxError;
 use xlsx_relationships::{ReadsRelated, push_related};
@@ -60,11 +60,11 @@ impl ReadsRelated for TableReader {
     /// A part that is absent has no table.
     fn push<P: Package>(
         &self,
-        package: &mut P,
+        xml: &mut XlReader<P>,
         tables: &mut Vec<LoadedTable>,
         path: &str,
     ) -> Result<(), XlsxError> {
-        let part = read_table_at(self.alloc, package, path)?;
+        let part = read_table_at(xml, path)?;
         push_part(tables, self.sheet, part)?;
         Ok(())
     }
@@ -77,8 +77,7 @@ impl ReadsRelated for TableReader {
 /// Fails as `related_parts` of this type, and by one of the tables as `read_table_part`. After a
 /// refusal some of them may be appended, behind those that were there.
 pub fn read_sheet_tables<P: Package>(
-    alloc: Global,
-    package: &mut P,
+    xml: &mut XlReader<P>,
     tables: &mut Vec<LoadedTable>,
     sheet: usize,
     path: &str,
@@ -86,9 +85,10 @@ pub fn read_sheet_tables<P: Package>(
     ensures answers { let before = map loaded_of tables.old.items in
         let after = map loaded_of tables.new.items in
         Appends (map_each (on_sheet sheet) (tables_ask path.now)) before after result
-        (P.state «package».old) (P.state «package».new) }
+        xml.old.source xml.new.source }
     ensures kept { (more : List LoadedTable) × (tables.new.items ≡ tables.old.items ++ more) }
 {
+    let alloc = xml.alloc();
     let by = TableReader { alloc, sheet };
-    push_related(alloc, package, tables, path, TABLE_TYPE, &by)
+    push_related(xml, tables, path, TABLE_TYPE, &by)
 }

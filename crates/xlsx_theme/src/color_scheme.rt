@@ -1,6 +1,6 @@
 ghost use Rattle.std.specs.Prelude.{◌≡◌, ◌≤◌, length, true, None, Ok, IfOk, OnOk, IfErr};
 ghost use Rattle.std.specs.Prelude.{option_map, IfSome};
-ghost use Rattle.part_events.specs.Reading.{Reading, reading, open_elements, IsReading, ReadsPart};
+ghost use Rattle.part_events.specs.Reading.{Reading, IsReading, ReadsPart};
 ghost use Rattle.part_events.specs.Walk.{section_ahead};
 ghost use Rattle.xlsx_error.specs.declared.error.XlsxError.TheVariants.{Io};
 ghost use Rattle.xlsx_sections.specs.Elements.{IsInsideRefused, IsEndError, ReachesEnd};
@@ -12,47 +12,35 @@ ghost use Rattle.xlsx_theme.specs.ColorScheme.{IsSchemeError};
 
 use crate::slot::read_slot;
 use cell_styles::Color;
-use part_events::{Cursor, Package, Step, XmlFault};
-use std::alloc::Global;
+use part_events::{Package, Step, XlReader, XmlFault};
 use xlsx_error::XlsxError;
 
 /// Reads on to the next slot of a scheme, whose element is number `base` of the open ones, counted
 /// from 1. Answers the number of the slot's start in its part, counted from 0, and None at the
 /// scheme's end.
-fn next_slot<P: Package>(
-    package: &mut P,
-    cursor: &mut Cursor,
-    base: usize,
-) -> Result<Option<u64>, XlsxError>
-    requires reading { IsReading (reading (P.state «package».old) cursor.old) }
-    requires within { base ≤ length (open_elements cursor.old) }
-    ensures reads { ReadsPart Io result (reading (P.state «package».old) cursor.old)
-        (reading (P.state «package».new) cursor.new) }
-    ensures stands { let old = reading (P.state «package».old) cursor.old in
-        let new = reading (P.state «package».new) cursor.new in
-        IfOk result (λ found. StandsAtStart is_slot base found old new) }
-    ensures found { let old = reading (P.state «package».old) cursor.old in
-        let new = reading (P.state «package».new) cursor.new in
-        old.source.is_told ≡ true →
-        IfOk result (λ found. FindsElementIn is_slot base found old new) }
-    ensures step { let old = reading (P.state «package».old) cursor.old in
-        let new = reading (P.state «package».new) cursor.new in
-        IfOk result (λ found. (first : Reading) → KeepsElements is_slot base first old →
-        StepsToElement is_slot base found first old new) }
-    ensures refused { let old = reading (P.state «package».old) cursor.old in
-        let new = reading (P.state «package».new) cursor.new in
-        IfErr result (λ error. (first : Reading) → KeepsElements is_slot base first old →
-        SectionFails (named_end None) Never base first new error) }
+fn next_slot<P: Package>(xml: &mut XlReader<P>, base: usize) -> Result<Option<u64>, XlsxError>
+    requires reading { IsReading xml.old }
+    requires within { base ≤ length xml.old.names }
+    ensures reads { ReadsPart Io result xml.old xml.new }
+    ensures stands { IfOk result (λ found. StandsAtStart is_slot base found xml.old xml.new) }
+    ensures found { xml.old.source.is_told ≡ true →
+        IfOk result (λ found. FindsElementIn is_slot base found xml.old xml.new) }
+    ensures step { IfOk result (λ found. (first : Reading) →
+        KeepsElements is_slot base first xml.old →
+        StepsToElement is_slot base found first xml.old xml.new) }
+    ensures refused { IfErr result (λ error. (first : Reading) →
+        KeepsElements is_slot base first xml.old →
+        SectionFails (named_end None) Never base first xml.new error) }
     ensures kind { IfErr result (IsEndError None) }
 {
     let names = [
         "dk1", "lt1", "dk2", "lt2", "accent1", "accent2", "accent3", "accent4", "accent5",
         "accent6", "hlink", "folHlink",
     ];
-    match cursor.next_element(package, base, &names)? {
-        Step::Found => Ok(Some(cursor.at() - 1)),
+    match xml.next_element(base, &names)? {
+        Step::Found => Ok(Some(xml.at() - 1)),
         Step::Closed => Ok(None),
-        Step::Ended => Err(XlsxError::Xml(XmlFault::Unclosed { at: cursor.at() })),
+        Step::Ended => Err(XlsxError::Xml(XmlFault::Unclosed { at: xml.at() })),
     }
 }
 
@@ -60,29 +48,24 @@ fn next_slot<P: Package>(
 /// Reads to the scheme's end. A part that ends in it is `Xml(Unclosed)`.
 #[tactic(auto, using(crate::proofs::SchemeRead::step_kind))]
 pub(crate) fn read_slots<P: Package>(
-    alloc: Global,
-    package: &mut P,
-    cursor: &mut Cursor,
+    xml: &mut XlReader<P>,
     base: usize,
 ) -> Result<Vec<Color>, XlsxError>
-    requires reading { IsReading (reading (P.state «package».old) cursor.old) }
-    requires within { base ≤ length (open_elements cursor.old) }
-    ensures reads { ReadsPart Io result (reading (P.state «package».old) cursor.old)
-        (reading (P.state «package».new) cursor.new) }
-    ensures reaches { let old = reading (P.state «package».old) cursor.old in
-        let new = reading (P.state «package».new) cursor.new in
-        old.source.is_told ≡ true → OnOk result (ReachesEnd base old new) }
-    ensures colors { let old = reading (P.state «package».old) cursor.old in
-        old.source.is_told ≡ true →
-        IfOk result (λ colors. slot_colors (section_ahead base old) ≡ Ok colors.items) }
-    ensures err { let old = reading (P.state «package».old) cursor.old in
-        let new = reading (P.state «package».new) cursor.new in
-        IfErr result (SectionFails (named_end None) (IsInsideRefused slot_colors) base old new) }
+    requires reading { IsReading xml.old }
+    requires within { base ≤ length xml.old.names }
+    ensures reads { ReadsPart Io result xml.old xml.new }
+    ensures reaches { xml.old.source.is_told ≡ true →
+        OnOk result (ReachesEnd base xml.old xml.new) }
+    ensures colors { xml.old.source.is_told ≡ true →
+        IfOk result (λ colors. slot_colors (section_ahead base xml.old) ≡ Ok colors.items) }
+    ensures err { IfErr result
+        (SectionFails (named_end None) (IsInsideRefused slot_colors) base xml.old xml.new) }
     ensures kind { IfErr result IsSchemeError }
 {
+    let alloc = xml.alloc();
     let mut colors = Vec::new(alloc);
-    'slots: while let Some(_at) = next_slot(package, cursor, base)? {
-        colors.push(read_slot(package, cursor)?)?;
+    'slots: while let Some(_at) = next_slot(xml, base)? {
+        colors.push(read_slot(xml)?)?;
     }
     Ok(colors)
 }

@@ -2,7 +2,7 @@ ghost use Rattle.std.specs.Prelude.{◌≡◌, ◌≤◌, ℕ, length, true, Non
 ghost use Rattle.std.specs.Prelude.{IfErr, MatchResult, option_and_then};
 ghost use Rattle.std.specs.Option.{option_copied};
 ghost use Rattle.part_events.specs.Event.{tag_of};
-ghost use Rattle.part_events.specs.Reading.{Reading, reading, open_elements, IsReading};
+ghost use Rattle.part_events.specs.Reading.{Reading, IsReading};
 ghost use Rattle.part_events.specs.Reading.{IsReadingElement, ReadsPart};
 ghost use Rattle.xlsx_error.specs.declared.error.XlsxError.TheVariants.{Io};
 ghost use Rattle.xlsx_sections.specs.Elements.{IsEndError, KeepsStarts, named_end};
@@ -16,7 +16,7 @@ ghost use Rattle.xlsx_theme.specs.ColorScheme.{unless_given, slot_color, IsSchem
 
 use attr_text::{AttrFault, RawAttributes, get_attrs};
 use cell_styles::Color;
-use part_events::{Cursor, Package, StartTag, Step, XmlFault};
+use part_events::{Package, StartTag, Step, XlReader, XmlFault};
 use xlsx_error::XlsxError;
 use xlsx_sections::start_tag;
 use xlsx_styles::hex_color;
@@ -53,36 +53,23 @@ fn keep_first(kept: &mut Option<Color>, tag: StartTag<'_>) -> Result<(), AttrFau
 /// Reads on to the next start that may say a color, in the slot that is number `base` of the open
 /// elements, counted from 1. Answers the number of the start in its part, counted from 0, and None
 /// at the slot's end.
-fn next_model<P: Package>(
-    package: &mut P,
-    cursor: &mut Cursor,
-    base: usize,
-) -> Result<Option<u64>, XlsxError>
-    requires reading { IsReading (reading (P.state «package».old) cursor.old) }
-    requires within { base ≤ length (open_elements cursor.old) }
-    ensures reads { ReadsPart Io result (reading (P.state «package».old) cursor.old)
-        (reading (P.state «package».new) cursor.new) }
-    ensures stands { let old = reading (P.state «package».old) cursor.old in
-        let new = reading (P.state «package».new) cursor.new in
-        IfOk result (λ found. StandsAtStart is_color_model base found old new) }
-    ensures found { let old = reading (P.state «package».old) cursor.old in
-        let new = reading (P.state «package».new) cursor.new in
-        old.source.is_told ≡ true →
-        IfOk result (λ found. FindsStartIn is_color_model base found old new) }
-    ensures step { let old = reading (P.state «package».old) cursor.old in
-        let new = reading (P.state «package».new) cursor.new in
-        IfOk result (λ found. (first : Reading) → KeepsStarts base first old →
-        StepsToStart is_color_model base found first old new) }
-    ensures refused { let old = reading (P.state «package».old) cursor.old in
-        let new = reading (P.state «package».new) cursor.new in
-        IfErr result (λ error. (first : Reading) → KeepsStarts base first old →
-        SectionFails (named_end None) Never base first new error) }
+fn next_model<P: Package>(xml: &mut XlReader<P>, base: usize) -> Result<Option<u64>, XlsxError>
+    requires reading { IsReading xml.old }
+    requires within { base ≤ length xml.old.names }
+    ensures reads { ReadsPart Io result xml.old xml.new }
+    ensures stands { IfOk result (λ found. StandsAtStart is_color_model base found xml.old xml.new) }
+    ensures found { xml.old.source.is_told ≡ true →
+        IfOk result (λ found. FindsStartIn is_color_model base found xml.old xml.new) }
+    ensures step { IfOk result (λ found. (first : Reading) → KeepsStarts base first xml.old →
+        StepsToStart is_color_model base found first xml.old xml.new) }
+    ensures refused { IfErr result (λ error. (first : Reading) → KeepsStarts base first xml.old →
+        SectionFails (named_end None) Never base first xml.new error) }
     ensures kind { IfErr result (IsEndError None) }
 {
-    match cursor.next_start(package, base, &["srgbClr", "sysClr"])? {
-        Step::Found => Ok(Some(cursor.at() - 1)),
+    match xml.next_start(base, &["srgbClr", "sysClr"])? {
+        Step::Found => Ok(Some(xml.at() - 1)),
         Step::Closed => Ok(None),
-        Step::Ended => Err(XlsxError::Xml(XmlFault::Unclosed { at: cursor.at() })),
+        Step::Ended => Err(XlsxError::Xml(XmlFault::Unclosed { at: xml.at() })),
     }
 }
 
@@ -91,19 +78,15 @@ fn next_model<P: Package>(
 ///
 /// A part that ends in the slot is `Xml(Unclosed)`.
 #[tactic(auto, using(crate::proofs::SchemeRead::step_kind))]
-pub(crate) fn read_slot<P: Package>(
-    package: &mut P,
-    cursor: &mut Cursor,
-) -> Result<Color, XlsxError>
-    requires element { IsReadingElement (reading (P.state «package».old) cursor.old) }
-    ensures { ReadsInside slot_color (λ color. color) (named_end None) IsSchemeError result
-        (reading (P.state «package».old) cursor.old)
-        (reading (P.state «package».new) cursor.new) }
+pub(crate) fn read_slot<P: Package>(xml: &mut XlReader<P>) -> Result<Color, XlsxError>
+    requires element { IsReadingElement xml.old }
+    ensures { ReadsInside slot_color (λ color. color) (named_end None) IsSchemeError result xml.old
+        xml.new }
 {
-    let base = cursor.depth();
+    let base = xml.depth();
     let mut color = None;
-    'models: while let Some(_at) = next_model(package, cursor, base)? {
-        keep_first(&mut color, start_tag(package))?;
+    'models: while let Some(_at) = next_model(xml, base)? {
+        keep_first(&mut color, start_tag(xml))?;
     }
     Ok(color.unwrap_or(Color::rgb(0, 0, 0)))
 }

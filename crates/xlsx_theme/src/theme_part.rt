@@ -1,7 +1,7 @@
 ghost use Rattle.std.specs.Prelude.{◌≡◌, ℕ, None, codes, true, IfOk, OnOk, IfErr};
 ghost use Rattle.part_events.specs.Package.{Uses, CountsUp, event_count};
 ghost use Rattle.part_events.specs.Reader.{reading_by, SamePackage};
-ghost use Rattle.part_events.specs.Reading.{reading, IsReading, ReadsPart, ahead, events_of};
+ghost use Rattle.part_events.specs.Reading.{IsReading, ReadsPart, ahead, events_of};
 ghost use Rattle.xlsx_error.specs.declared.error.XlsxError.TheVariants.{Io};
 ghost use Rattle.xlsx_sections.specs.Failing.{SoundFails};
 ghost use Rattle.xlsx_sections.specs.SectionEvents.{section_events};
@@ -11,7 +11,7 @@ ghost use Rattle.xlsx_theme.specs.ThemePart.{behind_scheme, ReadThemeFails, Take
 
 use crate::color_scheme::{numbered, read_slots};
 use cell_styles::Color;
-use part_events::{Cursor, Package, Step, XlReader};
+use part_events::{Package, Step, XlReader};
 use std::alloc::{AllocError, Global};
 use xlsx_error::XlsxError;
 use xlsx_styles::default_theme_colors;
@@ -49,34 +49,24 @@ fn theme_of(alloc: Global, slots: Vec<Color>) -> Result<ThemeColors, AllocError>
 }
 
 /// The colors that the part says of which nothing was taken, up to the end of its first scheme.
-fn read_scheme<P: Package>(
-    alloc: Global,
-    package: &mut P,
-    cursor: &mut Cursor,
-) -> Result<ThemeColors, XlsxError>
-    requires reading { IsReading (reading (P.state «package».old) cursor.old) }
-    requires first { (reading (P.state «package».old) cursor.old).at ≡ 0 }
-    ensures reads { ReadsPart Io result (reading (P.state «package».old) cursor.old)
-        (reading (P.state «package».new) cursor.new) }
-    ensures behind { let old = reading (P.state «package».old) cursor.old in
-        let new = reading (P.state «package».new) cursor.new in
-        old.source.is_told ≡ true → OnOk result (ahead new ≡ behind_scheme (ahead old)) }
-    ensures ends { let old = reading (P.state «package».old) cursor.old in
-        let new = reading (P.state «package».new) cursor.new in
-        let count = section_events (codes "clrScheme") (events_of old) in
-        old.source.is_told ≡ true → OnOk result (new.at ≡ count) }
-    ensures theme { let old = reading (P.state «package».old) cursor.old in
-        old.source.is_told ≡ true → IfOk result (SaysTheme (events_of old)) }
+fn read_scheme<P: Package>(xml: &mut XlReader<P>) -> Result<ThemeColors, XlsxError>
+    requires reading { IsReading xml.old }
+    requires first { xml.old.at ≡ 0 }
+    ensures reads { ReadsPart Io result xml.old xml.new }
+    ensures behind { xml.old.source.is_told ≡ true →
+        OnOk result (ahead xml.new ≡ behind_scheme (ahead xml.old)) }
+    ensures ends { let count = section_events (codes "clrScheme") (events_of xml.old) in
+        xml.old.source.is_told ≡ true → OnOk result (xml.new.at ≡ count) }
+    ensures theme { xml.old.source.is_told ≡ true → IfOk result (SaysTheme (events_of xml.old)) }
     ensures form { IfOk result IsTheme }
-    ensures err { let old = reading (P.state «package».old) cursor.old in
-        let new = reading (P.state «package».new) cursor.new in
-        IfErr result (ReadThemeFails old new) }
+    ensures err { IfErr result (ReadThemeFails xml.old xml.new) }
     ensures kind { IfErr result IsSchemeError }
 {
-    match cursor.next_start(package, 0, &["clrScheme"])? {
+    let alloc = xml.alloc();
+    match xml.next_start(0, &["clrScheme"])? {
         Step::Found => {
-            let base = cursor.depth();
-            let slots = read_slots(alloc, package, cursor, base)?;
+            let base = xml.depth();
+            let slots = read_slots(xml, base)?;
             Ok(theme_of(alloc, slots)?)
         }
         Step::Ended => Ok(default_theme(alloc)?),
@@ -114,28 +104,23 @@ pub fn read_theme_colors<P: Package>(xml: &mut XlReader<'_, P>) -> Result<ThemeC
 /// The colors of the theme whose part is at this path. The default theme stands also where the part
 /// is absent, and where its reading is refused as `Xml` or `XmlAttr`. So this call is refused only
 /// for want of memory, and by a fault of the package.
-pub fn read_theme<P: Package>(
-    alloc: Global,
-    package: &mut P,
-    path: &str,
-) -> Result<ThemeColors, XlsxError>
-    ensures uses { let old = P.state «package».old in
-        let new = P.state «package».new in
-        Uses (event_count old.parts path.now) Io result old new }
-    ensures to_end { let old = P.state «package».old in
-        let new = P.state «package».new in
+pub fn read_theme<P: Package>(xml: &mut XlReader<P>, path: &str) -> Result<ThemeColors, XlsxError>
+    ensures uses { Uses (event_count xml.old.source.parts path.now) Io result xml.old.source
+        xml.new.source }
+    ensures to_end { let old = xml.old.source in
         old.is_told ≡ true → OnOk result ((count : ℕ)
-        × TakesTheme old.parts path.now count × CountsUp count old.taken new.taken) }
-    ensures theme { let old = P.state «package».old in
-        old.is_told ≡ true → IfOk result (HasTheme old.parts path.now) }
+        × TakesTheme old.parts path.now count × CountsUp count old.taken xml.new.source.taken) }
+    ensures theme { xml.old.source.is_told ≡ true →
+        IfOk result (HasTheme xml.old.source.parts path.now) }
     ensures form { IfOk result IsTheme }
-    ensures err { IfErr result (SoundFails (P.state «package».old) (P.state «package».new)) }
+    ensures err { IfErr result (SoundFails xml.old.source xml.new.source) }
 {
-    if !package.open(path)? {
+    let alloc = xml.alloc();
+    if !xml.open(path)? {
         return Ok(default_theme(alloc)?);
     }
-    let mut cursor = Cursor::new(alloc, package);
-    match read_scheme(alloc, package, &mut cursor) {
+    let mut cursor = Cursor::new(xml);
+    match read_scheme(xml) {
         Err(XlsxError::Xml(_)) => Ok(default_theme(alloc)?),
         Err(XlsxError::XmlAttr(_)) => Ok(default_theme(alloc)?),
         answer => answer,

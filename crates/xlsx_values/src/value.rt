@@ -1,5 +1,5 @@
 ghost use Rattle.std.specs.Prelude.{◌≡◌, true, Ok, Some, codes, option_map, IfOk, IfErr};
-ghost use Rattle.part_events.specs.Reading.{reading, IsReadingElement, ReadsElement, ahead};
+ghost use Rattle.part_events.specs.Reading.{IsReadingElement, ReadsElement, ahead};
 ghost use Rattle.part_events.specs.Section.{content};
 ghost use Rattle.cell_data.specs.CellValue.{value_of_data_ref};
 ghost use Rattle.xlsx_error.specs.declared.error.XlsxError.TheVariants.{Io};
@@ -14,8 +14,7 @@ use crate::book::Book;
 use crate::text_value::{value_of_event, value_of_joined};
 use crate::types::CellType;
 use cell_data::{CellFormat, DataRef};
-use part_events::{Cursor, Package, Step};
-use std::alloc::Global;
+use part_events::{Package, Step, XlReader};
 use xlsx_error::XlsxError;
 use xlsx_sections::{read_element_text, read_to_end, skip_element_in};
 use xlsx_strings::read_string;
@@ -23,61 +22,48 @@ use xlsx_strings::read_string;
 /// The value of the `v` at whose start the package stands, by its first event. Reads to its end.
 #[tactic(auto, using(crate::proofs::ValuesRead::value_errors))]
 fn read_first<P: Package>(
-    alloc: Global,
-    package: &mut P,
-    cursor: &mut Cursor,
+    xml: &mut XlReader<P>,
     book: Book<'_>,
     format: CellFormat,
     typ: &CellType,
 ) -> Result<DataRef, XlsxError>
-    requires element { IsReadingElement (reading (P.state «package».old) cursor.old) }
-    ensures reads { let old = reading (P.state «package».old) cursor.old in
-        let new = reading (P.state «package».new) cursor.new in
-        ReadsElement Io result old new }
-    ensures value { let old = reading (P.state «package».old) cursor.old in
-        let answer = first_event_value (grounds_of book.entry) format (kind_of typ.now) in
-        old.source.is_told ≡ true → IfOk result (λ own.
-        answer (content 0 (ahead old)) ≡ Ok (value_of_data_ref own)) }
-    ensures err { let old = reading (P.state «package».old) cursor.old in
-        let new = reading (P.state «package».new) cursor.new in
-        let answer = first_event_value (grounds_of book.entry) format (kind_of typ.now) in
-        IfErr result (ElementReadFails end_in_first answer old new) }
+    requires element { IsReadingElement xml.old }
+    ensures reads { ReadsElement Io result xml.old xml.new }
+    ensures value { let answer = first_event_value (grounds_of book.entry) format (kind_of typ.now)
+        in
+        xml.old.source.is_told ≡ true → IfOk result (λ own.
+        answer (content 0 (ahead xml.old)) ≡ Ok (value_of_data_ref own)) }
+    ensures err { let answer = first_event_value (grounds_of book.entry) format (kind_of typ.now) in
+        IfErr result (ElementReadFails end_in_first answer xml.old xml.new) }
     ensures kind { IfErr result IsValueError }
 {
-    let depth = cursor.depth();
-    match cursor.next_inside(package, depth)? {
+    let alloc = xml.alloc();
+    let depth = xml.depth();
+    match xml.next_inside(depth)? {
         Step::Found => {}
         Step::Closed => return Ok(DataRef::Empty),
         Step::Ended => return Err(XlsxError::XmlEof("v")),
     }
-    let value = value_of_event(alloc, book, format, typ, package.event())?;
-    read_to_end(package, cursor, depth, None)?;
+    let value = value_of_event(alloc, book, format, typ, xml.event())?;
+    read_to_end(xml, depth, None)?;
     Ok(value)
 }
 
 /// The value of the `v` at whose start the package stands, by its joined text. Reads to its end.
 #[tactic(auto, using(crate::proofs::ValuesRead::value_errors))]
-fn read_joined<P: Package>(
-    alloc: Global,
-    package: &mut P,
-    cursor: &mut Cursor,
-    typ: &CellType,
-) -> Result<DataRef, XlsxError>
-    requires element { IsReadingElement (reading (P.state «package».old) cursor.old) }
-    ensures reads { let old = reading (P.state «package».old) cursor.old in
-        let new = reading (P.state «package».new) cursor.new in
-        ReadsElement Io result old new }
-    ensures value { let old = reading (P.state «package».old) cursor.old in
-        old.source.is_told ≡ true → IfOk result (λ own.
-        joined_value (kind_of typ.now) (content 0 (ahead old)) ≡ Ok (value_of_data_ref own)) }
-    ensures err { let old = reading (P.state «package».old) cursor.old in
-        let new = reading (P.state «package».new) cursor.new in
-        IfErr result (ElementReadFails (always (codes "v")) (joined_value (kind_of typ.now))
-        old new) }
+fn read_joined<P: Package>(xml: &mut XlReader<P>, typ: &CellType) -> Result<DataRef, XlsxError>
+    requires element { IsReadingElement xml.old }
+    ensures reads { ReadsElement Io result xml.old xml.new }
+    ensures value { xml.old.source.is_told ≡ true → IfOk result (λ own.
+        joined_value (kind_of typ.now) (content 0 (ahead xml.old)) ≡ Ok (value_of_data_ref own)) }
+    ensures err { IfErr result
+        (ElementReadFails (always (codes "v")) (joined_value (kind_of typ.now))
+        xml.old xml.new) }
     ensures kind { IfErr result IsValueError }
 {
+    let alloc = xml.alloc();
     let mut text = String::new(alloc);
-    read_element_text(package, cursor, &mut text, false, "v")?;
+    read_element_text(xml, &mut text, false, "v")?;
     value_of_joined(alloc, typ, text)
 }
 
@@ -93,41 +79,34 @@ fn read_joined<P: Package>(
 /// (`Io`); and want of memory.
 #[tactic(auto, using(crate::proofs::ValuesRead::value_errors))]
 pub fn read_value<P: Package>(
-    alloc: Global,
-    package: &mut P,
-    cursor: &mut Cursor,
+    xml: &mut XlReader<P>,
     book: Book<'_>,
     format: CellFormat,
     typ: &CellType,
 ) -> Result<Option<DataRef>, XlsxError>
-    requires element { IsReadingElement (reading (P.state «package».old) cursor.old) }
-    ensures reads { let old = reading (P.state «package».old) cursor.old in
-        let new = reading (P.state «package».new) cursor.new in
-        ReadsElement Io result old new }
-    ensures value { let old = reading (P.state «package».old) cursor.old in
-        let answer = value_element (grounds_of book.entry) format (kind_of typ.now) in
-        old.source.is_told ≡ true → IfOk result (λ found.
-        answer (content 0 (ahead old)) ≡ Ok (option_map value_of_data_ref found)) }
-    ensures err { let old = reading (P.state «package».old) cursor.old in
-        let new = reading (P.state «package».new) cursor.new in
-        let kind = kind_of typ.now in
+    requires element { IsReadingElement xml.old }
+    ensures reads { ReadsElement Io result xml.old xml.new }
+    ensures value { let answer = value_element (grounds_of book.entry) format (kind_of typ.now) in
+        xml.old.source.is_told ≡ true → IfOk result (λ found.
+        answer (content 0 (ahead xml.old)) ≡ Ok (option_map value_of_data_ref found)) }
+    ensures err { let kind = kind_of typ.now in
         let answer = value_element (grounds_of book.entry) format kind in
-        IfErr result (ElementReadFails (end_in_value kind) answer old new) }
+        IfErr result (ElementReadFails (end_in_value kind) answer xml.old xml.new) }
     ensures kind { IfErr result IsValueError }
 {
     match typ {
         CellType::Inline => {
-            skip_element_in(package, cursor, None)?;
+            skip_element_in(xml, None)?;
             Ok(None)
         }
         CellType::Text | CellType::Date | CellType::Unknown(_) => {
-            Ok(Some(read_joined(alloc, package, cursor, typ)?))
+            Ok(Some(read_joined(xml, typ)?))
         }
         CellType::Untyped
         | CellType::Number
         | CellType::Shared
         | CellType::Truth
-        | CellType::Error => { Ok(Some(read_first(alloc, package, cursor, book, format, typ)?)) }
+        | CellType::Error => { Ok(Some(read_first(xml, book, format, typ)?)) }
     }
 }
 
@@ -139,25 +118,17 @@ pub fn read_value<P: Package>(
 /// A lookup of its attributes is refused (`XmlAttr`), a reference in it has no character, its
 /// nesting breaks, or the part ends in it (`Xml`, `XmlEof`); the package fails (`Io`); and want of
 /// memory.
-pub fn read_inline<P: Package>(
-    alloc: Global,
-    package: &mut P,
-    cursor: &mut Cursor,
-) -> Result<DataRef, XlsxError>
-    requires element { IsReadingElement (reading (P.state «package».old) cursor.old) }
-    ensures reads { let old = reading (P.state «package».old) cursor.old in
-        let new = reading (P.state «package».new) cursor.new in
-        ReadsElement Io result old new }
-    ensures value { let old = reading (P.state «package».old) cursor.old in
-        old.source.is_told ≡ true → IfOk result (λ own.
-        inline_value (content 0 (ahead old)) ≡ Ok (value_of_data_ref own)) }
-    ensures err { let old = reading (P.state «package».old) cursor.old in
-        let new = reading (P.state «package».new) cursor.new in
-        IfErr result (ElementReadFails end_in_string inline_value old new) }
+pub fn read_inline<P: Package>(xml: &mut XlReader<P>) -> Result<DataRef, XlsxError>
+    requires element { IsReadingElement xml.old }
+    ensures reads { ReadsElement Io result xml.old xml.new }
+    ensures value { xml.old.source.is_told ≡ true → IfOk result (λ own.
+        inline_value (content 0 (ahead xml.old)) ≡ Ok (value_of_data_ref own)) }
+    ensures err { IfErr result (ElementReadFails end_in_string inline_value xml.old xml.new) }
     ensures kind { IfErr result IsStringError }
 {
+    let alloc = xml.alloc();
     let mut text = String::new(alloc);
     let mut scratch = String::new(alloc);
-    read_string(alloc, package, cursor, &mut text, &mut scratch)?;
+    read_string(xml, &mut text, &mut scratch)?;
     Ok(DataRef::String(text))
 }

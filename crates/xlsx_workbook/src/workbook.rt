@@ -5,7 +5,7 @@ ghost use Rattle.std.specs.Arc.{arc_str_bytes};
 ghost use Rattle.part_events.specs.Event.{Event, start, tag_of, event_of};
 ghost use Rattle.part_events.specs.JoinedText.{event_text, is_unknown};
 ghost use Rattle.part_events.specs.Package.{Uses, part_of, event_count};
-ghost use Rattle.part_events.specs.Reading.{reading, open_elements, IsReading, ReadsElement};
+ghost use Rattle.part_events.specs.Reading.{IsReading, ReadsElement};
 ghost use Rattle.part_events.specs.Reading.{ReadsPart, ahead};
 ghost use Rattle.part_events.specs.Section.{content};
 ghost use Rattle.part_events.specs.Walk.{section_ahead, is_closed_ahead, section_end};
@@ -26,7 +26,7 @@ ghost use Rattle.xlsx_workbook.specs.WorkbookErrors.{IsWorkbookError};
 
 use crate::sheet::SheetEntry;
 use crate::sheet_element::{keep_epoch, push_sheet};
-use part_events::{Cursor, Package, PartEvent, StartTag};
+use part_events::{Package, PartEvent, StartTag, XlReader};
 use std::alloc::Global;
 use std::collections::BTreeMap;
 use std::sync::ArcStr;
@@ -167,38 +167,29 @@ fn read_name<P: Package>(
     alloc: Global,
     found: &mut WorkbookContents,
     places: SheetPlaces<'_>,
-    package: &mut P,
-    cursor: &mut Cursor,
+    xml: &mut XlReader<P>,
     base: usize,
     name: Option<String>,
 ) -> Result<(), XlsxError>
-    requires reading { IsReading (reading (P.state «package».old) cursor.old) }
-    requires within { base < length (open_elements cursor.old) }
-    ensures reads { let old = reading (P.state «package».old) cursor.old in
-        let new = reading (P.state «package».new) cursor.new in
-        ReadsElement Io result old new }
-    ensures section { let old = reading (P.state «package».old) cursor.old in
-        let new = reading (P.state «package».new) cursor.new in
-        OnOk result (KeepsSection base old new) }
-    ensures sheets { let old = reading (P.state «package».old) cursor.old in
-        let new = reading (P.state «package».new) cursor.new in
-        old.source.is_told ≡ true → OnOk result (KeepsSheetsAt places.entry
-        found.old (section_ahead base old) found.new (section_ahead base new)) }
-    ensures names { let old = reading (P.state «package».old) cursor.old in
-        let inside = content 0 (ahead old) in
-        old.source.is_told ≡ true → OnOk result (KeepsName (option_map string_bytes name) inside
-        (length (section_ahead base old)) (names_of found.old) (names_of found.new)) }
-    ensures err { let old = reading (P.state «package».old) cursor.old in
-        let new = reading (P.state «package».new) cursor.new in
-        let refused = IsNameRefusedAt places.entry found.old (option_map string_bytes name) in
-        IfErr result (SectionFails (always (codes "workbook")) refused base old new) }
+    requires reading { IsReading xml.old }
+    requires within { base < length xml.old.names }
+    ensures reads { ReadsElement Io result xml.old xml.new }
+    ensures section { OnOk result (KeepsSection base xml.old xml.new) }
+    ensures sheets { xml.old.source.is_told ≡ true → OnOk result (KeepsSheetsAt places.entry
+        found.old (section_ahead base xml.old) found.new (section_ahead base xml.new)) }
+    ensures names { let inside = content 0 (ahead xml.old) in
+        xml.old.source.is_told ≡ true → OnOk result (KeepsName (option_map string_bytes name) inside
+        (length (section_ahead base xml.old)) (names_of found.old) (names_of found.new)) }
+    ensures err { let refused = IsNameRefusedAt places.entry found.old
+        (option_map string_bytes name) in
+        IfErr result (SectionFails (always (codes "workbook")) refused base xml.old xml.new) }
     ensures kind { IfErr result IsWorkbookError }
 {
-    let depth = cursor.depth();
+    let depth = xml.depth();
     let wanted = name.is_some();
     let mut text = String::new(alloc);
-    'events: while let Some(at) = next_event_in(package, cursor, depth, "workbook")? {
-        let event = package.event();
+    'events: while let Some(at) = next_event_in(xml, depth, "workbook")? {
+        let event = xml.event();
         take_event(alloc, found, places, event, at)?;
         push_wanted(&mut text, wanted, event, at)?;
     }
@@ -223,27 +214,20 @@ fn name_start(event: PartEvent<'_>) -> Option<StartTag<'_>>
 fn contents_in<P: Package>(
     alloc: Global,
     places: SheetPlaces<'_>,
-    package: &mut P,
-    cursor: &mut Cursor,
+    xml: &mut XlReader<P>,
     base: usize,
 ) -> Result<WorkbookContents, XlsxError>
-    requires reading { IsReading (reading (P.state «package».old) cursor.old) }
-    requires within { base ≤ length (open_elements cursor.old) }
-    ensures reads { let old = reading (P.state «package».old) cursor.old in
-        let new = reading (P.state «package».new) cursor.new in
-        ReadsPart Io result old new }
-    ensures closed { let old = reading (P.state «package».old) cursor.old in
-        old.source.is_told ≡ true → OnOk result (is_closed_ahead base old ≡ true) }
-    ensures ends { let old = reading (P.state «package».old) cursor.old in
-        let new = reading (P.state «package».new) cursor.new in
-        old.source.is_told ≡ true → OnOk result (new.at ≡ suc (section_end base old)) }
-    ensures contents { let old = reading (P.state «package».old) cursor.old in
-        old.source.is_told ≡ true →
-        IfOk result (IsContentsAt places.entry (section_ahead base old)) }
-    ensures err { let old = reading (P.state «package».old) cursor.old in
-        let new = reading (P.state «package».new) cursor.new in
-        let refused = AreContentsRefusedAt places.entry in
-        IfErr result (SectionFails (always (codes "workbook")) refused base old new) }
+    requires reading { IsReading xml.old }
+    requires within { base ≤ length xml.old.names }
+    ensures reads { ReadsPart Io result xml.old xml.new }
+    ensures closed { xml.old.source.is_told ≡ true →
+        OnOk result (is_closed_ahead base xml.old ≡ true) }
+    ensures ends { xml.old.source.is_told ≡ true →
+        OnOk result (xml.new.at ≡ suc (section_end base xml.old)) }
+    ensures contents { xml.old.source.is_told ≡ true →
+        IfOk result (IsContentsAt places.entry (section_ahead base xml.old)) }
+    ensures err { let refused = AreContentsRefusedAt places.entry in
+        IfErr result (SectionFails (always (codes "workbook")) refused base xml.old xml.new) }
     ensures kind { IfErr result IsWorkbookError }
 {
     let mut found = WorkbookContents {
@@ -251,12 +235,12 @@ fn contents_in<P: Package>(
         names: Vec::new(alloc),
         epoch: None,
     };
-    'events: while let Some(at) = next_event_in(package, cursor, base, "workbook")? {
-        let event = package.event();
+    'events: while let Some(at) = next_event_in(xml, base, "workbook")? {
+        let event = xml.event();
         take_event(alloc, &mut found, places, event, at)?;
         if let Some(tag) = name_start(event) {
             let name = name_by(alloc, tag, at)?;
-            read_name(alloc, &mut found, places, package, cursor, base, name)?;
+            read_name(alloc, &mut found, places, xml, base, name)?;
         }
     }
     Ok(found)
@@ -270,35 +254,32 @@ fn contents_in<P: Package>(
 /// defined name, is `Xml(Entity)` with the number of its event, counted from 0.
 #[tactic(auto, using(crate::proofs::WorkbookErrors::workbook_step))]
 pub fn read_contents<P: Package>(
-    alloc: Global,
-    package: &mut P,
+    xml: &mut XlReader<P>,
     part: &str,
     places: SheetPlaces<'_>,
 ) -> Result<Option<WorkbookContents>, XlsxError>
-    ensures uses { let old = P.state «package».old in
-        let new = P.state «package».new in
-        Uses (event_count old.parts part.now) Io result old new }
-    ensures to_end { ReadsToEnd (codes "workbook") part.now result (P.state «package».old)
-        (P.state «package».new) }
-    ensures contents { let old = P.state «package».old in
+    ensures uses { Uses (event_count xml.old.source.parts part.now) Io result xml.old.source
+        xml.new.source }
+    ensures to_end { ReadsToEnd (codes "workbook") part.now result xml.old.source xml.new.source }
+    ensures contents { let old = xml.old.source in
         let folder = arc_str_bytes places.entry.folder.now in
         let related = related_by_id places.entry.relationships.now in
         let inside = closed_section_of (codes "workbook") part.now old.parts in
         old.is_told ≡ true → IfOk result (λ found. MatchOption found
         (part_of old.parts part.now ≡ None)
         (λ contents. IsSomeAnd inside (λ inside. IsContents folder related inside contents))) }
-    ensures err { let old = P.state «package».old in
-        let new = P.state «package».new in
-        let folder = arc_str_bytes places.entry.folder.now in
+    ensures err { let folder = arc_str_bytes places.entry.folder.now in
         let related = related_by_id places.entry.relationships.now in
         let name = codes "workbook" in
         let refused = AreContentsRefused folder related in
-        IfErr result (OptionalPartFails name (always name) refused part.now old new) }
+        IfErr result (OptionalPartFails name (always name) refused part.now xml.old.source
+        xml.new.source) }
     ensures kind { IfErr result IsWorkbookError }
 {
-    let Some(mut cursor) = enter_part(alloc, package, part, "workbook")? else {
+    let alloc = xml.alloc();
+    if !enter_part(xml, part, "workbook")? {
         return Ok(None);
-    };
-    let base = cursor.depth();
-    Ok(Some(contents_in(alloc, places, package, &mut cursor, base)?))
+    }
+    let base = xml.depth();
+    Ok(Some(contents_in(alloc, places, xml, base)?))
 }

@@ -1,6 +1,6 @@
 use Rattle.std.proofs.Common.{◌∙◌, ℕ, [], codes, subst}
 use Rattle.std.proofs.lemmas.Result.{IfErr-weaker}
-use Rattle.part_events.specs.Reading.{reading, events_of}
+use Rattle.part_events.specs.Reading.{events_of}
 use Rattle.xlsx_sections.specs.Elements.{IsInsideRefused}
 use Rattle.xlsx_sections.specs.Failing.{FailsBy}
 use Rattle.xlsx_sections.specs.PartSection.{always, SectionFails}
@@ -14,7 +14,7 @@ use Rattle.xlsx_areas.proofs.link_parts.links_of.Goals as goal
 pub returns-clause-links : goal.returns-clause-links
 returns-clause-links g c = λ told.
     let name = codes "hyperlinks" in
-    let old = reading (g.P.Package.state c.args.package.now) c.args.cursor.now in
+    let old = c.args.xml.now in
     let meaning = links_in (target_held c.args.targets.now) in
     let still = c.in_ok-find_section.ensures.reads.moves.parts.is_told ∙ told in
     let there = rw c.if-not-branch.false at (c.in_ok-find_section.ensures.found told) in
@@ -26,9 +26,9 @@ returns-clause-links g c = λ told.
 pub returns-clause-err : goal.returns-clause-err
 returns-clause-err g c =
     let name = codes "hyperlinks" in
-    let old = reading (g.P.Package.state c.args.package.now) c.args.cursor.now in
-    let mid = reading (g.P.Package.state c.find_section.new.package) c.find_section.new.cursor in
-    let new = reading (g.P.Package.state c.links_in.new.package) c.links_in.new.cursor in
+    let old = c.args.xml.now in
+    let mid = c.find_section.new.xml in
+    let new = c.links_in.new.xml in
     let by = target_held c.args.targets.now in
     let refused = IsInsideRefused (links_in by) in
     IfErr-weaker c.links_in.result

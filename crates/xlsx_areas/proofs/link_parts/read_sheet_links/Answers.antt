@@ -11,7 +11,7 @@ use Rattle.xlsx_areas.proofs.link_parts.read_sheet_links.Goals as goal
 
 pub returns-clause-links : goal.returns-clause-links
 returns-clause-links g c = λ told.
-    let old = g.P.Package.state c.args.package.now in
+    let old = c.args.xml.now.source in
     let path = c.args.path.now in
     let kept = c.in_ok-targets.targets in
     let first = c.in_ok-has_part.ensures.uses.parts in
@@ -26,9 +26,9 @@ returns-clause-links g c = λ told.
 
 pub returns-clause-err : goal.returns-clause-err
 returns-clause-err g c =
-    let old = g.P.Package.state c.args.package.now in
-    let mid = g.P.Package.state c.read_sheet_hyperlink_rels.new.package in
-    let new = g.P.Package.state c.read_links.new.package in
+    let old = c.args.xml.now.source in
+    let mid = c.read_sheet_hyperlink_rels.new.xml.source in
+    let new = c.read_links.new.xml.source in
     let path = c.args.path.now in
     let kept = c.in_ok-targets.targets in
     let by = target_held kept in

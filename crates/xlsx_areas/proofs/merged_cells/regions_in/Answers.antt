@@ -1,7 +1,6 @@
 use Rattle.std.proofs.Common.{◌≡◌, ◌∙◌, [], List, Ok, Option, Result, refl, sym, subst, ap}
 use Rattle.cell_refs.specs.declared.dimensions.Dimensions.{Dimensions}
 use Rattle.part_events.specs.Event.{Event, tag_of}
-use Rattle.part_events.specs.Reading.{reading}
 use Rattle.part_events.specs.Walk.{section_ahead}
 use Rattle.xlsx_sections.specs.Answers.{prepended, and_others_if}
 use Rattle.xlsx_sections.specs.Keeping.{changed_in, put_behind}
@@ -19,25 +18,23 @@ use Rattle.xlsx_areas.proofs.merged_cells.regions_in.Goals as goal
 
 pub starts-preserved : goal.starts-preserved
 starts-preserved g c =
-    let old = reading (g.P.Package.state c.args.package.now) c.args.cursor.now in
+    let old = c.args.xml.now in
     let found = at_start _ c.start_tag.ensures
     (rw c.in-Some.is at (c.in_ok-_at.ensures.step old c.starts.invariant.keeps)) in
     changed_further (put_behind merge_of) c.starts.invariant found c.in_ok-push_merge.ensures.ok
 
 pub returns-in_err-_at-clause-err : goal.returns-in_err-_at-clause-err
 returns-in_err-_at-clause-err g c =
-    let old = reading (g.P.Package.state c.args.package.now) c.args.cursor.now in
-    let new = reading (g.P.Package.state c.next_start_of_part.new.package)
-    c.next_start_of_part.new.cursor in
+    let old = c.args.xml.now in
+    let new = c.next_start_of_part.new.xml in
     given_back _ c.from_residual.result c.from_residual.ensures.1
     (whole_step_refused (IsMeaningRefused merges_in) old new c.in_err-_at.field-0.0
     (c.in_err-_at.ensures.refused old c.starts.invariant.keeps))
 
 pub returns-in_err-push_merge-clause-err : goal.returns-in_err-push_merge-clause-err
 returns-in_err-push_merge-clause-err g c =
-    let old = reading (g.P.Package.state c.args.package.now) c.args.cursor.now in
-    let new = reading (g.P.Package.state c.next_start_of_part.new.package)
-    c.next_start_of_part.new.cursor in
+    let old = c.args.xml.now in
+    let new = c.next_start_of_part.new.xml in
     let error = c.in_err-push_merge.field-0.0 in
     let kept = c.starts.areas.items in
     let found = at_start _ c.start_tag.ensures
@@ -56,14 +53,14 @@ returns-in_err-push_merge-clause-err g c =
 
 pub returns-clause-ends : goal.returns-clause-ends
 returns-clause-ends g c = λ told.
-    let old = reading (g.P.Package.state c.args.package.now) c.args.cursor.now in
+    let old = c.args.xml.now in
     let ends = (rw c.in_default.is at
     (c.in_ok-_at.ensures.step old c.starts.invariant.keeps)) told in
     ends.0.1
 
 pub returns-clause-regions : goal.returns-clause-regions
 returns-clause-regions g c = λ told.
-    let old = reading (g.P.Package.state c.args.package.now) c.args.cursor.now in
+    let old = c.args.xml.now in
     let ends = (rw c.in_default.is at
     (c.in_ok-_at.ensures.step old c.starts.invariant.keeps)) told in
     let begins = begins_part old c.requires.reading c.requires.first told in

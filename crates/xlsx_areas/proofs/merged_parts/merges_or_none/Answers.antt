@@ -1,5 +1,5 @@
 use Rattle.std.proofs.Common.{◌≡◌, codes, length, Some, rules}
-use Rattle.part_events.specs.Reading.{reading, events_of}
+use Rattle.part_events.specs.Reading.{events_of}
 use Rattle.xlsx_error.specs.declared.error.XlsxError.TheVariants.{OutOfMemory, Io}
 use Rattle.xlsx_sections.specs.PartSection.{section_in, section_left}
 use Rattle.xlsx_areas.proofs.MergesRead.{never_refused}
@@ -7,9 +7,9 @@ use Rattle.xlsx_areas.proofs.merged_parts.merges_or_none.Goals as goal
 
 pub returns-in-Err : goal.returns-in-Err
 returns-in-Err g c =
-    let old = reading (g.P.Package.state c.args.package.now) c.args.cursor.now in
-    let mid = reading (g.P.Package.state c.find_section.new.package) c.find_section.new.cursor in
-    let new = g.P.Package.state c.merges_in.new.package in
+    let old = c.args.xml.now in
+    let mid = c.find_section.new.xml in
+    let new = c.merges_in.new.xml.source in
     let refusal = c.in-Err.refusal in
     let other : refusal ≡ Io → ⊥ = search rules in
     let more : refusal ≡ OutOfMemory → ⊥ = search rules in

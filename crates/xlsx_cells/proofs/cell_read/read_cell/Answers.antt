@@ -1,7 +1,6 @@
 use Rattle.std.proofs.Common.{◌≡◌, ◌∙◌, true, sym, subst, inl, inr}
 use Rattle.std.proofs.lemmas.Result.{err_from_is_err_and}
 use Rattle.part_events.specs.Event.{Tag, tag_of}
-use Rattle.part_events.specs.Reading.{reading}
 use Rattle.xlsx_values.specs.Book.{kind_of, grounds_of}
 use Rattle.xlsx_sections.proofs.SectionsRead.{same_tag}
 use Rattle.xlsx_cells.specs.Ends.{reads_children}
@@ -13,7 +12,7 @@ use Rattle.xlsx_cells.proofs.cell_read.read_cell.Goals.{else-not-asked-via-else-
 
 pub returns-in_err-start-clause-err : goal.returns-in_err-start-clause-err
 returns-in_err-start-clause-err g c =
-    let old = reading (g.P.Package.state c.args.package.now) c.args.cursor.now in
+    let old = c.args.xml.now in
     let wants = c.args.asked.wants in
     let grounds = grounds_of c.args.asked.book in
     let p = err_from_is_err_and c.from_residual.result c.from_residual.ensures.1 in
@@ -26,8 +25,8 @@ returns-in_err-start-clause-err g c =
 
 pub returns-in_err-contents-clause-err : goal.returns-in_err-contents-clause-err
 returns-in_err-contents-clause-err g c =
-    let old = reading (g.P.Package.state c.args.package.now) c.args.cursor.now in
-    let new = reading (g.P.Package.state c.read_children.new.package) c.read_children.new.cursor in
+    let old = c.args.xml.now in
+    let new = c.read_children.new.xml in
     let wants = c.args.asked.wants in
     let grounds = grounds_of c.args.asked.book in
     let start = c.in_ok-start.start in

@@ -1,6 +1,5 @@
 use Rattle.std.proofs.Common.{◌≡◌, Some, Ok, refl, ap}
 use Rattle.std.proofs.lemmas.Result.{err_from_is_err_and}
-use Rattle.part_events.specs.Reading.{reading}
 use Rattle.xlsx_formulas.specs.Formula.{some_formula, formula_text}
 use Rattle.xlsx_formulas.specs.Kept.{formula_seen}
 use Rattle.xlsx_cells.proofs.ChildrenRead.{formula_fails, kept_one, kept_none_of}
@@ -9,8 +8,8 @@ use Rattle.xlsx_cells.proofs.children.keep_formula.Goals.{then-asked+in_ok-keep,
 
 pub returns-in_err-formula-clause-err : goal.returns-in_err-formula-clause-err
 returns-in_err-formula-clause-err g c =
-    let old = reading (g.P.Package.state c.args.package.now) c.args.cursor.now in
-    let new = reading (g.P.Package.state c.read_formula.new.package) c.read_formula.new.cursor in
+    let old = c.args.xml.now in
+    let new = c.read_formula.new.xml in
     let p = err_from_is_err_and c.from_residual.result c.from_residual.ensures.1 in
     rw (p.1, p.2) (λ grounds format kind element stands named.
     formula_fails c.args.asked.wants grounds format kind element.tag old new

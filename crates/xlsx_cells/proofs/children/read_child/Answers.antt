@@ -1,7 +1,6 @@
 use Rattle.std.proofs.Common.{◌≡◌, length, sym, subst, ◌∙◌}
 use Rattle.std.proofs.lemmas.Result.{IfErr-weaker}
 use Rattle.part_events.specs.Event.{Tag, tag_of}
-use Rattle.part_events.specs.Reading.{reading}
 use Rattle.part_events.specs.Section.{Element}
 use Rattle.cell_data.specs.declared.format.CellFormat.{CellFormat}
 use Rattle.xlsx_sections.specs.PartSection.{section_left}
@@ -16,8 +15,8 @@ use Rattle.xlsx_cells.proofs.children.read_child.Goals as goal
 
 pub returns-in-Formula-clause-err : goal.returns-in-Formula-clause-err
 returns-in-Formula-clause-err g c =
-    let old = reading (g.P.Package.state c.args.package.now) c.args.cursor.now in
-    let new = reading (g.P.Package.state c.keep_formula.new.package) c.keep_formula.new.cursor in
+    let old = c.args.xml.now in
+    let new = c.keep_formula.new.xml in
     let wants = c.args.asked.wants in
     let grounds = grounds_of c.args.asked.book in
     let format = c.args.start.now.format in
@@ -37,7 +36,7 @@ returns-in-Formula-clause-err g c =
 
 pub returns-in-Stray-clause-err : goal.returns-in-Stray-clause-err
 returns-in-Stray-clause-err g c = λ element stands told.
-    let old = reading (g.P.Package.state c.args.package.now) c.args.cursor.now in
+    let old = c.args.xml.now in
     let same : tag_of c.start_tag.result ≡ element.tag =
     same_tag (c.start_tag.ensures ∙ sym stands.tag) in
     let named : IsNamedAs Stray element.tag =

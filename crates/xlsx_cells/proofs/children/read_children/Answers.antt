@@ -1,7 +1,7 @@
 use Rattle.std.proofs.Common.{◌≡◌, ℕ, true, None, refl, ◌∙◌, ap, subst, inl, inr, arith}
 use Rattle.std.proofs.Common.{codes, rules}
 use Rattle.std.proofs.lemmas.Result.{err_from_is_err_and}
-use Rattle.part_events.specs.Reading.{reading, ahead}
+use Rattle.part_events.specs.Reading.{ahead}
 use Rattle.part_events.specs.Section.{content, is_any}
 use Rattle.part_events.specs.Walk.{inside, element_at}
 use Rattle.xlsx_sections.specs.Elements.{end_outside, FindsElementIn}
@@ -25,9 +25,9 @@ use Rattle.xlsx_cells.proofs.children.read_children.Goals as goal
 
 pub returns-in_err-next_child_in-clause-err : goal.returns-in_err-next_child_in-clause-err
 returns-in_err-next_child_in-clause-err g c =
-    let old = reading (g.P.Package.state c.args.package.now) c.args.cursor.now in
-    let mid = reading (g.P.Package.state c.children.package) c.children.cursor in
-    let new = reading (g.P.Package.state c.next_child_in.new.package) c.next_child_in.new.cursor in
+    let old = c.args.xml.now in
+    let mid = c.children.xml in
+    let new = c.next_child_in.new.xml in
     let base = c.depth-base.result in
     let wants = c.args.asked.wants in
     let kind = kind_of c.args.start.now.typ in
@@ -46,10 +46,10 @@ returns-in_err-next_child_in-clause-err g c =
 
 pub children-preserved : goal.children-preserved
 children-preserved g c =
-    let old = reading (g.P.Package.state c.args.package.now) c.args.cursor.now in
-    let mid = reading (g.P.Package.state c.children.package) c.children.cursor in
-    let at = reading (g.P.Package.state c.next_child_in.new.package) c.next_child_in.new.cursor in
-    let after = reading (g.P.Package.state c.read_child.new.package) c.read_child.new.cursor in
+    let old = c.args.xml.now in
+    let mid = c.children.xml in
+    let at = c.next_child_in.new.xml in
+    let after = c.read_child.new.xml in
     let base = c.depth-base.result in
     let now = c.children.invariant in
     let grounds = grounds_of c.args.asked.book in
@@ -104,10 +104,10 @@ returns-in_err-read_child-clause-reads g c =
 
 pub returns-in_err-read_child-clause-err : goal.returns-in_err-read_child-clause-err
 returns-in_err-read_child-clause-err g c =
-    let old = reading (g.P.Package.state c.args.package.now) c.args.cursor.now in
-    let mid = reading (g.P.Package.state c.children.package) c.children.cursor in
-    let at = reading (g.P.Package.state c.next_child_in.new.package) c.next_child_in.new.cursor in
-    let after = reading (g.P.Package.state c.read_child.new.package) c.read_child.new.cursor in
+    let old = c.args.xml.now in
+    let mid = c.children.xml in
+    let at = c.next_child_in.new.xml in
+    let after = c.read_child.new.xml in
     let base = c.depth-base.result in
     let now = c.children.invariant in
     let wants = c.args.asked.wants in
@@ -147,9 +147,9 @@ returns-in_err-read_child-clause-err g c =
 
 pub returns-clause-contents : goal.returns-clause-contents
 returns-clause-contents g c =
-    let old = reading (g.P.Package.state c.args.package.now) c.args.cursor.now in
-    let mid = reading (g.P.Package.state c.children.package) c.children.cursor in
-    let new = reading (g.P.Package.state c.next_child_in.new.package) c.next_child_in.new.cursor in
+    let old = c.args.xml.now in
+    let mid = c.children.xml in
+    let new = c.next_child_in.new.xml in
     let base = c.depth-base.result in
     let now = c.children.invariant in
     let behind : LastStep = record {

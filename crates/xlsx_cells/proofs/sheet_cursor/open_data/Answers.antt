@@ -1,7 +1,6 @@
 use Rattle.std.proofs.Common.{◌≡◌, true, ◌∙◌, sym, subst}
 use Rattle.std.proofs.lemmas.Result.{err_from_is_err_and}
 use Rattle.part_events.specs.Package.{Opens}
-use Rattle.part_events.specs.Reading.{reading}
 use Rattle.part_events.specs.declared.cursor.Cursor.{Cursor}
 use Rattle.xlsx_sections.proofs.SectionsRead.{section_entered}
 use Rattle.xlsx_cells.specs.SheetPart.{EntersData}
@@ -12,8 +11,8 @@ use Rattle.xlsx_cells.proofs.sheet_cursor.open_data.Goals as goal
 
 pub returns-clause-enters : goal.returns-clause-enters
 returns-clause-enters g c =
-    let old = g.P.Package.state c.args.package.now in
-    let new = g.P.Package.state c.enter_data.new.package in
+    let old = c.args.xml.now.source in
+    let new = c.enter_data.new.xml.source in
     let opened = reading (g.P.Package.state c.open.new.self) c.new-cursor.result in
     let sheet = c.new-sheet.result in
     let placed : Cursor → Stream = λ cursor. record {

@@ -1,7 +1,6 @@
 use Rattle.std.proofs.Common.{[], ◌∷◌}
 use Rattle.std.proofs.lemmas.List.{map-append}
 use Rattle.std.proofs.lemmas.Result.{err_from_is_err_and}
-use Rattle.part_events.specs.Reading.{reading}
 use Rattle.xlsx_sections.specs.Elements.{IsInsideRefused}
 use Rattle.xlsx_sections.proofs.Failing.{given_back}
 use Rattle.xlsx_sections.proofs.ListsRead.{list_added}
@@ -14,17 +13,17 @@ use Rattle.xlsx_comments.proofs.comments.entries_in.Goals as goal
 
 pub returns-in_err-_at-clause-err : goal.returns-in_err-_at-clause-err
 returns-in_err-_at-clause-err g c =
-    let old = reading (g.P.Package.state c.args.package.now) c.args.cursor.now in
+    let old = c.args.xml.now in
     given_back _ c.from_residual.result c.from_residual.ensures.1
     (section_stopped c.args.base old end_in_entries (IsInsideRefused entries_in)
-    (g.P.Package.state c.next_element_in.new.package) _
+    c.next_element_in.new.xml.source _
     (c.in_err-_at.ensures.refused old end_in_entry_element c.entries.invariant.keeps))
 
 pub returns-in_err-read_entry-clause-err : goal.returns-in_err-read_entry-clause-err
 returns-in_err-read_entry-clause-err g c =
     given_back _ c.from_residual-in_err-read_entry.result
     c.from_residual-in_err-read_entry.ensures.1
-    (entries_refused _ (g.P.Package.state c.read_entry.new.package) _ c.in-Some.is
+    (entries_refused _ c.read_entry.new.xml.source _ c.in-Some.is
     c.entries.invariant c.in_ok-_at.ensures.step c.in_err-read_entry.ensures.err)
 
 pub returns-in_err-read_entry-clause-reads : goal.returns-in_err-read_entry-clause-reads

@@ -2,7 +2,6 @@ use Rattle.std.proofs.Common.{◌≡◌, ◌∙◌, sym, ap, ℕ, List, codes}
 use Rattle.std.proofs.lemmas.Result.{IfErr-weaker}
 use Rattle.std.specs.Str.{bytes_eq}
 use Rattle.part_events.specs.Event.{Tag, start}
-use Rattle.part_events.specs.Reading.{reading}
 use Rattle.xlsx_sections.specs.Elements.{ElementReadFails}
 use Rattle.xlsx_strings.specs.Strings.{end_in_string}
 use Rattle.xlsx_comments.specs.CommentParts.{comment_said, entry_said, end_in_entry}
@@ -11,8 +10,8 @@ use Rattle.xlsx_comments.proofs.entry.read_entry.Goals as goal
 
 pub returns-else-eq-clause-err : goal.returns-else-eq-clause-err
 returns-else-eq-clause-err g c =
-    let old = reading (g.P.Package.state c.args.package.now) c.args.cursor.now in
-    let new = reading (g.P.Package.state c.read_comment.new.package) c.read_comment.new.cursor in
+    let old = c.args.xml.now in
+    let new = c.read_comment.new.xml in
     let named = sym c.if-eq.false ∙ c.eq.ensures
     ∙ ap (λ (name : List ℕ). bytes_eq name (codes "author")) c.local_name.ensures in
     IfErr-weaker c.read_comment.result

@@ -10,7 +10,7 @@ use Rattle.xlsx_core.proofs.placed_sheet.read_values.Goals as goal
 
 pub returns-clause-reads : goal.returns-clause-reads
 returns-clause-reads g c = λ told.
-    let old = g.P.Package.state c.args.package.now in
+    let old = c.args.xml.now.source in
     let grounds = grounds_of c.args.asked.book in
     let cells = c.in_ok-cells.cells in
     let range = c.in_ok-value_range.field-0 in

@@ -16,7 +16,7 @@ sheets-init g c =
     let whole = each r.Kind (r.ask c.args.by.now)
     (sheet_paths c.args.sheets.now c.args.paths.now) in
     record {
-      leads = rw c.requires (leads_first whole [] (g.P.Package.state c.args.package.now));
+      leads = rw c.requires (leads_first whole [] c.args.xml.now.source);
       behind = refl;
       within = search rules;
     }

@@ -10,8 +10,8 @@ invariant-sheets g l =
     record {
       leads :
           Leads (ask (sheet_paths l.left l.rest)) (r.held l.fn.sheets l.items)
-          (g.P.Package.state l.package) (ask (sheet_paths l.fn.sheets l.fn.paths)) []
-          (g.P.Package.state l.fn.package);
+          l.xml.source (ask (sheet_paths l.fn.sheets l.fn.paths)) []
+          l.fn.xml.source;
       behind : drop l.number l.fn.sheets ≡ l.left;
       within : l.number + length l.left ≡ length l.fn.sheets;
     }

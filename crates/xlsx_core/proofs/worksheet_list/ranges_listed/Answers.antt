@@ -19,9 +19,9 @@ use Rattle.xlsx_core.proofs.worksheet_list.ranges_listed.Goals as goal
 
 pub sheets-preserved : goal.sheets-preserved
 sheets-preserved g c =
-    let old = g.P.Package.state c.args.package.now in
-    let mid = g.P.Package.state c.sheets.package in
-    let new = g.P.Package.state c.range_or_none.new.package in
+    let old = c.args.xml.now.source in
+    let mid = c.sheets.xml.source in
+    let new = c.range_or_none.new.xml.source in
     let now = c.sheets.invariant in
     let own = c.in_ok-range.ensures in
     let sheet = c.sheet-item.result in
@@ -82,7 +82,7 @@ sheets-preserved g c =
 
 pub returns-clause-lists : goal.returns-clause-lists
 returns-clause-lists g c = λ told.
-    let old = g.P.Package.state c.args.package.now in
+    let old = c.args.xml.now.source in
     let place = λ (name : List ℕ). path_listed name c.args.sheets.now c.args.paths.now in
     let behind : drop c.sheets.sheet-index c.args.sheets.now ≡ [] =
     drop_all c.sheets.sheet-index c.args.sheets.now c.sheets-test.false in
@@ -93,9 +93,9 @@ returns-clause-lists g c = λ told.
 
 pub returns-in_err-range-clause-uses : goal.returns-in_err-range-clause-uses
 returns-in_err-range-clause-uses g c =
-    let old = g.P.Package.state c.args.package.now in
-    let mid = g.P.Package.state c.sheets.package in
-    let new = g.P.Package.state c.range_or_none.new.package in
+    let old = c.args.xml.now.source in
+    let mid = c.sheets.xml.source in
+    let new = c.range_or_none.new.xml.source in
     let now = c.sheets.invariant in
     let sheet = c.sheet-item.result in
     let name = c.as_str-name.result.now in
@@ -115,9 +115,9 @@ returns-in_err-range-clause-uses g c =
 
 pub returns-in_err-put_behind-clause-uses : goal.returns-in_err-put_behind-clause-uses
 returns-in_err-put_behind-clause-uses g c =
-    let old = g.P.Package.state c.args.package.now in
-    let mid = g.P.Package.state c.sheets.package in
-    let new = g.P.Package.state c.range_or_none.new.package in
+    let old = c.args.xml.now.source in
+    let mid = c.sheets.xml.source in
+    let new = c.range_or_none.new.xml.source in
     let now = c.sheets.invariant in
     let sheet = c.sheet-item.result in
     let name = c.as_str-name.result.now in

@@ -1,7 +1,7 @@
 use Rattle.std.proofs.Common.{◌≡◌, ℕ, List, [], Option, sym, ◌∙◌}
 use Rattle.std.proofs.lemmas.Result.{err_from_is_err_and}
 use Rattle.part_events.specs.Event.{tag_of}
-use Rattle.part_events.specs.Reading.{reading, ahead}
+use Rattle.part_events.specs.Reading.{ahead}
 use Rattle.part_events.specs.Section.{content}
 use Rattle.xlsx_sections.proofs.SectionsRead.{same_tag}
 use Rattle.xlsx_formats.specs.FormatCodes.{code_kept}
@@ -12,7 +12,7 @@ use Rattle.xlsx_formats.proofs.formatting.read_format.Goals as goal
 
 pub returns-in_err-formatting-clause-err : goal.returns-in_err-formatting-clause-err
 returns-in_err-formatting-clause-err g c =
-    let old = reading (g.P.Package.state c.args.package.now) c.args.cursor.now in
+    let old = c.args.xml.now in
     let own = tag_of c.start_tag.result in
     let e = c.in_err-formatting.field-0.0 in
     let p = err_from_is_err_and c.from_residual.result c.from_residual.ensures.1 in
@@ -22,9 +22,8 @@ returns-in_err-formatting-clause-err g c =
 
 pub returns-in_err-alignment-clause-err : goal.returns-in_err-alignment-clause-err
 returns-in_err-alignment-clause-err g c =
-    let old = reading (g.P.Package.state c.args.package.now) c.args.cursor.now in
-    let new = reading (g.P.Package.state c.read_settings.new.package)
-    c.read_settings.new.cursor in
+    let old = c.args.xml.now in
+    let new = c.read_settings.new.xml in
     let own = tag_of c.start_tag.result in
     let e = c.in_err-alignment.field-0.0 in
     let lists = c.args.lists.now in
@@ -39,7 +38,7 @@ returns-in_err-alignment-clause-err g c =
 
 pub returns-clause-formatting : goal.returns-clause-formatting
 returns-clause-formatting g c = λ told tag formats current are.
-    let old = reading (g.P.Package.state c.args.package.now) c.args.cursor.now in
+    let old = c.args.xml.now in
     formatting_found formats c.args.lists.now tag (tag_of c.start_tag.result)
     (content 0 (ahead old)) c.in_ok-alignment.field-0
     (formatting_said c.in_ok-formatting.formatting)

@@ -1,6 +1,5 @@
 use Rattle.std.proofs.Common.{◌≡◌, codes, length, Err, arith}
 use Rattle.part_events.specs.Event.{tag_of}
-use Rattle.part_events.specs.Reading.{reading}
 use Rattle.part_events.specs.Section.{starts_by}
 use Rattle.part_events.specs.Walk.{section_ahead}
 use Rattle.xlsx_sections.specs.Elements.{IsInsideRefused}
@@ -16,7 +15,7 @@ use Rattle.xlsx_formats.proofs.number_formats.read_number_formats.Goals as goal
 
 pub starts-init : goal.starts-init
 starts-init g c =
-    let old = reading (g.P.Package.state c.args.package.now) c.args.cursor.now in
+    let old = c.args.xml.now in
     let base = c.depth-base.result in
     record {
       keeps = starts_none base old c.requires.element.reading (omega (arith, c.depth-base.ensures));
@@ -26,14 +25,14 @@ starts-init g c =
 
 pub returns-in_err-at-clause-front : goal.returns-in_err-at-clause-front
 returns-in_err-at-clause-front g c = λ told.
-    let old = reading (g.P.Package.state c.args.package.now) c.args.cursor.now in
+    let old = c.args.xml.now in
     given_back _ c.from_residual.result c.from_residual.ensures.1
     (codes_left {now = c.starts.kept} old c.depth-base.ensures
     (c.starts.invariant.codes_kept told) (λ earlier are. are))
 
 pub returns-in_err-keep_format-clause-front : goal.returns-in_err-keep_format-clause-front
 returns-in_err-keep_format-clause-front g c = λ told.
-    let old = reading (g.P.Package.state c.args.package.now) c.args.cursor.now in
+    let old = c.args.xml.now in
     given_back _ c.from_residual-in_err-keep_format.result
     c.from_residual-in_err-keep_format.ensures.1
     (codes_left {now = c.keep_format.new.kept} old c.depth-base.ensures
@@ -41,7 +40,7 @@ returns-in_err-keep_format-clause-front g c = λ told.
 
 pub starts-preserved : goal.starts-preserved
 starts-preserved g c =
-    let old = reading (g.P.Package.state c.args.package.now) c.args.cursor.now in
+    let old = c.args.xml.now in
     let found = at_start _ c.start_tag.ensures
     (rw c.in-Some.is at (c.in_ok-at.ensures.step old c.starts.invariant.keeps)) in
     record {
@@ -52,9 +51,8 @@ starts-preserved g c =
 
 pub returns-in_err-keep_format-clause-err : goal.returns-in_err-keep_format-clause-err
 returns-in_err-keep_format-clause-err g c =
-    let old = reading (g.P.Package.state c.args.package.now) c.args.cursor.now in
-    let new = reading (g.P.Package.state c.next_start_in.new.package)
-    c.next_start_in.new.cursor in
+    let old = c.args.xml.now in
+    let new = c.next_start_in.new.xml in
     let base = c.depth-base.result in
     let found = at_start _ c.start_tag.ensures
     (rw c.in-Some.is at (c.in_ok-at.ensures.step old c.starts.invariant.keeps)) in

@@ -1,5 +1,4 @@
 use Rattle.std.proofs.Common.{◌≡◌, true}
-use Rattle.part_events.specs.Reading.{reading}
 use Rattle.part_events.specs.Section.{starts_by}
 use Rattle.part_events.specs.Walk.{section_ahead}
 use Rattle.xlsx_sections.specs.Elements.{KeepsStarts}
@@ -9,8 +8,8 @@ use Rattle.xlsx_formats.proofs.number_formats.read_number_formats.Given as goal
 
 abbrev pub invariant-starts : goal.invariant-starts
 invariant-starts g l =
-    let old = reading (g.P.Package.state l.fn.package) l.fn.cursor in
-    let now = reading (g.P.Package.state l.package) l.cursor in
+    let old = l.fn.xml in
+    let now = l.xml in
     record {
       keeps : KeepsStarts l.base old now;
       codes_kept :
@@ -20,4 +19,4 @@ invariant-starts g l =
     }
 
 abbrev pub decreases-starts : goal.decreases-starts
-decreases-starts g l = (g.P.Package.state l.package).left
+decreases-starts g l = l.xml.source.left

@@ -1,12 +1,11 @@
 use Rattle.std.proofs.lemmas.Result.{err_from_is_err_and}
 use Rattle.part_events.specs.Event.{tag_of}
-use Rattle.part_events.specs.Reading.{reading}
 use Rattle.xlsx_formulas.proofs.Starts.{start_refused}
 use Rattle.xlsx_formulas.proofs.formula.read_formula.Goals as goal
 
 pub returns-in_err-share-clause-err : goal.returns-in_err-share-clause-err
 returns-in_err-share-clause-err g c =
-    let old = reading (g.P.Package.state c.args.package.now) c.args.cursor.now in
+    let old = c.args.xml.now in
     let p = err_from_is_err_and c.from_residual.result c.from_residual.ensures.1 in
     rw (p.1, p.2) (λ tag current.
     start_refused (tag_of c.start_tag.result) tag old.source.current old old

@@ -13,15 +13,15 @@ use Rattle.xlsx_open.proofs.opening.open.Goals as goal
 pub returns-in_err-path-clause-err : goal.returns-in_err-path-clause-err
 returns-in_err-path-clause-err g c =
     let p = err_from_is_err_and c.from_residual.result c.from_residual.ensures.1 in
-    rw (p.1, p.2) (root_fails (g.P.Package.state c.args.package.now)
-    (g.P.Package.state c.read_path.new.package) c.in_err-path.field-0.0
+    rw (p.1, p.2) (root_fails c.args.xml.now.source
+    c.read_path.new.xml.source c.in_err-path.field-0.0
     c.in_err-path.ensures.err)
 
 pub returns-clause-uses : goal.returns-clause-uses
 returns-clause-uses g c =
-    let old = g.P.Package.state c.args.package.now in
-    let mid = g.P.Package.state c.read_path.new.package in
-    let new = g.P.Package.state c.open_at.new.package in
+    let old = c.args.xml.now.source in
+    let mid = c.read_path.new.xml.source in
+    let new = c.open_at.new.xml.source in
     opens_package c.open_at.result old mid new (string_bytes c.in_ok-path.path)
     c.in_ok-path.ensures.uses c.in_ok-path.ensures.path c.in_ok-path.ensures.to_end
     (subst (λ (own : List ℕ). Uses (book_events mid.parts own) Io c.open_at.result mid new)
@@ -32,8 +32,8 @@ returns-clause-uses g c =
 
 pub returns-clause-opens : goal.returns-clause-opens
 returns-clause-opens g c = λ told.
-    let old = g.P.Package.state c.args.package.now in
-    let mid = g.P.Package.state c.read_path.new.package in
+    let old = c.args.xml.now.source in
+    let mid = c.read_path.new.xml.source in
     let path = string_bytes c.in_ok-path.path in
     let same = c.in_ok-path.ensures.uses.parts in
     IfOk-weaker c.open_at.result (λ o. (opening : Opening)
@@ -52,9 +52,9 @@ returns-clause-opens g c = λ told.
 
 pub returns-clause-err : goal.returns-clause-err
 returns-clause-err g c =
-    let old = g.P.Package.state c.args.package.now in
-    let mid = g.P.Package.state c.read_path.new.package in
-    let new = g.P.Package.state c.open_at.new.package in
+    let old = c.args.xml.now.source in
+    let mid = c.read_path.new.xml.source in
+    let new = c.open_at.new.xml.source in
     let path = string_bytes c.in_ok-path.path in
     let uses = c.in_ok-path.ensures.uses in
     IfErr-weaker c.open_at.result (BookFails c.as_str.result.now mid new) (OpeningFails old new)
@@ -64,7 +64,7 @@ returns-clause-err g c =
 
 pub returns-clause-folder : goal.returns-clause-folder
 returns-clause-folder g c = λ told.
-    let old = g.P.Package.state c.args.package.now in
+    let old = c.args.xml.now.source in
     let path = string_bytes c.in_ok-path.path in
     IfOk-weaker c.open_at.result (λ o. arc_str_bytes o.folder ≡ folder_of c.as_str.result.now)
     (λ o. LiesIn old.parts (arc_str_bytes o.folder))

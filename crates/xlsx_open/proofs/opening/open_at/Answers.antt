@@ -8,9 +8,9 @@ use Rattle.xlsx_open.proofs.opening.open_at.Goals as goal
 
 pub returns-clause-uses : goal.returns-clause-uses
 returns-clause-uses g c =
-    let old = g.P.Package.state c.args.package.now in
-    let mid = g.P.Package.state c.read_shared.new.package in
-    let new = g.P.Package.state c.open_workbook.new.package in
+    let old = c.args.xml.now.source in
+    let mid = c.read_shared.new.xml.source in
+    let new = c.open_workbook.new.xml.source in
     let path = c.args.path.now in
     let result = c.open_workbook.result in
     let first = c.in_ok-shared.ensures.uses in

@@ -20,8 +20,8 @@ use Rattle.xlsx_open.proofs.opening.open_workbook.Goals as goal
 
 pub returns-in-Some-clause-opened : goal.returns-in-Some-clause-opened
 returns-in-Some-clause-opened g c = λ told.
-    let old = g.P.Package.state c.args.package.now in
-    let mid = g.P.Package.state c.read_relationships.new.package in
+    let old = c.args.xml.now.source in
+    let mid = c.read_relationships.new.xml.source in
     let path = c.args.path.now in
     let related = related_by_id c.in_ok-relationships.relationships in
     let found = c.in-Some.contents in
@@ -66,8 +66,8 @@ returns-in-Some-clause-opened g c = λ told.
 
 pub returns-clause-opened : goal.returns-clause-opened
 returns-clause-opened g c = λ told.
-    let old = g.P.Package.state c.args.package.now in
-    let mid = g.P.Package.state c.read_relationships.new.package in
+    let old = c.args.xml.now.source in
+    let mid = c.read_relationships.new.xml.source in
     let path = c.args.path.now in
     let related = related_by_id c.in_ok-relationships.relationships in
     let same = c.in_ok-relationships.ensures.uses.parts in
@@ -92,9 +92,9 @@ returns-clause-opened g c = λ told.
 
 pub returns-in_err-contents-clause-err : goal.returns-in_err-contents-clause-err
 returns-in_err-contents-clause-err g c =
-    let old = g.P.Package.state c.args.package.now in
-    let mid = g.P.Package.state c.read_relationships.new.package in
-    let new = g.P.Package.state c.read_contents.new.package in
+    let old = c.args.xml.now.source in
+    let mid = c.read_relationships.new.xml.source in
+    let new = c.read_contents.new.xml.source in
     let name = codes "workbook" in
     let path = c.args.path.now in
     let related = related_by_id c.in_ok-relationships.relationships in
@@ -120,9 +120,9 @@ returns-in_err-contents-clause-err g c =
 
 pub returns-in_err-contents-clause-uses : goal.returns-in_err-contents-clause-uses
 returns-in_err-contents-clause-uses g c =
-    let old = g.P.Package.state c.args.package.now in
-    let mid = g.P.Package.state c.read_relationships.new.package in
-    let new = g.P.Package.state c.read_contents.new.package in
+    let old = c.args.xml.now.source in
+    let mid = c.read_relationships.new.xml.source in
+    let new = c.read_contents.new.xml.source in
     let path = c.args.path.now in
     let e = c.in_err-contents.field-0.0 in
     let first : UsesPackage (event_count old.parts (relationships_part path)) old mid =

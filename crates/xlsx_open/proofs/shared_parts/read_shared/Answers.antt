@@ -10,10 +10,10 @@ use Rattle.xlsx_open.proofs.shared_parts.read_shared.Goals as goal
 
 pub returns-in_err-style_sheet-clause-err : goal.returns-in_err-style_sheet-clause-err
 returns-in_err-style_sheet-clause-err g c =
-    let old = g.P.Package.state c.args.package.now in
-    let first = g.P.Package.state c.read_strings.new.package in
-    let mid = g.P.Package.state c.read_colors.new.package in
-    let new = g.P.Package.state c.read_style_sheet.new.package in
+    let old = c.args.xml.now.source in
+    let first = c.read_strings.new.xml.source in
+    let mid = c.read_colors.new.xml.source in
+    let new = c.read_style_sheet.new.xml.source in
     let path = c.args.path.now in
     let theme = c.as_slice.result.now in
     let e = c.in_err-style_sheet.field-0.0 in
@@ -33,10 +33,10 @@ returns-in_err-style_sheet-clause-err g c =
 
 pub returns-in_err-style_sheet-clause-uses : goal.returns-in_err-style_sheet-clause-uses
 returns-in_err-style_sheet-clause-uses g c =
-    let old = g.P.Package.state c.args.package.now in
-    let first = g.P.Package.state c.read_strings.new.package in
-    let mid = g.P.Package.state c.read_colors.new.package in
-    let new = g.P.Package.state c.read_style_sheet.new.package in
+    let old = c.args.xml.now.source in
+    let first = c.read_strings.new.xml.source in
+    let mid = c.read_colors.new.xml.source in
+    let new = c.read_style_sheet.new.xml.source in
     let path = c.args.path.now in
     let e = c.in_err-style_sheet.field-0.0 in
     let strings = c.in_ok-strings.ensures.uses in

@@ -11,14 +11,14 @@ use Rattle.xlsx_open.proofs.shared_parts.read_style_sheet.Goals as goal
 
 pub returns-clause-uses : goal.returns-clause-uses
 returns-clause-uses g c =
-    let old = g.P.Package.state c.args.package.now in
-    let new = g.P.Package.state c.read_styles.new.package in
+    let old = c.args.xml.now.source in
+    let new = c.read_styles.new.xml.source in
     subst (λ (part : List ℕ). Uses (event_count old.parts part) Io c.read_styles.result old new)
     (c.as_str.ensures.value ∙ c.in_ok-part.ensures) c.read_styles.ensures.uses
 
 pub returns-clause-styles : goal.returns-clause-styles
 returns-clause-styles g c = λ told.
-    let old = g.P.Package.state c.args.package.now in
+    let old = c.args.xml.now.source in
     let theme = c.args.theme_colors.now in
     subst (λ (part : List ℕ). IfOk c.read_styles.result (λ sheet.
     HasStyles theme old.parts part sheet.formats.items (map style_said sheet.styles.items)))
@@ -26,8 +26,8 @@ returns-clause-styles g c = λ told.
 
 pub returns-clause-err : goal.returns-clause-err
 returns-clause-err g c =
-    let old = g.P.Package.state c.args.package.now in
-    let new = g.P.Package.state c.read_styles.new.package in
+    let old = c.args.xml.now.source in
+    let new = c.read_styles.new.xml.source in
     let theme = c.args.theme_colors.now in
     subst (λ (part : List ℕ). IfErr c.read_styles.result
     (OptionalPartFails (codes "styleSheet") end_in_styles (IsInsideRefused (cell_formats_in theme))
@@ -35,7 +35,7 @@ returns-clause-err g c =
 
 pub returns-clause-to_end : goal.returns-clause-to_end
 returns-clause-to_end g c =
-    let old = g.P.Package.state c.args.package.now in
-    let new = g.P.Package.state c.read_styles.new.package in
+    let old = c.args.xml.now.source in
+    let new = c.read_styles.new.xml.source in
     subst (λ (part : List ℕ). ReadsToEnd (codes "styleSheet") part c.read_styles.result old new)
     (c.as_str.ensures.value ∙ c.in_ok-part.ensures) c.read_styles.ensures.to_end

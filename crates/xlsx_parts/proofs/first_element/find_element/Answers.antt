@@ -2,7 +2,7 @@ use Rattle.std.proofs.Common.{◌≡◌, ◌∷◌, [], List, Some, None, ap, sy
 use Rattle.std.specs.Prelude.{option_map}
 use Rattle.part_events.specs.Event.{Tag, Event, IsStartAnd}
 use Rattle.part_events.specs.Nesting.{whole}
-use Rattle.part_events.specs.Reading.{reading, ahead, events_of}
+use Rattle.part_events.specs.Reading.{ahead, events_of}
 use Rattle.part_events.specs.Section.{behind_start, starts_by, is_named}
 use Rattle.part_events.specs.Walk.{IsNextStart}
 use Rattle.part_events.proofs.Onward.{reads_nothing}
@@ -16,8 +16,8 @@ use Rattle.xlsx_parts.proofs.first_element.find_element.Goals as goal
 
 pub returns-in-Found-clause-found : goal.returns-in-Found-clause-found
 returns-in-Found-clause-found g c = λ told.
-    let old = reading (g.P.Package.state c.args.package.now) c.args.cursor.now in
-    let new = reading (g.P.Package.state c.next_start.new.package) c.next_start.new.self in
+    let old = c.args.xml.now in
+    let new = c.next_start.new.self in
     let name = c.args.name.now in
     let wanted = is_named (name ∷ []) in
     let reads = c.in_ok-next_start.ensures.reads in
@@ -44,7 +44,7 @@ returns-in-Found-clause-found g c = λ told.
 
 pub returns-in-Ended-clause-found : goal.returns-in-Ended-clause-found
 returns-in-Ended-clause-found g c = λ told.
-    let old = reading (g.P.Package.state c.args.package.now) c.args.cursor.now in
+    let old = c.args.xml.now in
     let name = c.args.name.now in
     let wanted = is_named (name ∷ []) in
     let ends = rw c.in-Ended.is at (c.in_ok-next_start.ensures.found told) in

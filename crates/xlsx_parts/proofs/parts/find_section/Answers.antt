@@ -1,7 +1,7 @@
 use Rattle.std.proofs.Common.{◌≡◌, ◌∷◌, [], List, Some, None, ap, sym, ◌∙◌, subst, length}
 use Rattle.std.specs.Prelude.{option_map}
 use Rattle.part_events.specs.Event.{Tag, Event}
-use Rattle.part_events.specs.Reading.{reading, events_of}
+use Rattle.part_events.specs.Reading.{events_of}
 use Rattle.part_events.specs.Section.{behind_start, is_named}
 use Rattle.part_events.specs.Walk.{IsNextStart}
 use Rattle.part_events.proofs.Onward.{reads_nothing}
@@ -13,8 +13,8 @@ use Rattle.xlsx_parts.proofs.parts.find_section.Goals as goal
 
 pub returns-in-Found-clause-found : goal.returns-in-Found-clause-found
 returns-in-Found-clause-found g c = λ told.
-    let old = reading (g.P.Package.state c.args.package.now) c.args.cursor.now in
-    let new = reading (g.P.Package.state c.next_start.new.package) c.next_start.new.self in
+    let old = c.args.xml.now in
+    let new = c.next_start.new.self in
     let name = c.args.name.now in
     let reads = c.in_ok-next_start.ensures.reads in
     let next = start_there new.source.current
@@ -30,7 +30,7 @@ returns-in-Found-clause-found g c = λ told.
 
 pub returns-in-Ended-clause-found : goal.returns-in-Ended-clause-found
 returns-in-Ended-clause-found g c = λ told.
-    let old = reading (g.P.Package.state c.args.package.now) c.args.cursor.now in
+    let old = c.args.xml.now in
     let ends = rw c.in-Ended.is at (c.in_ok-next_start.ensures.found told) in
     let past = nothing_past old c.requires.reading c.requires.first told in
     let wanted = is_named (c.args.name.now ∷ []) in

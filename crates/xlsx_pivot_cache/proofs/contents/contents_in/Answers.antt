@@ -1,6 +1,6 @@
 use Rattle.std.proofs.Common.{◌≡◌, ◌∷◌, Err, codes, length, map, refl, sym, subst}
 use Rattle.part_events.specs.Event.{Event, event_of}
-use Rattle.part_events.specs.Reading.{reading, names_behind, IsEnclosed}
+use Rattle.part_events.specs.Reading.{names_behind, IsEnclosed}
 use Rattle.part_events.specs.Walk.{section_ahead}
 use Rattle.cell_data.specs.CellValue.{value_of_data}
 use Rattle.xlsx_sections.specs.Elements.{IsInsideRefused}
@@ -16,9 +16,9 @@ use Rattle.xlsx_pivot_cache.proofs.contents.contents_in.Goals as goal
 
 pub returns-in_err-_at-clause-err : goal.returns-in_err-_at-clause-err
 returns-in_err-_at-clause-err g c =
-    let old = reading (g.P.Package.state c.args.package.now) c.args.cursor.now in
-    let mid = reading (g.P.Package.state c.events.package) c.events.cursor in
-    let new = reading (g.P.Package.state c.next_event_in.new.package) c.next_event_in.new.cursor in
+    let old = c.args.xml.now in
+    let mid = c.events.xml in
+    let new = c.next_event_in.new.xml in
     given_back (SectionFails (always (codes "cacheField")) (IsInsideRefused items_in) c.args.base
     old new) c.from_residual.result c.from_residual.ensures.1
     (refused_later c.args.base old mid (always (codes "cacheField")) Never
@@ -27,9 +27,9 @@ returns-in_err-_at-clause-err g c =
 
 pub returns-in_err-take_event-clause-err : goal.returns-in_err-take_event-clause-err
 returns-in_err-take_event-clause-err g c =
-    let old = reading (g.P.Package.state c.args.package.now) c.args.cursor.now in
-    let mid = reading (g.P.Package.state c.events.package) c.events.cursor in
-    let new = reading (g.P.Package.state c.next_event_in.new.package) c.next_event_in.new.cursor in
+    let old = c.args.xml.now in
+    let mid = c.events.xml in
+    let new = c.next_event_in.new.xml in
     let event = event_of c.event.result in
     let depth = c.depth.result in
     let left = section_ahead c.args.base new in

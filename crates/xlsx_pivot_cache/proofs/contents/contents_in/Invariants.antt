@@ -1,6 +1,5 @@
 use Rattle.std.proofs.Common.{◌≡◌, length, map, true}
 use Rattle.std.specs.Prelude.{◌||◌}
-use Rattle.part_events.specs.Reading.{reading, open_elements}
 use Rattle.part_events.specs.Walk.{section_ahead, behind_section}
 use Rattle.cell_data.specs.CellValue.{value_of_data}
 use Rattle.xlsx_sections.specs.Answers.{prepended}
@@ -11,8 +10,8 @@ use Rattle.xlsx_pivot_cache.proofs.contents.contents_in.Given as goal
 
 abbrev pub invariant-events : goal.invariant-events
 invariant-events g l =
-    let old = reading (g.P.Package.state l.fn.package) l.fn.cursor in
-    let now = reading (g.P.Package.state l.package) l.cursor in
+    let old = l.fn.xml in
+    let now = l.xml in
     record {
       keeps : KeepsSection l.base old now;
       within : LiesWithin l.contents.place (length (open_elements l.cursor));
@@ -30,4 +29,4 @@ invariant-events g l =
     }
 
 abbrev pub decreases-events : goal.decreases-events
-decreases-events g l = (g.P.Package.state l.package).left
+decreases-events g l = l.xml.source.left

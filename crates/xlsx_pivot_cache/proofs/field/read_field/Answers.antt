@@ -1,6 +1,5 @@
 use Rattle.std.proofs.Common.{◌≡◌, ◌∙◌, Err, codes, length, sym, subst, arith}
 use Rattle.part_events.specs.Event.{Tag}
-use Rattle.part_events.specs.Reading.{reading}
 use Rattle.xlsx_sections.specs.Elements.{IsInsideRefused}
 use Rattle.xlsx_sections.specs.PartSection.{always, section_left, inside_of}
 use Rattle.xlsx_sections.specs.Refusal.{Refusal, ElementFails}
@@ -12,7 +11,7 @@ use Rattle.xlsx_pivot_cache.proofs.field.read_field.Goals as goal
 
 pub returns-in_err-name-clause-err : goal.returns-in_err-name-clause-err
 returns-in_err-name-clause-err g c =
-    let old = reading (g.P.Package.state c.args.package.now) c.args.cursor.now in
+    let old = c.args.xml.now in
     let inside = inside_of (section_left (length old.names) old) in
     let at = c.args.at in
     let error = c.in_err-name.field-0.0 in

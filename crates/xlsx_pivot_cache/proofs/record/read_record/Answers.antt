@@ -1,7 +1,6 @@
 use Rattle.std.proofs.Common.{◌≡◌, ◌∙◌, List, length, Ok, Option, Some, option_map, sym, ap, subst}
 use Rattle.std.specs.Prelude.{slice_get}
 use Rattle.part_events.specs.Event.{tag_of}
-use Rattle.part_events.specs.Reading.{reading}
 use Rattle.part_events.specs.Section.{Element, is_any}
 use Rattle.part_events.specs.Walk.{section_ahead}
 use Rattle.cell_data.specs.CellValue.{CellValue, value_of_data}
@@ -19,8 +18,8 @@ use Rattle.xlsx_pivot_cache.proofs.record.read_record.Goals as goal
 
 pub returns-in_err-_at-clause-err : goal.returns-in_err-_at-clause-err
 returns-in_err-_at-clause-err g c =
-    let old = reading (g.P.Package.state c.args.package.now) c.args.cursor.now in
-    let new = reading (g.P.Package.state c.next_child_in.new.package) c.next_child_in.new.cursor in
+    let old = c.args.xml.now in
+    let new = c.next_child_in.new.xml in
     let refused = IsInsideRefused (row_in (fields_kept c.args.fields.now)) in
     let base = c.depth-base.result in
     let error = c.in_err-_at.field-0.0 in
@@ -32,8 +31,8 @@ returns-in_err-_at-clause-err g c =
 
 pub returns-in_err-value-clause-err : goal.returns-in_err-value-clause-err
 returns-in_err-value-clause-err g c =
-    let old = reading (g.P.Package.state c.args.package.now) c.args.cursor.now in
-    let new = reading (g.P.Package.state c.next_child_in.new.package) c.next_child_in.new.cursor in
+    let old = c.args.xml.now in
+    let new = c.next_child_in.new.xml in
     let fields = fields_kept c.args.fields.now in
     let base = c.depth-base.result in
     let tag = tag_of c.start_tag.result in
@@ -52,9 +51,8 @@ returns-in_err-value-clause-err g c =
 
 pub values-preserved : goal.values-preserved
 values-preserved g c =
-    let old = reading (g.P.Package.state c.args.package.now) c.args.cursor.now in
-    let after = reading (g.P.Package.state c.skip_element_in.new.package)
-    c.skip_element_in.new.cursor in
+    let old = c.args.xml.now in
+    let after = c.skip_element_in.new.xml in
     let fields = fields_kept c.args.fields.now in
     let tag = tag_of c.start_tag.result in
     let own = option_map value_of_data c.in_ok-value.value in
@@ -70,9 +68,8 @@ values-preserved g c =
 
 pub returns-in_err-skip_element_in-clause-err : goal.returns-in_err-skip_element_in-clause-err
 returns-in_err-skip_element_in-clause-err g c =
-    let old = reading (g.P.Package.state c.args.package.now) c.args.cursor.now in
-    let new = reading (g.P.Package.state c.skip_element_in.new.package)
-    c.skip_element_in.new.cursor in
+    let old = c.args.xml.now in
+    let new = c.skip_element_in.new.xml in
     let fields = fields_kept c.args.fields.now in
     let error = c.in_err-skip_element_in.field-0.0 in
     let found = at_start _ c.start_tag.ensures

@@ -1,4 +1,3 @@
-use Rattle.part_events.specs.Reading.{reading}
 use Rattle.xlsx_pivot_cache.specs.CacheFields.{fields_kept}
 use Rattle.xlsx_pivot_cache.specs.CacheRecords.{row_kept}
 use Rattle.xlsx_pivot_cache.proofs.RowsRead.{KeepsValues}
@@ -6,9 +5,9 @@ use Rattle.xlsx_pivot_cache.proofs.record.read_record.Given as goal
 
 abbrev pub invariant-values : goal.invariant-values
 invariant-values g l =
-    let old = reading (g.P.Package.state l.fn.package) l.fn.cursor in
-    let now = reading (g.P.Package.state l.package) l.cursor in
+    let old = l.fn.xml in
+    let now = l.xml in
     KeepsValues (fields_kept l.fields) l.base (row_kept l.row.items) old now
 
 abbrev pub decreases-values : goal.decreases-values
-decreases-values g l = (g.P.Package.state l.package).left
+decreases-values g l = l.xml.source.left

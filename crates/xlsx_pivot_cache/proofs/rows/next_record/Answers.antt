@@ -1,5 +1,4 @@
 use Rattle.std.proofs.Common.{Some}
-use Rattle.part_events.specs.Reading.{reading}
 use Rattle.part_events.specs.Section.{Element}
 use Rattle.xlsx_sections.proofs.ElementsRead.{keeps_none}
 use Rattle.xlsx_sections.proofs.ElementsSaid.{found_there}
@@ -11,9 +10,8 @@ use Rattle.xlsx_pivot_cache.proofs.rows.next_record.Goals as goal
 
 pub returns-in_err-_at-clause-err : goal.returns-in_err-_at-clause-err
 returns-in_err-_at-clause-err g c =
-    let old = reading (g.P.Package.state c.args.package.now) c.args.cursor.now in
-    let new = reading (g.P.Package.state c.next_element_in.new.package)
-    c.next_element_in.new.cursor in
+    let old = c.args.xml.now in
+    let new = c.next_element_in.new.xml in
     given_back _ c.from_residual.result c.from_residual.ensures.1
     (next_stopped (fields_kept c.args.fields.now) c.args.base old new c.in_err-_at.field-0.0
     (c.in_err-_at.ensures.refused old (λ (element : Element). Some records_name)
@@ -22,8 +20,8 @@ returns-in_err-_at-clause-err g c =
 
 pub returns-in_err-row-clause-err : goal.returns-in_err-row-clause-err
 returns-in_err-row-clause-err g c =
-    let old = reading (g.P.Package.state c.args.package.now) c.args.cursor.now in
-    let new = reading (g.P.Package.state c.read_record.new.package) c.read_record.new.cursor in
+    let old = c.args.xml.now in
+    let new = c.read_record.new.xml in
     let found = found_there {wanted = is_record} c.in-Some.is
     (keeps_none is_record c.args.base old c.requires.reading c.requires.within)
     c.in_ok-_at.ensures.step in
@@ -33,7 +31,7 @@ returns-in_err-row-clause-err g c =
 
 pub returns-clause-row : goal.returns-clause-row
 returns-clause-row g c =
-    let old = reading (g.P.Package.state c.args.package.now) c.args.cursor.now in
+    let old = c.args.xml.now in
     let found = found_there {wanted = is_record} c.in-Some.is
     (keeps_none is_record c.args.base old c.requires.reading c.requires.within)
     c.in_ok-_at.ensures.step in

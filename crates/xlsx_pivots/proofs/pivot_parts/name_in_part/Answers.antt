@@ -3,7 +3,7 @@ use Rattle.part_events.specs.Walk.{section_ahead, section_end}
 use Rattle.std.proofs.Common.{Ok, true, rules}
 use Rattle.std.proofs.Common.{subst, arith, option_map, string_bytes}
 use Rattle.part_events.specs.Event.{Tag, tag_of}
-use Rattle.part_events.specs.Reading.{reading, events_of}
+use Rattle.part_events.specs.Reading.{events_of}
 use Rattle.xlsx_sections.specs.Changes.{changed_by}
 use Rattle.xlsx_sections.specs.Elements.{IsInsideRefused}
 use Rattle.xlsx_sections.specs.PartSection.{always, section_left, inside_of, SectionFails}
@@ -23,8 +23,8 @@ use Rattle.xlsx_pivots.proofs.pivot_parts.name_in_part.Goals as goal
 pub returns-in_err-at-clause-err : goal.returns-in_err-at-clause-err
 returns-in_err-at-clause-err g c =
     let name = codes "pivotTableDefinition" in
-    let old = reading (g.P.Package.state c.args.package.now) c.args.cursor.now in
-    let new = reading (g.P.Package.state c.find_element.new.package) c.find_element.new.cursor in
+    let old = c.args.xml.now in
+    let new = c.find_element.new.xml in
     given_back _ c.from_residual.result c.from_residual.ensures.1
     (first_refused (FirstElementCause name name name_said (events_of old))
     (Lacks single.Name (name_in_part (events_of old))) old.source new.source c.in_err-at.field-0.0
@@ -34,8 +34,8 @@ returns-in_err-at-clause-err g c =
 pub returns-in_err-keep_name-clause-err : goal.returns-in_err-keep_name-clause-err
 returns-in_err-keep_name-clause-err g c =
     let name = codes "pivotTableDefinition" in
-    let old = reading (g.P.Package.state c.args.package.now) c.args.cursor.now in
-    let mid = reading (g.P.Package.state c.find_element.new.package) c.find_element.new.cursor in
+    let old = c.args.xml.now in
+    let mid = c.find_element.new.xml in
     let tag = tag_of c.start_tag.result in
     let s = section_left (length mid.names) mid in
     let error = c.in_err-keep_name.field-0.0 in
@@ -59,9 +59,9 @@ returns-in_err-keep_name-clause-err g c =
 pub returns-in_err-keep_starts-clause-err : goal.returns-in_err-keep_starts-clause-err
 returns-in_err-keep_starts-clause-err g c =
     let name = codes "pivotTableDefinition" in
-    let old = reading (g.P.Package.state c.args.package.now) c.args.cursor.now in
-    let mid = reading (g.P.Package.state c.find_element.new.package) c.find_element.new.cursor in
-    let new = reading (g.P.Package.state c.keep_starts.new.package) c.keep_starts.new.cursor in
+    let old = c.args.xml.now in
+    let mid = c.find_element.new.xml in
+    let new = c.keep_starts.new.xml in
     let tag = tag_of c.start_tag.result in
     let s = section_left (length mid.names) mid in
     let error = c.in_err-keep_starts.field-0.0 in
@@ -87,9 +87,9 @@ returns-in_err-keep_starts-clause-err g c =
 pub returns-in-Some-kept-clause-ends : goal.returns-in-Some-kept-clause-ends
 returns-in-Some-kept-clause-ends g c = λ told.
     let name = codes "pivotTableDefinition" in
-    let old = reading (g.P.Package.state c.args.package.now) c.args.cursor.now in
-    let mid = reading (g.P.Package.state c.find_element.new.package) c.find_element.new.cursor in
-    let new = reading (g.P.Package.state c.keep_starts.new.package) c.keep_starts.new.cursor in
+    let old = c.args.xml.now in
+    let mid = c.find_element.new.xml in
+    let new = c.keep_starts.new.xml in
     let tag = tag_of c.start_tag.result in
     let s = section_left (length mid.names) mid in
     let still = c.in_ok-at.ensures.reads.moves.parts.is_told ∙ told in
@@ -103,7 +103,7 @@ returns-in-Some-kept-clause-ends g c = λ told.
 
 pub returns-in-Some-kept-clause-name : goal.returns-in-Some-kept-clause-name
 returns-in-Some-kept-clause-name g c =
-    let mid = reading (g.P.Package.state c.find_element.new.package) c.find_element.new.cursor in
+    let mid = c.find_element.new.xml in
     let held : mid.source.is_told ≡ true
     → name_behind (option_map string_bytes c.keep_name.new.kept)
     (section_ahead c.depth-base.result mid)
@@ -113,7 +113,7 @@ returns-in-Some-kept-clause-name g c =
 
 pub returns-in-None-clause-err : goal.returns-in-None-clause-err
 returns-in-None-clause-err g c =
-    let mid = reading (g.P.Package.state c.find_element.new.package) c.find_element.new.cursor in
+    let mid = c.find_element.new.xml in
     let held : mid.source.is_told ≡ true
     → name_behind (option_map string_bytes c.keep_name.new.kept)
     (section_ahead c.depth-base.result mid)

@@ -10,7 +10,7 @@ use Rattle.xlsx_pivots.proofs.pivots.find_pivot_tables.Goals as goal
 pub sheets-init : goal.sheets-init
 sheets-init g c =
     let ask = pivots_ask c.args.xl_path.now (map sheet_given c.args.sheets.now) in
-    rw c.new-found.ensures (leads_first ask [] (g.P.Package.state c.args.package.now))
+    rw c.new-found.ensures (leads_first ask [] c.args.xml.now.source)
 
 pub sheets-preserved : goal.sheets-preserved
 sheets-preserved g c =

@@ -12,9 +12,9 @@ use Rattle.xlsx_pivots.proofs.pivots.pivot_at.Goals as goal
 
 pub returns-in_err-definitions-clause-uses : goal.returns-in_err-definitions-clause-uses
 returns-in_err-definitions-clause-uses g c =
-    let old = g.P.Package.state c.args.package.now in
-    let mid = g.P.Package.state c.name_at.new.package in
-    let new = g.P.Package.state c.definitions_at.new.package in
+    let old = c.args.xml.now.source in
+    let mid = c.name_at.new.xml.source in
+    let new = c.definitions_at.new.xml.source in
     let path = c.args.path.now in
     let e = c.in_err-definitions.field-0.0 in
     let first = c.in_ok-name.ensures.uses in
@@ -27,10 +27,10 @@ returns-in_err-definitions-clause-uses g c =
 
 pub returns-in_err-records-clause-uses : goal.returns-in_err-records-clause-uses
 returns-in_err-records-clause-uses g c =
-    let old = g.P.Package.state c.args.package.now in
-    let mid = g.P.Package.state c.name_at.new.package in
-    let there = g.P.Package.state c.definitions_at.new.package in
-    let new = g.P.Package.state c.records_at.new.package in
+    let old = c.args.xml.now.source in
+    let mid = c.name_at.new.xml.source in
+    let there = c.definitions_at.new.xml.source in
+    let new = c.records_at.new.xml.source in
     let p = err_from_is_err_and c.from_residual-in_err-records.result
     c.from_residual-in_err-records.ensures.1 in
     rw (p.1, p.2) (pivot_leaves c.args.path.now (string_bytes c.in_ok-definitions.definitions)
@@ -40,10 +40,10 @@ returns-in_err-records-clause-uses g c =
 
 pub returns-clause-uses : goal.returns-clause-uses
 returns-clause-uses g c =
-    let old = g.P.Package.state c.args.package.now in
-    let mid = g.P.Package.state c.name_at.new.package in
-    let there = g.P.Package.state c.definitions_at.new.package in
-    let new = g.P.Package.state c.records_at.new.package in
+    let old = c.args.xml.now.source in
+    let mid = c.name_at.new.xml.source in
+    let there = c.definitions_at.new.xml.source in
+    let new = c.records_at.new.xml.source in
     pivot_uses c.args.path.now (string_bytes c.in_ok-definitions.definitions)
     old mid there new c.in_ok-name.ensures.uses
     c.in_ok-definitions.ensures.uses c.in_ok-definitions.ensures.path
@@ -51,10 +51,10 @@ returns-clause-uses g c =
 
 pub returns-clause-to_end : goal.returns-clause-to_end
 returns-clause-to_end g c = λ told.
-    let old = g.P.Package.state c.args.package.now in
-    let mid = g.P.Package.state c.name_at.new.package in
-    let further = g.P.Package.state c.definitions_at.new.package in
-    let new = g.P.Package.state c.records_at.new.package in
+    let old = c.args.xml.now.source in
+    let mid = c.name_at.new.xml.source in
+    let further = c.definitions_at.new.xml.source in
+    let new = c.records_at.new.xml.source in
     let path = c.args.path.now in
     let there = string_bytes c.in_ok-definitions.definitions in
     let first = c.in_ok-name.ensures.uses.parts in

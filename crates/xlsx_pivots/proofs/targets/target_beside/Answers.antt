@@ -1,5 +1,4 @@
 use Rattle.std.proofs.Common.{◌≡◌, true, Ok, ◌∙◌, codes, option_map, string_bytes, rules}
-use Rattle.part_events.specs.Reading.{reading}
 use Rattle.part_events.specs.Walk.{section_ahead}
 use Rattle.xlsx_sections.specs.Elements.{IsInsideRefused}
 use Rattle.xlsx_sections.specs.PartSection.{always, SectionFails}
@@ -9,8 +8,8 @@ use Rattle.xlsx_pivots.proofs.targets.target_beside.Goals as goal
 
 pub returns-in_err-keep_starts-clause-err : goal.returns-in_err-keep_starts-clause-err
 returns-in_err-keep_starts-clause-err g c =
-    let mid = reading (g.P.Package.state c.enter_part.new.package) c.in-Some.cursor in
-    let new = reading (g.P.Package.state c.keep_starts.new.package) c.keep_starts.new.cursor in
+    let mid = reading c.enter_part.new.xml.source c.in-Some.cursor in
+    let new = c.keep_starts.new.xml in
     let refused = IsInsideRefused (single_target_in c.args.wanted.now c.args.single) in
     let here : SectionFails (always (codes "Relationships")) refused c.depth-base.result mid new
     c.in_err-keep_starts.field-0.0 = c.in_err-keep_starts.ensures.err tt in
@@ -19,7 +18,7 @@ returns-in_err-keep_starts-clause-err g c =
 
 pub returns-in-Some-kept-clause-target : goal.returns-in-Some-kept-clause-target
 returns-in-Some-kept-clause-target g c = λ told.
-    let mid = reading (g.P.Package.state c.enter_part.new.package) c.in-Some.cursor in
+    let mid = reading c.enter_part.new.xml.source c.in-Some.cursor in
     let enters = rw c.in-Some.is at c.in_ok-cursor.ensures.enters in
     let inside = section_ahead c.depth-base.result mid in
     let said : single_target_in c.args.wanted.now c.args.single inside
@@ -29,10 +28,10 @@ returns-in-Some-kept-clause-target g c = λ told.
 
 pub returns-clause-err : goal.returns-clause-err
 returns-clause-err g c =
-    let mid = reading (g.P.Package.state c.enter_part.new.package) c.in-Some.cursor in
+    let mid = reading c.enter_part.new.xml.source c.in-Some.cursor in
     let enters = rw c.in-Some.is at c.in_ok-cursor.ensures.enters in
     let inside = section_ahead c.depth-base.result mid in
-    let said = λ (told : (g.P.Package.state c.args.package.now).is_told ≡ true).
+    let said = λ (told : c.args.xml.now.source.is_told ≡ true).
     let own : single_target_in c.args.wanted.now c.args.single inside
     ≡ Ok (option_map string_bytes c.keep_starts.new.keeper.kept) =
     c.in_ok-keep_starts.ensures.kept (enters.parts.is_told ∙ told) tt in own in

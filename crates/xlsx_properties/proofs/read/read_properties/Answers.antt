@@ -15,8 +15,8 @@ use Rattle.xlsx_properties.proofs.read.read_properties.Goals as goal
 
 pub returns-in_err-keep_part-clause-err : goal.returns-in_err-keep_part-clause-err
 returns-in_err-keep_part-clause-err g c =
-    let old = g.P.Package.state c.args.package.now in
-    let new = g.P.Package.state c.keep_part.new.package in
+    let old = c.args.xml.now.source in
+    let new = c.keep_part.new.xml.source in
     given_back _ c.from_residual.result c.from_residual.ensures.1
     (fails_by_weaker (PropertiesCause old.parts)
     (SaidCause (property_in core_properties) core_part old.parts) new c.in_err-keep_part.field-0.0
@@ -33,9 +33,9 @@ returns-in_err-keep_part-2-clause-uses g c =
 
 pub returns-in_err-keep_part-2-clause-err : goal.returns-in_err-keep_part-2-clause-err
 returns-in_err-keep_part-2-clause-err g c =
-    let old = g.P.Package.state c.args.package.now in
-    let mid = g.P.Package.state c.keep_part.new.package in
-    let new = g.P.Package.state c.keep_part-2.new.package in
+    let old = c.args.xml.now.source in
+    let mid = c.keep_part.new.xml.source in
+    let new = c.keep_part-2.new.xml.source in
     let first = c.in_ok-keep_part.ensures.uses in
     let p = err_from_is_err_and c.from_residual-in_err-keep_part-2.result
     c.from_residual-in_err-keep_part-2.ensures.1 in
@@ -50,8 +50,8 @@ pub returns-in_err-keep_part-3-clause-uses : goal.returns-in_err-keep_part-3-cla
 returns-in_err-keep_part-3-clause-uses g c =
     let first = c.in_ok-keep_part.ensures.uses in
     let second = rw first.parts.parts at c.in_ok-keep_part-2.ensures.uses in
-    let old = g.P.Package.state c.args.package.now in
-    let mid = g.P.Package.state c.keep_part-2.new.package in
+    let old = c.args.xml.now.source in
+    let mid = c.keep_part-2.new.xml.source in
     let both : UsesPackage (event_count old.parts core_part + event_count old.parts program_part)
     old mid = uses_then (omega arith) first second in
     let p = err_from_is_err_and c.from_residual-in_err-keep_part-3.result
@@ -62,9 +62,9 @@ returns-in_err-keep_part-3-clause-uses g c =
 
 pub returns-in_err-keep_part-3-clause-err : goal.returns-in_err-keep_part-3-clause-err
 returns-in_err-keep_part-3-clause-err g c =
-    let old = g.P.Package.state c.args.package.now in
-    let mid = g.P.Package.state c.keep_part-2.new.package in
-    let new = g.P.Package.state c.keep_part-3.new.package in
+    let old = c.args.xml.now.source in
+    let mid = c.keep_part-2.new.xml.source in
+    let new = c.keep_part-3.new.xml.source in
     let both = same_further c.in_ok-keep_part.ensures.uses.parts
     c.in_ok-keep_part-2.ensures.uses.parts in
     let p = err_from_is_err_and c.from_residual-in_err-keep_part-3.result
@@ -79,8 +79,8 @@ pub returns-clause-uses : goal.returns-clause-uses
 returns-clause-uses g c =
     let first = c.in_ok-keep_part.ensures.uses in
     let second = rw first.parts.parts at c.in_ok-keep_part-2.ensures.uses in
-    let old = g.P.Package.state c.args.package.now in
-    let mid = g.P.Package.state c.keep_part-2.new.package in
+    let old = c.args.xml.now.source in
+    let mid = c.keep_part-2.new.xml.source in
     let both : UsesPackage (event_count old.parts core_part + event_count old.parts program_part)
     old mid = uses_then (omega arith) first second in
     uses_then (omega arith) both (rw both.parts.parts at c.in_ok-keep_part-3.ensures.uses)
@@ -112,7 +112,7 @@ returns-clause-whole g c = λ told.
 
 pub returns-clause-properties : goal.returns-clause-properties
 returns-clause-properties g c = λ told wanted.
-    let old = g.P.Package.state c.args.package.now in
+    let old = c.args.xml.now.source in
     let first = c.in_ok-keep_part.ensures.uses.parts in
     let core = c.new-core.ensures in
     let program = c.new-program.ensures in
@@ -129,7 +129,7 @@ returns-clause-properties g c = λ told wanted.
 
 pub returns-clause-custom : goal.returns-clause-custom
 returns-clause-custom g c = λ told name.
-    let old = g.P.Package.state c.args.package.now in
+    let old = c.args.xml.now.source in
     let first = c.in_ok-keep_part.ensures.uses.parts in
     let second = c.in_ok-keep_part-2.ensures.uses.parts in
     let still = second.is_told ∙ first.is_told ∙ told in

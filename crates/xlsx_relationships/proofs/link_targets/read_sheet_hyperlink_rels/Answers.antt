@@ -1,6 +1,5 @@
 use Rattle.std.proofs.Common.{◌≡◌, None, List, [], ℕ, codes, ◌∙◌, rules}
 use Rattle.part_events.specs.Event.{Event}
-use Rattle.part_events.specs.Reading.{reading}
 use Rattle.part_events.specs.Walk.{section_ahead}
 use Rattle.xlsx_sections.specs.Elements.{IsInsideRefused}
 use Rattle.xlsx_sections.specs.Keeping.{changed_in}
@@ -13,7 +12,7 @@ use Rattle.xlsx_relationships.proofs.link_targets.read_sheet_hyperlink_rels.Goal
 
 pub returns-clause-targets : goal.returns-clause-targets
 returns-clause-targets g c = λ told.
-    let mid = reading (g.P.Package.state c.enter_part.new.package) c.in-Some.cursor in
+    let mid = reading c.enter_part.new.xml.source c.in-Some.cursor in
     let enters = rw c.in-Some.is at c.in_ok-cursor.ensures.enters in
     let none : (id : List ℕ) → target_held c.new-targets.result id ≡ None = λ id. search rules in
     let held = targets_held (section_ahead c.depth-base.result mid) c.new-targets.result
@@ -24,8 +23,8 @@ returns-clause-targets g c = λ told.
 pub returns-in_err-keep_starts-clause-err : goal.returns-in_err-keep_starts-clause-err
 returns-in_err-keep_starts-clause-err g c =
     let ending = always (codes "Relationships") in
-    let mid = reading (g.P.Package.state c.enter_part.new.package) c.in-Some.cursor in
-    let new = reading (g.P.Package.state c.keep_starts.new.package) c.keep_starts.new.cursor in
+    let mid = reading c.enter_part.new.xml.source c.in-Some.cursor in
+    let new = c.keep_starts.new.xml in
     let base = c.depth-base.result in
     let e = c.in_err-keep_starts.field-0.0 in
     let first = target_held c.new-targets.result [] in

@@ -10,8 +10,8 @@ invariant-paths g l =
     record {
       leads :
           Leads (each r.Kind (r.ask l.by) (map string_bytes l.left)) (held l.items.items)
-          (g.P.Package.state l.package) (each_related r.Kind (r.ask l.by) l.typ l.path)
-          (held l.fn.items.items) (g.P.Package.state l.fn.package);
+          l.xml.source (each_related r.Kind (r.ask l.by) l.typ l.path)
+          (held l.fn.items.items) l.fn.xml.source;
       kept : (more : List g.row.R-Item.Denot) × (l.items.items ≡ l.fn.items.items ++ more);
     }
 

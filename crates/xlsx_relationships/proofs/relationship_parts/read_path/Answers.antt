@@ -1,6 +1,5 @@
 use Rattle.std.proofs.Common.{◌≡◌, None, Ok, refl, true, ℕ, inl, inr, subst, codes, length}
 use Rattle.std.proofs.lemmas.Result.{err_from_is_err_and}
-use Rattle.part_events.specs.Reading.{reading}
 use Rattle.part_events.specs.Walk.{section_ahead, is_closed_ahead}
 use Rattle.xlsx_error.specs.declared.error.XlsxError.TheVariants.{RelationshipNotFound}
 use Rattle.xlsx_sections.specs.PartSection.{always, SectionFails}
@@ -13,9 +12,9 @@ pub returns-in_err-path-clause-err : goal.returns-in_err-path-clause-err
 unfolding IsPathRefused IsTargetRefused
 returns-in_err-path-clause-err g c =
     let name = codes "Relationships" in
-    let old = g.P.Package.state c.args.package.now in
-    let mid = reading (g.P.Package.state c.enter_part.new.package) c.in-Some.cursor in
-    let new = reading (g.P.Package.state c.keep_last.new.package) c.keep_last.new.cursor in
+    let old = c.args.xml.now.source in
+    let mid = reading c.enter_part.new.xml.source c.in-Some.cursor in
+    let new = c.keep_last.new.xml in
     let e = c.in_err-path.field-0.0 in
     let enters = rw c.in-Some.is at c.in_ok-cursor.ensures.enters in
     let here : SectionFails (always name) IsTargetRefused (length mid.names) mid new e =
@@ -33,9 +32,9 @@ pub returns-clause-err : goal.returns-clause-err
 unfolding IsPathRefused
 returns-clause-err g c =
     let name = codes "Relationships" in
-    let old = g.P.Package.state c.args.package.now in
-    let mid = reading (g.P.Package.state c.enter_part.new.package) c.in-Some.cursor in
-    let new = reading (g.P.Package.state c.keep_last.new.package) c.keep_last.new.cursor in
+    let old = c.args.xml.now.source in
+    let mid = reading c.enter_part.new.xml.source c.in-Some.cursor in
+    let new = c.keep_last.new.xml in
     let enters = rw c.in-Some.is at c.in_ok-cursor.ensures.enters in
     let here : SectionFails (always name) IsPathRefused (length mid.names) mid new
     RelationshipNotFound = λ told.

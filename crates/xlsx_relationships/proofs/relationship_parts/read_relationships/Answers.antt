@@ -1,6 +1,5 @@
 use Rattle.std.proofs.Common.{◌≡◌, ◌∷◌, [], None, Ok, List, ℕ, codes, subst, sym, ◌∙◌, rules}
 use Rattle.part_events.specs.Event.{Event}
-use Rattle.part_events.specs.Reading.{reading}
 use Rattle.part_events.specs.Section.{is_named}
 use Rattle.part_events.specs.Walk.{section_ahead}
 use Rattle.xlsx_sections.specs.Elements.{IsInsideRefused}
@@ -19,9 +18,9 @@ returns-in_err-keep_starts-clause-err g c =
     let name = codes "Relationships" in
     let ending = always name in
     let wanted = is_named (codes "Relationship" ∷ []) in
-    let old = g.P.Package.state c.args.package.now in
-    let mid = reading (g.P.Package.state c.enter_part.new.package) c.in-Some.cursor in
-    let new = reading (g.P.Package.state c.keep_starts.new.package) c.keep_starts.new.cursor in
+    let old = c.args.xml.now.source in
+    let mid = reading c.enter_part.new.xml.source c.in-Some.cursor in
+    let new = c.keep_starts.new.xml in
     let part = c.args.part.now in
     let base = c.depth-base.result in
     let enters = rw c.in-Some.is at c.in_ok-cursor.ensures.enters in
@@ -48,7 +47,7 @@ returns-in_err-keep_starts-clause-err g c =
 pub returns-clause-related : goal.returns-clause-related
 returns-clause-related g c = λ told.
     let wanted = is_named (codes "Relationship" ∷ []) in
-    let mid = reading (g.P.Package.state c.enter_part.new.package) c.in-Some.cursor in
+    let mid = reading c.enter_part.new.xml.source c.in-Some.cursor in
     let enters = rw c.in-Some.is at c.in_ok-cursor.ensures.enters in
     let inside = section_ahead c.depth-base.result mid in
     let held : (id : List ℕ) → related_in inside id

@@ -10,14 +10,14 @@ pub returns-in_err-_at-clause-err : goal.returns-in_err-_at-clause-err
 returns-in_err-_at-clause-err g c =
     given_back _ c.from_residual.result c.from_residual.ensures.1
     (own_list_stopped c.args.section.now g.R.ReadsEach.ending
-    (g.P.Package.state c.next_element_in.new.package) _ c.depth-base.ensures c.elements.invariant
+    c.next_element_in.new.xml.source _ c.depth-base.ensures c.elements.invariant
     c.in_err-_at.ensures.refused)
 
 pub returns-in_err-read-clause-err : goal.returns-in_err-read-clause-err
 returns-in_err-read-clause-err g c =
     given_back _ c.from_residual-in_err-read.result c.from_residual-in_err-read.ensures.1
     (own_list_refused c.args.section.now g.R.ReadsEach.ending _
-    (g.P.Package.state c.read.new.package) _ c.depth-base.ensures c.in-Some.is
+    c.read.new.xml.source _ c.depth-base.ensures c.in-Some.is
     c.elements.invariant c.in_ok-_at.ensures.step c.in_err-read.ensures.err)
 
 pub elements-preserved : goal.elements-preserved

@@ -2,7 +2,6 @@ use Rattle.std.proofs.Common.{◌≡◌, List, map, arith, ap, sym, ◌∙◌, s
 use Rattle.std.proofs.lemmas.Result.{err_from_is_err_and}
 use Rattle.part_events.specs.Event.{Event}
 use Rattle.part_events.specs.Nesting.{whole}
-use Rattle.part_events.specs.Reading.{reading}
 use Rattle.part_events.specs.Section.{is_named}
 use Rattle.part_events.proofs.Onward.{whole_at_end}
 use Rattle.xlsx_sections.specs.Elements.{end_outside}
@@ -39,8 +38,8 @@ returns-in-Ended-clause-refused g c = λ first inner keeps told.
 
 pub returns-in_err-next_element-clause-cut : goal.returns-in_err-next_element-clause-cut
 returns-in_err-next_element-clause-cut g c =
-    let old = reading (g.P.Package.state c.args.package.now) c.args.cursor.now in
-    let new = reading (g.P.Package.state c.next_element.new.package) c.next_element.new.self in
+    let old = c.args.xml.now in
+    let new = c.next_element.new.self in
     let p = err_from_is_err_and c.from_residual.result c.from_residual.ensures.1 in
     rw (p.1, p.2)
     (walk_cut (is_named (map (λ name. name.now) c.args.names.now)) c.args.base old new

@@ -1,7 +1,7 @@
 use Rattle.std.proofs.Common.{[], refl, sym, ◌∙◌, append-nil}
 use Rattle.std.proofs.lemmas.Result.{err_from_is_err_and}
 use Rattle.part_events.proofs.Onward.{whole_at_end}
-use Rattle.part_events.specs.Reading.{reading, ahead}
+use Rattle.part_events.specs.Reading.{ahead}
 use Rattle.part_events.specs.Section.{content}
 use Rattle.xlsx_sections.proofs.ElementsRead.{own_end, skips_element}
 use Rattle.xlsx_sections.proofs.TextsRead.{text_refused}
@@ -9,8 +9,8 @@ use Rattle.xlsx_sections.proofs.elements.read_element_text.Goals as goal
 
 pub returns-in_err-read_text-clause-err : goal.returns-in_err-read_text-clause-err
 returns-in_err-read_text-clause-err g c =
-    let old = reading (g.P.Package.state c.args.package.now) c.args.cursor.now in
-    let new = reading (g.P.Package.state c.read_text.new.package) c.read_text.new.self in
+    let old = c.args.xml.now in
+    let new = c.read_text.new.self in
     let p = err_from_is_err_and c.from_residual.result c.from_residual.ensures.1 in
     rw (p.1, p.2)
     (text_refused c.args.name.now c.args.char_data old new c.in_err-read_text.field-0.0
@@ -18,7 +18,7 @@ returns-in_err-read_text-clause-err g c =
 
 pub returns-then-not-branch-clause-err : goal.returns-then-not-branch-clause-err
 returns-then-not-branch-clause-err g c = λ told.
-    let old = reading (g.P.Package.state c.args.package.now) c.args.cursor.now in
+    let old = c.args.xml.now in
     let text = c.in_ok-read_text.ensures.text told in
     let open_still = c.if-not-branch.true in (
       (
@@ -30,7 +30,7 @@ returns-then-not-branch-clause-err g c = λ told.
 
 pub returns-then-not-branch-clause-front : goal.returns-then-not-branch-clause-front
 returns-then-not-branch-clause-front g c = λ told.
-    let old = reading (g.P.Package.state c.args.package.now) c.args.cursor.now in
+    let old = c.args.xml.now in
     record {
       front = content 0 (ahead old);
       more = [];

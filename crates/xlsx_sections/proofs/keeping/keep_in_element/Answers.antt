@@ -1,6 +1,5 @@
 use Rattle.std.proofs.Common.{map}
 use Rattle.std.proofs.lemmas.Result.{IfErr-weaker}
-use Rattle.part_events.specs.Reading.{reading}
 use Rattle.part_events.specs.Section.{is_named}
 use Rattle.xlsx_sections.specs.Elements.{IsInsideRefused, ElementReadFails}
 use Rattle.xlsx_sections.specs.Keeping.{changed_in}
@@ -11,8 +10,8 @@ use Rattle.xlsx_sections.proofs.keeping.keep_in_element.Goals as goal
 pub returns-clause-err : goal.returns-clause-err
 returns-clause-err g c =
     let k = g.K.Keeps in
-    let old = reading (g.P.Package.state c.args.package.now) c.args.cursor.now in
-    let new = reading (g.P.Package.state c.keep_starts.new.package) c.keep_starts.new.cursor in
+    let old = c.args.xml.now in
+    let new = c.keep_starts.new.xml in
     let wanted = is_named (map (λ name. name.now) c.args.names.now) in
     let ending = always c.args.section.now in
     let keeper = c.args.keeper.now in

@@ -1,5 +1,4 @@
 use Rattle.std.proofs.Common.{◌≡◌, map}
-use Rattle.part_events.specs.Reading.{reading}
 use Rattle.part_events.specs.Section.{is_named}
 use Rattle.xlsx_sections.specs.Elements.{KeepsStarts}
 use Rattle.xlsx_sections.specs.Keeping.{changed_in}
@@ -8,8 +7,8 @@ use Rattle.xlsx_sections.proofs.keeping.keep_starts.Given as goal
 
 abbrev pub invariant-starts : goal.invariant-starts
 invariant-starts g l =
-    let old = reading (g.P.Package.state l.fn.package) l.fn.cursor in
-    let now = reading (g.P.Package.state l.package) l.cursor in
+    let old = l.fn.xml in
+    let now = l.xml in
     let wanted = is_named (map (λ name. name.now) l.names) in
     let k = g.K.Keeps in
     let change = k.change l.fn.keeper in
@@ -23,4 +22,4 @@ invariant-starts g l =
     }
 
 abbrev pub decreases-starts : goal.decreases-starts
-decreases-starts g l = (g.P.Package.state l.package).left
+decreases-starts g l = l.xml.source.left

@@ -1,5 +1,4 @@
 use Rattle.std.proofs.Common.{◌≡◌, [], map, sym, ◌∙◌, rules}
-use Rattle.part_events.specs.Reading.{reading}
 use Rattle.part_events.specs.Section.{is_named}
 use Rattle.part_events.specs.Walk.{section_ahead}
 use Rattle.xlsx_sections.specs.Keeping.{changed_in, some_in, put_behind}
@@ -10,7 +9,7 @@ use Rattle.xlsx_sections.proofs.keeping_lists.keep_all.Goals as goal
 
 pub returns-clause-kept : goal.returns-clause-kept
 returns-clause-kept g c = λ told.
-    let old = reading (g.P.Package.state c.args.package.now) c.args.cursor.now in
+    let old = c.args.xml.now in
     let wanted = is_named (map (λ name. name.now) c.args.names.now) in
     let kept = map g.R.Reads.said c.new-items.result.items in
     sym (put_in wanted (g.R.Reads.meaning c.args.by) kept (section_ahead c.args.base old)
@@ -19,8 +18,8 @@ returns-clause-kept g c = λ told.
 
 pub returns-in_err-keep_starts-clause-err : goal.returns-in_err-keep_starts-clause-err
 returns-in_err-keep_starts-clause-err g c =
-    let old = reading (g.P.Package.state c.args.package.now) c.args.cursor.now in
-    let new = reading (g.P.Package.state c.keep_starts.new.package) c.keep_starts.new.cursor in
+    let old = c.args.xml.now in
+    let new = c.keep_starts.new.xml in
     let wanted = is_named (map (λ name. name.now) c.args.names.now) in
     let meaning = g.R.Reads.meaning c.args.by in
     let kept = map g.R.Reads.said c.new-items.result.items in

@@ -1,5 +1,4 @@
 use Rattle.std.proofs.Common.{None, map, refl, sym, ◌∙◌}
-use Rattle.part_events.specs.Reading.{reading}
 use Rattle.part_events.specs.Section.{is_named}
 use Rattle.part_events.specs.Walk.{section_ahead}
 use Rattle.xlsx_sections.specs.Keeping.{changed_in, last_in, or_before}
@@ -10,15 +9,15 @@ use Rattle.xlsx_sections.proofs.keeping_lists.keep_last.Goals as goal
 
 pub returns-clause-kept : goal.returns-clause-kept
 returns-clause-kept g c = λ told.
-    let old = reading (g.P.Package.state c.args.package.now) c.args.cursor.now in
+    let old = c.args.xml.now in
     let wanted = is_named (map (λ name. name.now) c.args.names.now) in
     sym (or_in wanted (g.R.Reads.meaning c.args.by) None (section_ahead c.args.base old) refl)
     ∙ c.in_ok-keep_starts.ensures.kept told tt
 
 pub returns-in_err-keep_starts-clause-err : goal.returns-in_err-keep_starts-clause-err
 returns-in_err-keep_starts-clause-err g c =
-    let old = reading (g.P.Package.state c.args.package.now) c.args.cursor.now in
-    let new = reading (g.P.Package.state c.keep_starts.new.package) c.keep_starts.new.cursor in
+    let old = c.args.xml.now in
+    let new = c.keep_starts.new.xml in
     let wanted = is_named (map (λ name. name.now) c.args.names.now) in
     let meaning = g.R.Reads.meaning c.args.by in
     given_back _ c.from_residual.result c.from_residual.ensures.1

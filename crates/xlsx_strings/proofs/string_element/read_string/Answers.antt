@@ -1,5 +1,4 @@
 use Rattle.std.proofs.Common.{[], ap, string_bytes}
-use Rattle.part_events.specs.Reading.{reading}
 use Rattle.part_events.specs.Walk.{element_at}
 use Rattle.part_events.proofs.Texts.{front_further}
 use Rattle.xlsx_sections.specs.Elements.{IsInsideRefused}
@@ -17,17 +16,16 @@ use Rattle.xlsx_strings.proofs.string_element.read_string.Goals as goal
 
 pub returns-in_err-_at-clause-err : goal.returns-in_err-_at-clause-err
 returns-in_err-_at-clause-err g c =
-    let old = reading (g.P.Package.state c.args.package.now) c.args.cursor.now in
+    let old = c.args.xml.now in
     given_back _ c.from_residual.result c.from_residual.ensures.1
     (own_step_refused old end_in_string (IsInsideRefused string_of)
-    (g.P.Package.state c.next_element_in.new.package) _ c.depth-base.ensures
+    c.next_element_in.new.xml.source _ c.depth-base.ensures
     (c.in_err-_at.ensures.refused old end_in_piece_element c.pieces.invariant.text.keeps))
 
 pub pieces-preserved : goal.pieces-preserved
 pieces-preserved g c =
     let next = found_there c.in-Some.is c.pieces.invariant.text.keeps c.in_ok-_at.ensures.step in
-    let new = reading (g.P.Package.state c.next_element_in.new.package)
-    c.next_element_in.new.cursor in
+    let new = c.next_element_in.new.xml in
     let here = element_at c.depth-base.result next.0 new in
     record {
       front = front_further (string_bytes c.args.out.now) (string_bytes c.pieces.out)
@@ -42,10 +40,9 @@ pieces-preserved g c =
 
 pub returns-in_err-read_piece-clause-err : goal.returns-in_err-read_piece-clause-err
 returns-in_err-read_piece-clause-err g c =
-    let old = reading (g.P.Package.state c.args.package.now) c.args.cursor.now in
-    let new = reading (g.P.Package.state c.next_element_in.new.package)
-    c.next_element_in.new.cursor in
-    let last = reading (g.P.Package.state c.read_piece.new.package) c.read_piece.new.cursor in
+    let old = c.args.xml.now in
+    let new = c.next_element_in.new.xml in
+    let last = c.read_piece.new.xml in
     let next = found_there c.in-Some.is c.pieces.invariant.text.keeps c.in_ok-_at.ensures.step in
     let base = c.depth-base.result in
     let out = string_bytes c.args.out.now in

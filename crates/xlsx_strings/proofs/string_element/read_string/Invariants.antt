@@ -1,6 +1,5 @@
 use Rattle.std.proofs.Common.{string_bytes}
 use Rattle.part_events.specs.JoinedText.{IsFrontOf}
-use Rattle.part_events.specs.Reading.{reading}
 use Rattle.xlsx_sections.proofs.ElementsSaid.{KeepsElementsSaid}
 use Rattle.xlsx_strings.specs.Strings.{is_text_or_phonetic, string_of}
 use Rattle.xlsx_strings.proofs.StringsRead.{onto, pieces_behind}
@@ -8,8 +7,8 @@ use Rattle.xlsx_strings.proofs.string_element.read_string.Given as goal
 
 abbrev pub invariant-pieces : goal.invariant-pieces
 invariant-pieces g l =
-    let old = reading (g.P.Package.state l.fn.package) l.fn.cursor in
-    let now = reading (g.P.Package.state l.package) l.cursor in
+    let old = l.fn.xml in
+    let now = l.xml in
     record {
       front : IsFrontOf (string_bytes l.fn.out) (string_bytes l.out);
       text : KeepsElementsSaid is_text_or_phonetic pieces_behind
@@ -18,4 +17,4 @@ invariant-pieces g l =
     }
 
 abbrev pub decreases-pieces : goal.decreases-pieces
-decreases-pieces g l = (g.P.Package.state l.package).left
+decreases-pieces g l = l.xml.source.left

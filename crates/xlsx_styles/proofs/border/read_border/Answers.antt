@@ -1,6 +1,5 @@
 use Rattle.std.proofs.Common.{Result, ap, codes}
 use Rattle.part_events.specs.Event.{tag_of}
-use Rattle.part_events.specs.Reading.{reading}
 use Rattle.part_events.specs.Walk.{element_at}
 use Rattle.cell_styles.specs.declared.border.Border.{Border}
 use Rattle.xlsx_sections.specs.Elements.{IsInsideRefused}
@@ -17,20 +16,19 @@ use Rattle.xlsx_styles.proofs.border.read_border.Goals as goal
 
 pub returns-in_err-_at : goal.returns-in_err-_at
 returns-in_err-_at g c =
-    let old = reading (g.P.Package.state c.args.package.now) c.args.cursor.now in
+    let old = c.args.xml.now in
     let refused = IsInsideRefused (border_of c.args.theme_colors.now c.args.diagonal_down
     c.args.diagonal_up) in
     refused_inside c.from_residual.result c.from_residual.ensures.1
     (leaves_further c.sides.invariant.keeps.section.reads c.in_err-_at.ensures.reads)
-    (own_step_refused old end_in_border refused (g.P.Package.state c.next_element_in.new.package) _
+    (own_step_refused old end_in_border refused c.next_element_in.new.xml.source _
     c.depth-base.ensures (c.in_err-_at.ensures.refused old end_in_side c.sides.invariant.keeps))
     (border_step _ c.in_err-_at.ensures.kind)
 
 pub sides-preserved : goal.sides-preserved
 sides-preserved g c =
-    let old = reading (g.P.Package.state c.args.package.now) c.args.cursor.now in
-    let new = reading (g.P.Package.state c.next_element_in.new.package)
-    c.next_element_in.new.cursor in
+    let old = c.args.xml.now in
+    let new = c.next_element_in.new.xml in
     let down = c.args.diagonal_down in
     let up = c.args.diagonal_up in
     let tag = tag_of c.start_tag.result in
@@ -46,8 +44,8 @@ sides-preserved g c =
 
 pub returns-in_err-border : goal.returns-in_err-border
 returns-in_err-border g c =
-    let old = reading (g.P.Package.state c.args.package.now) c.args.cursor.now in
-    let last = g.P.Package.state c.read_side.new.package in
+    let old = c.args.xml.now in
+    let last = c.read_side.new.xml.source in
     let theme = c.args.theme_colors.now in
     let down = c.args.diagonal_down in
     let up = c.args.diagonal_up in

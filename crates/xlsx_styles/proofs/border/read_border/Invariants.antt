@@ -1,4 +1,3 @@
-use Rattle.part_events.specs.Reading.{reading}
 use Rattle.xlsx_sections.proofs.ElementsSaid.{KeepsElementsSaid}
 use Rattle.xlsx_sections.proofs.StartsSaid.{changes_behind}
 use Rattle.xlsx_styles.specs.Borders.{border_change, border_of, is_side}
@@ -6,11 +5,11 @@ use Rattle.xlsx_styles.proofs.border.read_border.Given as goal
 
 abbrev pub invariant-sides : goal.invariant-sides
 invariant-sides g l =
-    let old = reading (g.P.Package.state l.fn.package) l.fn.cursor in
-    let now = reading (g.P.Package.state l.package) l.cursor in
+    let old = l.fn.xml in
+    let now = l.xml in
     KeepsElementsSaid is_side
     (changes_behind (border_change l.theme_colors l.diagonal_down l.diagonal_up))
     (border_of l.theme_colors l.diagonal_down l.diagonal_up) l.base l.borders old now
 
 abbrev pub decreases-sides : goal.decreases-sides
-decreases-sides g l = (g.P.Package.state l.package).left
+decreases-sides g l = l.xml.source.left

@@ -1,6 +1,6 @@
 use Rattle.std.proofs.Common.{◌≡◌, ℕ, Option, Result, Ok, sym, ◌∙◌, ap, codes, arith, rules}
 use Rattle.std.proofs.lemmas.Result.{MatchResult-weaker}
-use Rattle.part_events.specs.Reading.{reading, ahead}
+use Rattle.part_events.specs.Reading.{ahead}
 use Rattle.part_events.specs.Section.{content}
 use Rattle.part_events.specs.Walk.{inside}
 use Rattle.cell_styles.specs.declared.color.Color.{Color}
@@ -14,7 +14,7 @@ use Rattle.xlsx_styles.proofs.border.read_side_color.Goals as goal
 
 pub returns : goal.returns
 returns g c =
-    let old = reading (g.P.Package.state c.args.package.now) c.args.cursor.now in
+    let old = c.args.xml.now in
     let meaning = color_in c.args.theme_colors.now in
     let none : inside c.depth-base.result old ≡ 0 = omega (arith, c.depth-base.ensures) in
     record {
@@ -26,6 +26,6 @@ returns g c =
           (λ _ _. tt);
       err = MatchResult-weaker c.keep_last.result c.keep_last.ensures.err (λ _ _. tt)
           (λ error fails. own_refused old (always (codes "border side")) (IsInsideRefused meaning)
-          (g.P.Package.state c.keep_last.new.package) error c.depth-base.ensures fails);
+          c.keep_last.new.xml.source error c.depth-base.ensures fails);
       kind = c.keep_last.ensures.kind;
     }

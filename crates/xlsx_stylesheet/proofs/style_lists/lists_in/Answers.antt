@@ -1,4 +1,3 @@
-use Rattle.part_events.specs.Reading.{reading}
 use Rattle.xlsx_sections.specs.Elements.{IsInsideRefused}
 use Rattle.xlsx_sections.proofs.ElementsSaid.{found_there}
 use Rattle.xlsx_sections.proofs.Failing.{given_back}
@@ -9,16 +8,16 @@ use Rattle.xlsx_stylesheet.proofs.style_lists.lists_in.Goals as goal
 
 pub returns-in_err-_at-clause-err : goal.returns-in_err-_at-clause-err
 returns-in_err-_at-clause-err g c =
-    let old = reading (g.P.Package.state c.args.package.now) c.args.cursor.now in
+    let old = c.args.xml.now in
     given_back _ c.from_residual.result c.from_residual.ensures.1
     (section_stopped c.args.base old end_in_styles
     (IsInsideRefused (lists_in c.args.theme_colors.now))
-    (g.P.Package.state c.next_element_in.new.package) _
+    c.next_element_in.new.xml.source _
     (c.in_err-_at.ensures.refused old list_element_end c.lists.invariant.keeps))
 
 pub returns-in_err-read_list-clause-err : goal.returns-in_err-read_list-clause-err
 returns-in_err-read_list-clause-err g c =
-    let last = reading (g.P.Package.state c.read_list.new.package) c.read_list.new.cursor in
+    let last = c.read_list.new.xml in
     let next = found_there c.in-Some.is c.lists.invariant.keeps c.in_ok-_at.ensures.step in
     given_back _ c.from_residual-in_err-read_list.result c.from_residual-in_err-read_list.ensures.1
     (lists_refused last c.in_err-read_list.field-0.0 c.lists.invariant next.2

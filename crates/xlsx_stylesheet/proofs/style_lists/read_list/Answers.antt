@@ -1,6 +1,6 @@
 use Rattle.std.proofs.Common.{◌++◌, List, map, length, refl, sym, ◌∙◌, ap}
 use Rattle.std.proofs.lemmas.Result.{MatchResult-weaker, on_ok_weaker}
-use Rattle.part_events.specs.Reading.{reading, ahead}
+use Rattle.part_events.specs.Reading.{ahead}
 use Rattle.part_events.specs.Section.{content}
 use Rattle.xlsx_sections.specs.Answers.{prepended}
 use Rattle.xlsx_sections.proofs.StartsKept.{refused_same}
@@ -17,7 +17,7 @@ use Rattle.xlsx_stylesheet.proofs.style_lists.read_list.Goals as goal
 
 pub returns-in-NumberFormats-clause-lists : goal.returns-in-NumberFormats-clause-lists
 returns-in-NumberFormats-clause-lists g c = λ told.
-    let old = reading (g.P.Package.state c.args.package.now) c.args.cursor.now in
+    let old = c.args.xml.now in
     let lists = c.args.lists.now in
     let kept = c.read_number_formats.new.kept in
     let written = formats_written (content 0 (ahead old)) in
@@ -34,9 +34,8 @@ returns-in-NumberFormats-clause-lists g c = λ told.
 
 pub returns-in-NumberFormats-clause-err : goal.returns-in-NumberFormats-clause-err
 returns-in-NumberFormats-clause-err g c =
-    let old = reading (g.P.Package.state c.args.package.now) c.args.cursor.now in
-    let new = reading (g.P.Package.state c.read_number_formats.new.package)
-    c.read_number_formats.new.cursor in
+    let old = c.args.xml.now in
+    let new = c.read_number_formats.new.xml in
     arm_refused c.args.theme_colors.now c.args.lists.now with_formats (λ said. said.named.formats)
     formats_written old new c.read_number_formats.result c.in-NumberFormats.is
     c.list_of.ensures c.start_tag.ensures (λ _ _. refl) c.read_number_formats.ensures.err
@@ -52,8 +51,8 @@ returns-in-Fonts-clause-lists g c = λ told.
 
 pub returns-in-Fonts-clause-err : goal.returns-in-Fonts-clause-err
 returns-in-Fonts-clause-err g c =
-    let old = reading (g.P.Package.state c.args.package.now) c.args.cursor.now in
-    let new = reading (g.P.Package.state c.read_fonts.new.package) c.read_fonts.new.cursor in
+    let old = c.args.xml.now in
+    let new = c.read_fonts.new.xml in
     arm_refused c.args.theme_colors.now c.args.lists.now with_fonts (λ said. said.named.fonts)
     (fonts_in c.args.theme_colors.now) old new c.read_fonts.result c.in-Fonts.is
     c.list_of.ensures c.start_tag.ensures (λ _ _. refl) c.read_fonts.ensures.err
@@ -69,8 +68,8 @@ returns-in-Fills-clause-lists g c = λ told.
 
 pub returns-in-Fills-clause-err : goal.returns-in-Fills-clause-err
 returns-in-Fills-clause-err g c =
-    let old = reading (g.P.Package.state c.args.package.now) c.args.cursor.now in
-    let new = reading (g.P.Package.state c.read_fills.new.package) c.read_fills.new.cursor in
+    let old = c.args.xml.now in
+    let new = c.read_fills.new.xml in
     arm_refused c.args.theme_colors.now c.args.lists.now with_fills (λ said. said.named.fills)
     (fills_in c.args.theme_colors.now) old new c.read_fills.result c.in-Fills.is
     c.list_of.ensures c.start_tag.ensures (λ _ _. refl) c.read_fills.ensures.err
@@ -86,15 +85,15 @@ returns-in-Borders-clause-lists g c = λ told.
 
 pub returns-in-Borders-clause-err : goal.returns-in-Borders-clause-err
 returns-in-Borders-clause-err g c =
-    let old = reading (g.P.Package.state c.args.package.now) c.args.cursor.now in
-    let new = reading (g.P.Package.state c.read_borders.new.package) c.read_borders.new.cursor in
+    let old = c.args.xml.now in
+    let new = c.read_borders.new.xml in
     arm_refused c.args.theme_colors.now c.args.lists.now with_borders (λ said. said.named.borders)
     (borders_in c.args.theme_colors.now) old new c.read_borders.result c.in-Borders.is
     c.list_of.ensures c.start_tag.ensures (λ _ _. refl) c.read_borders.ensures.err
 
 pub returns-in-Formats-clause-lists : goal.returns-in-Formats-clause-lists
 returns-in-Formats-clause-lists g c = λ told.
-    let old = reading (g.P.Package.state c.args.package.now) c.args.cursor.now in
+    let old = c.args.xml.now in
     let lists = c.args.lists.now in
     on_ok_weaker c.read_formats.result
     (λ holds tag formats there are.
@@ -111,8 +110,8 @@ returns-in-Formats-clause-lists g c = λ told.
 
 pub returns-in-Formats-clause-err : goal.returns-in-Formats-clause-err
 returns-in-Formats-clause-err g c =
-    let old = reading (g.P.Package.state c.args.package.now) c.args.cursor.now in
-    let new = reading (g.P.Package.state c.read_formats.new.package) c.read_formats.new.cursor in
+    let old = c.args.xml.now in
+    let new = c.read_formats.new.xml in
     let lists = c.args.lists.now in
     let kept = lists_said (formats_kept lists.codes) lists in
     MatchResult-weaker c.read_formats.result

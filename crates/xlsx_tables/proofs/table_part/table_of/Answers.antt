@@ -1,7 +1,7 @@
 use Rattle.std.proofs.Common.{◌≡◌, ℕ, suc, Some, Err, codes, length, ap, ◌∙◌}
 use Rattle.std.proofs.Common.{subst, sym, arith, Result}
 use Rattle.part_events.specs.Event.{Tag, tag_of}
-use Rattle.part_events.specs.Reading.{reading, events_of}
+use Rattle.part_events.specs.Reading.{events_of}
 use Rattle.part_events.specs.Walk.{section_end}
 use Rattle.xlsx_sections.specs.PartSection.{always, section_left, inside_of, SectionFails}
 use Rattle.xlsx_sections.specs.Elements.{IsInsideRefused}
@@ -17,16 +17,16 @@ use Rattle.xlsx_tables.proofs.table_part.table_of.Goals as goal
 
 pub returns-in_err-at-clause-err : goal.returns-in_err-at-clause-err
 returns-in_err-at-clause-err g c =
-    let old = reading (g.P.Package.state c.args.package.now) c.args.cursor.now in
-    let new = reading (g.P.Package.state c.find_element.new.package) c.find_element.new.cursor in
+    let old = c.args.xml.now in
+    let new = c.find_element.new.xml in
     given_back _ c.from_residual.result c.from_residual.ensures.1
     (find_element_refused (codes "table") (codes "Table") table_said old new
     c.in_err-at.field-0.0 c.in_err-at.ensures.err)
 
 pub returns-in_err-begun-clause-err : goal.returns-in_err-begun-clause-err
 returns-in_err-begun-clause-err g c =
-    let old = reading (g.P.Package.state c.args.package.now) c.args.cursor.now in
-    let mid = reading (g.P.Package.state c.find_element.new.package) c.find_element.new.cursor in
+    let old = c.args.xml.now in
+    let mid = c.find_element.new.xml in
     let tag = tag_of c.start_tag.result in
     let s = section_left (length mid.names) mid in
     let at = c.in-Some.at in
@@ -48,9 +48,9 @@ returns-in_err-begun-clause-err g c =
 
 pub returns-in_err-columns-clause-err : goal.returns-in_err-columns-clause-err
 returns-in_err-columns-clause-err g c =
-    let old = reading (g.P.Package.state c.args.package.now) c.args.cursor.now in
-    let mid = reading (g.P.Package.state c.find_element.new.package) c.find_element.new.cursor in
-    let new = reading (g.P.Package.state c.columns_in.new.package) c.columns_in.new.cursor in
+    let old = c.args.xml.now in
+    let mid = c.find_element.new.xml in
+    let new = c.columns_in.new.xml in
     let tag = tag_of c.start_tag.result in
     let s = section_left (length mid.names) mid in
     let error = c.in_err-columns.field-0.0 in
@@ -72,12 +72,12 @@ returns-in_err-columns-clause-err g c =
 
 pub returns-clause-ends : goal.returns-clause-ends
 returns-clause-ends g c = λ told.
-    let old = reading (g.P.Package.state c.args.package.now) c.args.cursor.now in
-    let mid = reading (g.P.Package.state c.find_element.new.package) c.find_element.new.cursor in
+    let old = c.args.xml.now in
+    let mid = c.find_element.new.xml in
     let tag = tag_of c.start_tag.result in
     let s = section_left (length mid.names) mid in
     let still = c.in_ok-at.ensures.reads.moves.parts.is_told ∙ told in
-    let new = reading (g.P.Package.state c.columns_in.new.package) c.columns_in.new.cursor in
+    let new = c.columns_in.new.xml in
     let ends : new.at ≡ suc (section_end (length mid.names) mid) =
     subst (λ (n : ℕ). new.at ≡ suc (section_end n mid)) c.depth-base.ensures
     (c.in_ok-columns.ensures.reaches still).ends in

@@ -1,5 +1,4 @@
 use Rattle.std.proofs.Common.{[], None}
-use Rattle.part_events.specs.Reading.{reading}
 use Rattle.xlsx_sections.specs.ElementLists.{end_in_list}
 use Rattle.xlsx_sections.specs.Elements.{IsInsideRefused, named_end}
 use Rattle.xlsx_sections.proofs.Failing.{given_back}
@@ -11,10 +10,10 @@ use Rattle.xlsx_theme.proofs.color_scheme.read_slots.Goals as goal
 
 pub returns-in_err-_at-clause-err : goal.returns-in_err-_at-clause-err
 returns-in_err-_at-clause-err g c =
-    let old = reading (g.P.Package.state c.args.package.now) c.args.cursor.now in
+    let old = c.args.xml.now in
     given_back _ c.from_residual.result c.from_residual.ensures.1
     (section_stopped c.args.base old (named_end None) (IsInsideRefused slot_colors)
-    (g.P.Package.state c.next_slot.new.package) _
+    c.next_slot.new.xml.source _
     (c.in_err-_at.ensures.refused old c.slots.invariant.keeps))
 
 pub slots-preserved : goal.slots-preserved
@@ -26,8 +25,8 @@ slots-preserved g c =
 
 pub returns-in_err-read_slot-clause-err : goal.returns-in_err-read_slot-clause-err
 returns-in_err-read_slot-clause-err g c =
-    let old = reading (g.P.Package.state c.args.package.now) c.args.cursor.now in
-    let last = reading (g.P.Package.state c.read_slot.new.package) c.read_slot.new.cursor in
+    let old = c.args.xml.now in
+    let last = c.read_slot.new.xml in
     let error = c.in_err-read_slot.field-0.0 in
     given_back _ c.from_residual-in_err-read_slot.result c.from_residual-in_err-read_slot.ensures.1
     (told_by_number c.args.base (end_in_list is_slot [] (named_end None))

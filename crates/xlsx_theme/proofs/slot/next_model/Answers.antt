@@ -1,5 +1,4 @@
 use Rattle.std.proofs.Common.{None, refl, ◌∙◌}
-use Rattle.part_events.specs.Reading.{reading}
 use Rattle.part_events.proofs.Onward.{whole_at_end}
 use Rattle.part_events.specs.declared.fault.XmlFault.TheVariants.{Unclosed}
 use Rattle.xlsx_error.specs.declared.error.XlsxError.TheVariants.{Xml}
@@ -11,8 +10,8 @@ use Rattle.xlsx_theme.proofs.slot.next_model.Goals as goal
 
 pub returns-in-Ended-clause-refused : goal.returns-in-Ended-clause-refused
 returns-in-Ended-clause-refused g c = λ first keeps.
-    let old = reading (g.P.Package.state c.args.package.now) c.args.cursor.now in
-    let new = reading (g.P.Package.state c.next_start.new.package) c.next_start.new.self in
+    let old = c.args.xml.now in
+    let new = c.next_start.new.self in
     let error = Xml (Unclosed c.at-in-Ended.result) in
     let own : SectionFails (named_end None) Never c.args.base old new error = λ told.
     let ends = rw c.in-Ended.is at (c.in_ok-next_start.ensures.found told) in (

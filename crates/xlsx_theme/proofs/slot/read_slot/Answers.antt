@@ -1,6 +1,5 @@
 use Rattle.std.proofs.Common.{◌≡◌, None, Err, length, rules}
 use Rattle.part_events.specs.Event.{tag_of}
-use Rattle.part_events.specs.Reading.{reading}
 use Rattle.part_events.specs.Walk.{section_ahead}
 use Rattle.xlsx_error.specs.declared.error.XlsxError.TheVariants.{XmlAttr}
 use Rattle.xlsx_sections.specs.Elements.{IsInsideRefused, named_end}
@@ -15,18 +14,18 @@ use Rattle.xlsx_theme.proofs.slot.read_slot.Goals as goal
 
 pub returns-in_err-_at : goal.returns-in_err-_at
 returns-in_err-_at g c =
-    let old = reading (g.P.Package.state c.args.package.now) c.args.cursor.now in
+    let old = c.args.xml.now in
     refused_inside c.from_residual.result c.from_residual.ensures.1
     (leaves_further c.models.invariant.keeps.section.reads c.in_err-_at.ensures.reads)
     (own_step_refused old (named_end None) (IsInsideRefused slot_color)
-    (g.P.Package.state c.next_model.new.package) _ c.depth-base.ensures
+    c.next_model.new.xml.source _ c.depth-base.ensures
     (c.in_err-_at.ensures.refused old c.models.invariant.keeps))
     (step_kind _ c.in_err-_at.ensures.kind)
 
 pub models-preserved : goal.models-preserved
 models-preserved g c =
-    let old = reading (g.P.Package.state c.args.package.now) c.args.cursor.now in
-    let new = reading (g.P.Package.state c.next_model.new.package) c.next_model.new.cursor in
+    let old = c.args.xml.now in
+    let new = c.next_model.new.xml in
     let found = at_start _ c.start_tag.ensures
     (rw c.in-Some.is at (c.in_ok-_at.ensures.step old c.models.invariant.keeps)) in
     let behind = length (section_ahead c.depth-base.result new) in
@@ -36,8 +35,8 @@ models-preserved g c =
 
 pub returns-in_err-keep_first : goal.returns-in_err-keep_first
 returns-in_err-keep_first g c =
-    let old = reading (g.P.Package.state c.args.package.now) c.args.cursor.now in
-    let new = reading (g.P.Package.state c.next_model.new.package) c.next_model.new.cursor in
+    let old = c.args.xml.now in
+    let new = c.next_model.new.xml in
     let found = at_start _ c.start_tag.ensures
     (rw c.in-Some.is at (c.in_ok-_at.ensures.step old c.models.invariant.keeps)) in
     let behind = length (section_ahead c.depth-base.result new) in

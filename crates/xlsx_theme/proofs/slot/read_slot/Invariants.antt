@@ -1,4 +1,3 @@
-use Rattle.part_events.specs.Reading.{reading}
 use Rattle.xlsx_sections.proofs.StartsSaid.{KeepsSaid}
 use Rattle.xlsx_theme.specs.ColorScheme.{is_color_model, slot_color}
 use Rattle.xlsx_theme.proofs.SchemeRead.{colors_behind}
@@ -6,9 +5,9 @@ use Rattle.xlsx_theme.proofs.slot.read_slot.Given as goal
 
 abbrev pub invariant-models : goal.invariant-models
 invariant-models g l =
-    let old = reading (g.P.Package.state l.fn.package) l.fn.cursor in
-    let now = reading (g.P.Package.state l.package) l.cursor in
+    let old = l.fn.xml in
+    let now = l.xml in
     KeepsSaid is_color_model colors_behind slot_color l.base l.color old now
 
 abbrev pub decreases-models : goal.decreases-models
-decreases-models g l = (g.P.Package.state l.package).left
+decreases-models g l = l.xml.source.left

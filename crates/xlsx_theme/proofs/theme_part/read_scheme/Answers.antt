@@ -1,6 +1,6 @@
 use Rattle.std.proofs.Common.{[], ◌∷◌, Some, None, codes, ◌∙◌}
 use Rattle.part_events.specs.Event.{Tag}
-use Rattle.part_events.specs.Reading.{reading, ahead}
+use Rattle.part_events.specs.Reading.{ahead}
 use Rattle.part_events.specs.Section.{is_named}
 use Rattle.part_events.specs.Walk.{IsNextStart}
 use Rattle.part_events.proofs.Onward.{whole_at_end}
@@ -12,8 +12,8 @@ use Rattle.xlsx_theme.proofs.theme_part.read_scheme.Goals as goal
 pub returns-in_ok-theme_of-in-Found-clause-theme :
     goal.returns-in_ok-theme_of-in-Found-clause-theme
 returns-in_ok-theme_of-in-Found-clause-theme g c = λ told.
-    let old = reading (g.P.Package.state c.args.package.now) c.args.cursor.now in
-    let mid = reading (g.P.Package.state c.next_start.new.package) c.next_start.new.self in
+    let old = c.args.xml.now in
+    let mid = c.next_start.new.self in
     let next = start_there mid.source.current
     (λ (tag : Tag). IsNextStart (is_named (codes "clrScheme" ∷ [])) 0 tag old mid)
     (rw c.in-Found.is at (c.in_ok-next_start.ensures.found told)) in
@@ -26,7 +26,7 @@ returns-in_ok-theme_of-in-Found-clause-theme g c = λ told.
 pub returns-in_ok-default_theme-in-Ended-clause-theme :
     goal.returns-in_ok-default_theme-in-Ended-clause-theme
 returns-in_ok-default_theme-in-Ended-clause-theme g c = λ told.
-    let old = reading (g.P.Package.state c.args.package.now) c.args.cursor.now in
+    let old = c.args.xml.now in
     let ends = rw c.in-Ended.is at (c.in_ok-next_start.ensures.found told) in
     rw (scheme_found old None c.requires.reading c.requires.first told ends.first) (
       whole_at_end c.in_ok-next_start.ensures.reads ends.at_end told,
@@ -35,8 +35,8 @@ returns-in_ok-default_theme-in-Ended-clause-theme g c = λ told.
 
 pub returns-in_ok-theme_of-in-Found-clause-ends : goal.returns-in_ok-theme_of-in-Found-clause-ends
 returns-in_ok-theme_of-in-Found-clause-ends g c = λ told.
-    let old = reading (g.P.Package.state c.args.package.now) c.args.cursor.now in
-    let mid = reading (g.P.Package.state c.next_start.new.package) c.next_start.new.self in
+    let old = c.args.xml.now in
+    let mid = c.next_start.new.self in
     let next = start_there mid.source.current
     (λ (tag : Tag). IsNextStart (is_named (codes "clrScheme" ∷ [])) 0 tag old mid)
     (rw c.in-Found.is at (c.in_ok-next_start.ensures.found told)) in

@@ -1,5 +1,5 @@
 use Rattle.std.proofs.Common.{◌∙◌}
-use Rattle.part_events.specs.Reading.{reading, events_of}
+use Rattle.part_events.specs.Reading.{events_of}
 use Rattle.xlsx_error.specs.declared.error.XlsxError.TheVariants.{Xml, XmlAttr}
 use Rattle.xlsx_sections.proofs.SectionsRead.{part_opened}
 use Rattle.xlsx_theme.proofs.ThemeRead.{faulty_theme}
@@ -9,7 +9,7 @@ use Rattle.xlsx_theme.proofs.theme_part.read_theme.Goals as goal
 pub returns-in-Err-Xml-clause-theme : goal.returns-in-Err-Xml-clause-theme
 returns-in-Err-Xml-clause-theme g c = λ told.
     let fails = rw c.in-Err-Xml.field-0-is at c.in-Err-Xml.ensures.err in
-    let old = g.P.Package.state c.args.package.now in
+    let old = c.args.xml.now.source in
     let opened = reading (g.P.Package.state c.open.new.self) c.new-cursor.result in
     faulty_theme old.parts c.args.path.now (events_of opened) (Xml c.in-Err-Xml.field-0-0)
     c.in_ok-default_theme-in-Err-Xml.field-0
@@ -20,7 +20,7 @@ returns-in-Err-Xml-clause-theme g c = λ told.
 pub returns-in-Err-XmlAttr-clause-theme : goal.returns-in-Err-XmlAttr-clause-theme
 returns-in-Err-XmlAttr-clause-theme g c = λ told.
     let fails = rw c.in-Err-XmlAttr.field-0-is at c.in-Err-XmlAttr.ensures.err in
-    let old = g.P.Package.state c.args.package.now in
+    let old = c.args.xml.now.source in
     let opened = reading (g.P.Package.state c.open.new.self) c.new-cursor.result in
     faulty_theme old.parts c.args.path.now (events_of opened) (XmlAttr c.in-Err-XmlAttr.field-0-0)
     c.in_ok-default_theme-in-Err-XmlAttr.field-0

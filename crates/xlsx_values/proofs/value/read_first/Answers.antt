@@ -1,7 +1,6 @@
 use Rattle.std.proofs.Common.{◌≡◌, ◌∙◌, ◌∷◌, sym, ap, subst, arith, ℕ, [], Err, length, true, false}
 use Rattle.std.proofs.lemmas.Result.{err_from_is_err_and}
 use Rattle.part_events.specs.Event.{event_of}
-use Rattle.part_events.specs.Reading.{reading}
 use Rattle.part_events.specs.Walk.{section_ahead, is_closed_ahead}
 use Rattle.part_events.proofs.Onward.{whole_at_end}
 use Rattle.xlsx_sections.specs.Elements.{IsInsideRefused}
@@ -16,7 +15,7 @@ use Rattle.xlsx_values.proofs.value.read_first.Goals as goal
 
 pub returns-in-Ended-clause-err : goal.returns-in-Ended-clause-err
 returns-in-Ended-clause-err g c = λ told.
-    let old = reading (g.P.Package.state c.args.package.now) c.args.cursor.now in
+    let old = c.args.xml.now in
     let ends = rw c.in-Ended.is at (c.in_ok-next_inside.ensures.inside told) in (
       (
         whole_at_end c.in_ok-next_inside.ensures.reads ends.steps.1 told,
@@ -28,8 +27,8 @@ returns-in-Ended-clause-err g c = λ told.
 
 pub returns-in_err-value-clause-err : goal.returns-in_err-value-clause-err
 returns-in_err-value-clause-err g c =
-    let old = reading (g.P.Package.state c.args.package.now) c.args.cursor.now in
-    let new = reading (g.P.Package.state c.next_inside.new.package) c.next_inside.new.self in
+    let old = c.args.xml.now in
+    let new = c.next_inside.new.self in
     let kind = kind_of c.args.typ.now in
     let answer = first_event_value (grounds_of c.args.book) c.args.format kind in
     let left = section_ahead c.depth-depth.result new in
@@ -49,8 +48,8 @@ returns-in_err-value-clause-err g c =
 
 pub returns-clause-value : goal.returns-clause-value
 returns-clause-value g c = λ told.
-    let old = reading (g.P.Package.state c.args.package.now) c.args.cursor.now in
-    let new = reading (g.P.Package.state c.next_inside.new.package) c.next_inside.new.self in
+    let old = c.args.xml.now in
+    let new = c.next_inside.new.self in
     let kind = kind_of c.args.typ.now in
     let answer = first_event_value (grounds_of c.args.book) c.args.format kind in
     ap answer (sym (own_inside old)

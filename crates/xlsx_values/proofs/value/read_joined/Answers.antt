@@ -1,6 +1,6 @@
 use Rattle.std.proofs.Common.{◌≡◌, ◌∙◌, sym, ap, Ok, ℕ, true, false, codes, string_bytes}
 use Rattle.std.proofs.lemmas.Result.{IfErr-weaker}
-use Rattle.part_events.specs.Reading.{reading, ahead}
+use Rattle.part_events.specs.Reading.{ahead}
 use Rattle.part_events.specs.Section.{content}
 use Rattle.xlsx_sections.specs.Elements.{ElementReadFails}
 use Rattle.xlsx_sections.specs.ElementText.{element_text}
@@ -13,9 +13,8 @@ use Rattle.xlsx_values.proofs.value.read_joined.Goals as goal
 
 pub returns-clause-err : goal.returns-clause-err
 returns-clause-err g c =
-    let old = reading (g.P.Package.state c.args.package.now) c.args.cursor.now in
-    let new = reading (g.P.Package.state c.read_element_text.new.package)
-    c.read_element_text.new.cursor in
+    let old = c.args.xml.now in
+    let new = c.read_element_text.new.xml in
     let kind = kind_of c.args.typ.now in
     let text = string_bytes c.read_element_text.new.out in
     let read : old.source.is_told ≡ true → element_text false (content 0 (ahead old)) ≡ Ok text =

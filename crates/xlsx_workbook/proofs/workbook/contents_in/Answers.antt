@@ -3,7 +3,7 @@ use Rattle.std.proofs.Common.{codes, option_map, string_bytes}
 use Rattle.std.proofs.lemmas.Result.{err_from_is_err_and}
 use Rattle.std.specs.Arc.{arc_str_bytes}
 use Rattle.part_events.specs.Event.{event_of, tag_of}
-use Rattle.part_events.specs.Reading.{reading, ahead}
+use Rattle.part_events.specs.Reading.{ahead}
 use Rattle.part_events.specs.Section.{content}
 use Rattle.part_events.specs.Walk.{inside, section_ahead, section_behind}
 use Rattle.xlsx_sections.specs.PartSection.{section_left, always}
@@ -19,8 +19,8 @@ use Rattle.xlsx_workbook.proofs.workbook.contents_in.Goals as goal
 
 pub returns-in_err-take_event-clause-err : goal.returns-in_err-take_event-clause-err
 returns-in_err-take_event-clause-err g c =
-    let old = reading (g.P.Package.state c.args.package.now) c.args.cursor.now in
-    let new = reading (g.P.Package.state c.next_event_in.new.package) c.next_event_in.new.cursor in
+    let old = c.args.xml.now in
+    let new = c.next_event_in.new.xml in
     let step = event_inside {place =
     c.in-Some.at} c.event-event.ensures c.events.invariant.section c.in_ok-at.ensures.reads
     (rw c.in-Some.is at c.in_ok-at.ensures.stands)
@@ -40,9 +40,9 @@ returns-in_err-take_event-clause-err g c =
 
 pub returns-in_err-name-clause-err : goal.returns-in_err-name-clause-err
 returns-in_err-name-clause-err g c =
-    let old = reading (g.P.Package.state c.args.package.now) c.args.cursor.now in
-    let mid = reading (g.P.Package.state c.events.package) c.events.cursor in
-    let new = reading (g.P.Package.state c.next_event_in.new.package) c.next_event_in.new.cursor in
+    let old = c.args.xml.now in
+    let mid = c.events.xml in
+    let new = c.next_event_in.new.xml in
     let base = c.args.base in
     let step = event_inside {place =
     c.in-Some.at} c.event-event.ensures c.events.invariant.section c.in_ok-at.ensures.reads
@@ -69,10 +69,10 @@ returns-in_err-name-clause-err g c =
 
 pub returns-in_err-read_name-clause-err : goal.returns-in_err-read_name-clause-err
 returns-in_err-read_name-clause-err g c =
-    let old = reading (g.P.Package.state c.args.package.now) c.args.cursor.now in
-    let mid = reading (g.P.Package.state c.events.package) c.events.cursor in
-    let new = reading (g.P.Package.state c.next_event_in.new.package) c.next_event_in.new.cursor in
-    let later = reading (g.P.Package.state c.read_name.new.package) c.read_name.new.cursor in
+    let old = c.args.xml.now in
+    let mid = c.events.xml in
+    let new = c.next_event_in.new.xml in
+    let later = c.read_name.new.xml in
     let base = c.args.base in
     let step = event_inside {place =
     c.in-Some.at} c.event-event.ensures c.events.invariant.section c.in_ok-at.ensures.reads
@@ -106,9 +106,9 @@ returns-in_err-read_name-clause-err g c =
 
 pub events-preserved-in-Continue-branch-5 : goal.events-preserved-in-Continue-branch-5
 events-preserved-in-Continue-branch-5 g c =
-    let mid = reading (g.P.Package.state c.events.package) c.events.cursor in
-    let new = reading (g.P.Package.state c.next_event_in.new.package) c.next_event_in.new.cursor in
-    let later = reading (g.P.Package.state c.read_name.new.package) c.read_name.new.cursor in
+    let mid = c.events.xml in
+    let new = c.next_event_in.new.xml in
+    let later = c.read_name.new.xml in
     let base = c.args.base in
     let step = event_inside {place =
     c.in-Some.at} c.event-event.ensures c.events.invariant.section c.in_ok-at.ensures.reads

@@ -1,6 +1,5 @@
 use Rattle.std.proofs.Common.{◌≡◌, true}
 use Rattle.std.specs.Arc.{arc_str_bytes}
-use Rattle.part_events.specs.Reading.{reading}
 use Rattle.part_events.specs.Walk.{section_ahead}
 use Rattle.xlsx_sections.specs.PartSection.{KeepsSection}
 use Rattle.xlsx_relationships.specs.KeptRelationships.{related_by_id}
@@ -9,8 +8,8 @@ use Rattle.xlsx_workbook.proofs.workbook.contents_in.Given as goal
 
 abbrev pub invariant-events : goal.invariant-events
 invariant-events g l =
-    let old = reading (g.P.Package.state l.fn.package) l.fn.cursor in
-    let now = reading (g.P.Package.state l.package) l.cursor in
+    let old = l.fn.xml in
+    let now = l.xml in
     let related = related_by_id l.places.relationships.now in
     record {
       section : KeepsSection l.base old now;
@@ -22,4 +21,4 @@ invariant-events g l =
     }
 
 abbrev pub decreases-events : goal.decreases-events
-decreases-events g l = (g.P.Package.state l.package).left
+decreases-events g l = l.xml.source.left

@@ -4,7 +4,7 @@ use Rattle.std.proofs.lemmas.Result.{err_from_is_err_and}
 use Rattle.std.proofs.lemmas.List.{length-append}
 use Rattle.std.specs.Arc.{arc_str_bytes}
 use Rattle.part_events.specs.Event.{event_of}
-use Rattle.part_events.specs.Reading.{reading, ahead}
+use Rattle.part_events.specs.Reading.{ahead}
 use Rattle.part_events.specs.Section.{content}
 use Rattle.part_events.specs.Walk.{inside, section_ahead, TakesLastEnd}
 use Rattle.part_events.proofs.Sections.{goes_on_behind}
@@ -22,9 +22,9 @@ use Rattle.xlsx_workbook.proofs.workbook.read_name.Goals as goal
 
 pub returns-in_err-at-clause-err : goal.returns-in_err-at-clause-err
 returns-in_err-at-clause-err g c =
-    let old = reading (g.P.Package.state c.args.package.now) c.args.cursor.now in
-    let mid = reading (g.P.Package.state c.events.package) c.events.cursor in
-    let new = reading (g.P.Package.state c.next_event_in.new.package) c.next_event_in.new.cursor in
+    let old = c.args.xml.now in
+    let mid = c.events.xml in
+    let new = c.next_event_in.new.xml in
     let refused = IsNameRefused (arc_str_bytes c.args.places.folder.now)
     (related_by_id c.args.places.relationships.now) c.args.found.now
     (option_map string_bytes c.args.name) in
@@ -59,9 +59,9 @@ returns-in_err-at-clause-err g c =
 
 pub returns-in_err-take_event-clause-err : goal.returns-in_err-take_event-clause-err
 returns-in_err-take_event-clause-err g c =
-    let old = reading (g.P.Package.state c.args.package.now) c.args.cursor.now in
-    let mid = reading (g.P.Package.state c.events.package) c.events.cursor in
-    let new = reading (g.P.Package.state c.next_event_in.new.package) c.next_event_in.new.cursor in
+    let old = c.args.xml.now in
+    let mid = c.events.xml in
+    let new = c.next_event_in.new.xml in
     let folder = arc_str_bytes c.args.places.folder.now in
     let related = related_by_id c.args.places.relationships.now in
     let refused = IsNameRefused folder related c.args.found.now
@@ -90,8 +90,8 @@ returns-in_err-take_event-clause-err g c =
 
 pub events-preserved : goal.events-preserved
 events-preserved g c =
-    let mid = reading (g.P.Package.state c.events.package) c.events.cursor in
-    let new = reading (g.P.Package.state c.next_event_in.new.package) c.next_event_in.new.cursor in
+    let mid = c.events.xml in
+    let new = c.next_event_in.new.xml in
     let base = c.args.base in
     let stands : StandsAtEvent c.depth-depth.result (Some c.in-Some.at) mid new =
     rw c.in-Some.is at c.in_ok-at.ensures.stands in
@@ -122,9 +122,9 @@ events-preserved g c =
 
 pub returns-in_err-push_wanted-clause-err : goal.returns-in_err-push_wanted-clause-err
 returns-in_err-push_wanted-clause-err g c =
-    let old = reading (g.P.Package.state c.args.package.now) c.args.cursor.now in
-    let mid = reading (g.P.Package.state c.events.package) c.events.cursor in
-    let new = reading (g.P.Package.state c.next_event_in.new.package) c.next_event_in.new.cursor in
+    let old = c.args.xml.now in
+    let mid = c.events.xml in
+    let new = c.next_event_in.new.xml in
     let folder = arc_str_bytes c.args.places.folder.now in
     let related = related_by_id c.args.places.relationships.now in
     let name = option_map string_bytes c.args.name in
@@ -172,8 +172,8 @@ returns-clause-section g c =
 
 pub returns-clause-sheets : goal.returns-clause-sheets
 returns-clause-sheets g c = λ told.
-    let mid = reading (g.P.Package.state c.events.package) c.events.cursor in
-    let new = reading (g.P.Package.state c.next_event_in.new.package) c.next_event_in.new.cursor in
+    let mid = c.events.xml in
+    let new = c.next_event_in.new.xml in
     let base = c.args.base in
     let stands : StandsAtEvent c.depth-depth.result None mid new =
     rw c.in_default.is at c.in_ok-at.ensures.stands in

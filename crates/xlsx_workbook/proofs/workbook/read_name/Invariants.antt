@@ -1,7 +1,7 @@
 use Rattle.std.proofs.Common.{◌≡◌, length, true, string_bytes}
 use Rattle.std.specs.Prelude.{is_some}
 use Rattle.std.specs.Arc.{arc_str_bytes}
-use Rattle.part_events.specs.Reading.{reading, ahead}
+use Rattle.part_events.specs.Reading.{ahead}
 use Rattle.part_events.specs.Section.{content, behind}
 use Rattle.part_events.specs.Walk.{section_ahead, behind_section}
 use Rattle.xlsx_sections.specs.PartSection.{KeepsSection}
@@ -12,8 +12,8 @@ use Rattle.xlsx_workbook.proofs.workbook.read_name.Given as goal
 
 abbrev pub invariant-events : goal.invariant-events
 invariant-events g l =
-    let old = reading (g.P.Package.state l.fn.package) l.fn.cursor in
-    let now = reading (g.P.Package.state l.package) l.cursor in
+    let old = l.fn.xml in
+    let now = l.xml in
     let related = related_by_id l.places.relationships.now in
     record {
       section : KeepsSection l.base old now;
@@ -34,4 +34,4 @@ invariant-events g l =
     }
 
 abbrev pub decreases-events : goal.decreases-events
-decreases-events g l = (g.P.Package.state l.package).left
+decreases-events g l = l.xml.source.left

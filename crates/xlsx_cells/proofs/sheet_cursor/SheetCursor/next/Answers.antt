@@ -1,6 +1,5 @@
 use Rattle.std.proofs.Common.{◌≡◌, ◌-◌, List, Some, true, ◌∙◌, refl, arith, codes, inl, rules}
 use Rattle.std.proofs.lemmas.Result.{err_from_is_err_and}
-use Rattle.part_events.specs.Reading.{reading}
 use Rattle.part_events.specs.Walk.{element_at}
 use Rattle.xlsx_sections.proofs.ElementsRead.{IsElementFound, keeps_none}
 use Rattle.xlsx_sections.proofs.ElementsRead.{element_there, element_found, element_passed}
@@ -24,8 +23,8 @@ use Rattle.xlsx_cells.proofs.sheet_cursor.SheetCursor.next.Goals as goal
 pub returns-in_err-found-clause-err : goal.returns-in_err-found-clause-err
 returns-in_err-found-clause-err g c =
     let own = c.args.self.now in
-    let old = stream (g.P.Package.state c.args.package.now) own in
-    let new = reading (g.P.Package.state c.find_cell.new.package) c.find_cell.new.cursor in
+    let old = stream c.args.xml.now.source own in
+    let new = c.find_cell.new.xml in
     let wants = c.args.asked.wants in
     let grounds = grounds_of c.args.asked.book in
     let going : IsGoing old = is_going old c.requires c.if-self.false c.if-self-2.false in
@@ -44,10 +43,10 @@ pub returns-in_err-read-clause-err : goal.returns-in_err-read-clause-err
 returns-in_err-read-clause-err g c =
     let own = c.args.self.now in
     let base = own.base in
-    let all = stream (g.P.Package.state c.args.package.now) own in
+    let all = stream c.args.xml.now.source own in
     let old = all.reading in
-    let mid = reading (g.P.Package.state c.find_cell.new.package) c.find_cell.new.cursor in
-    let new = reading (g.P.Package.state c.read_cell.new.package) c.read_cell.new.cursor in
+    let mid = c.find_cell.new.xml in
+    let new = c.read_cell.new.xml in
     let wants = c.args.asked.wants in
     let grounds = grounds_of c.args.asked.book in
     let pos = c.in-Some.pos in
@@ -84,9 +83,9 @@ pub returns-clause-takes : goal.returns-clause-takes
 returns-clause-takes g c = λ told before earlier behind.
     let own = c.args.self.now in
     let base = own.base in
-    let old = stream (g.P.Package.state c.args.package.now) own in
-    let mid = reading (g.P.Package.state c.find_cell.new.package) c.find_cell.new.cursor in
-    let new = reading (g.P.Package.state c.read_cell.new.package) c.read_cell.new.cursor in
+    let old = stream c.args.xml.now.source own in
+    let mid = c.find_cell.new.xml in
+    let new = c.read_cell.new.xml in
     let wants = c.args.asked.wants in
     let pos = c.in-Some.pos in
     let going : IsGoing old = is_going old c.requires c.if-self.false c.if-self-2.false in
@@ -116,9 +115,9 @@ pub returns-clause-step : goal.returns-clause-step
 returns-clause-step g c =
     let own = c.args.self.now in
     let base = own.base in
-    let all = stream (g.P.Package.state c.args.package.now) own in
+    let all = stream c.args.xml.now.source own in
     let old = all.reading in
-    let mid = reading (g.P.Package.state c.find_cell.new.package) c.find_cell.new.cursor in
+    let mid = c.find_cell.new.xml in
     let pos = c.in-Some.pos in
     let going : IsGoing all = is_going all c.requires c.if-self.false c.if-self-2.false in
     let stands : StandsAtCell base (Some pos) old mid =

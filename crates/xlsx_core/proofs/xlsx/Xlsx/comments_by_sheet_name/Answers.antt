@@ -13,7 +13,7 @@ returns-in_err-path-clause-answers g c =
     let p = err_from_is_err_and c.from_residual.result c.from_residual.ensures.1 in
     rw (p.1, p.2)
     (path_refused (λ (all : Vec Comments Global). map comments_kept all.items)
-    (g.P.Package.state xlsx.package) name (path_of xlsx name) c.in_err-path.field-0.0
+    xlsx.xml.source name (path_of xlsx name) c.in_err-path.field-0.0
     c.in_err-path.ensures.err)
 
 pub returns-clause-answers : goal.returns-clause-answers

@@ -23,8 +23,8 @@ returns-in_default-clause-reads g c = λ told.
 pub returns-in_err-cells-clause-err : goal.returns-in_err-cells-clause-err
 returns-in_err-cells-clause-err g c =
     let xlsx = c.args.self.now in
-    let old = g.P.Package.state xlsx.package in
-    let new = g.P.Package.state c.worksheet_cells.new.self.package in
+    let old = xlsx.xml.source in
+    let new = c.worksheet_cells.new.self.xml.source in
     let p = err_from_is_err_and c.from_residual-in_err-cells.result
     c.from_residual-in_err-cells.ensures.1 in
     rw (p.1, p.2, c.in-Some.is)
@@ -34,7 +34,7 @@ returns-in_err-cells-clause-err g c =
 pub returns-clause-reads : goal.returns-clause-reads
 returns-clause-reads g c = λ told.
     let xlsx = c.args.self.now in
-    let old = g.P.Package.state xlsx.package in
+    let old = xlsx.xml.source in
     let cells = c.in_ok-cells.cells in
     let kept = c.in_ok-cells.ensures.rest.book in
     let range = c.in_ok-places_in_area.field-0 in

@@ -6,7 +6,7 @@ use Rattle.xlsx_core.proofs.xlsx.Xlsx.table_by_name.Goals as goal
 pub returns-in_err-head-clause-err : goal.returns-in_err-head-clause-err
 returns-in_err-head-clause-err g c =
     let xlsx = c.args.self.now in
-    let old = g.P.Package.state xlsx.package in
+    let old = xlsx.xml.source in
     let p = err_from_is_err_and c.from_residual.result
     c.from_residual.ensures.1 in
     rw (p.1, p.2)
@@ -24,8 +24,8 @@ returns-in_err-head-clause-kind g c =
 pub returns-in_err-data-clause-err : goal.returns-in_err-data-clause-err
 returns-in_err-data-clause-err g c =
     let xlsx = c.args.self.now in
-    let old = g.P.Package.state xlsx.package in
-    let new = g.P.Package.state c.values_in.new.self.package in
+    let old = xlsx.xml.source in
+    let new = c.values_in.new.self.xml.source in
     let p = err_from_is_err_and c.from_residual-in_err-data.result
     c.from_residual-in_err-data.ensures.1 in
     rw (p.1, p.2)

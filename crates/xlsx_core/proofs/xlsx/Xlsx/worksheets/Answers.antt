@@ -12,7 +12,7 @@ use Rattle.xlsx_core.proofs.xlsx.Xlsx.worksheets.Goals as goal
 pub returns-clause-lists : goal.returns-clause-lists
 returns-clause-lists g c = λ told.
     let xlsx = c.args.self.now in
-    let parts = (g.P.Package.state xlsx.package).parts in
+    let parts = xlsx.xml.source.parts in
     let made = c.ranges_listed.result in
     let own = grounds_of c.asked_of-asked.result.book in
     subst (λ (grounds : Grounds). IfOk made (λ listed. AreListed grounds xlsx.header_row
@@ -27,8 +27,8 @@ returns-clause-lists g c = λ told.
 pub returns-clause-to_end : goal.returns-clause-to_end
 returns-clause-to_end g c = λ told.
     let xlsx = c.args.self.now in
-    let old = g.P.Package.state xlsx.package in
-    let new = g.P.Package.state c.ranges_listed.new.package in
+    let old = xlsx.xml.source in
+    let new = c.ranges_listed.new.xml.source in
     let made = c.ranges_listed.result in
     subst (λ (sheets : List Sheet). IfOk made (λ listed. CountsAtLeast (listed_data
     (λ (name : List ℕ). path_listed name sheets xlsx.paths.items) old.parts listed.items)

@@ -1,6 +1,6 @@
 use Rattle.std.proofs.Common.{◌≡◌, ◌∙◌, List, Some, length, refl, sym, ap, subst, rules}
 use Rattle.part_events.specs.Event.{Event}
-use Rattle.part_events.specs.Reading.{reading, events_of}
+use Rattle.part_events.specs.Reading.{events_of}
 use Rattle.xlsx_sections.specs.PartSection.{section_in, section_left}
 use Rattle.xlsx_sections.proofs.Failing.{given_back}
 use Rattle.xlsx_pivot_cache.specs.CacheFields.{fields_kept}
@@ -13,8 +13,8 @@ use Rattle.xlsx_pivot_cache.proofs.pivot_cursor.PivotCursor.take_names.Goals as 
 pub returns-in_err-_at-clause-gives : goal.returns-in_err-_at-clause-gives
 returns-in_err-_at-clause-gives g c =
     let fields = fields_kept c.args.self.now.fields.items in
-    let old = reading (g.P.Package.state c.args.package.now) c.args.self.now.cursor in
-    let new = reading (g.P.Package.state c.find_element.new.package) c.find_element.new.cursor in
+    let old = c.args.self.now.cursor in
+    let new = c.find_element.new.xml in
     let fails = find_fails fields old new c.in_err-_at.field-0.0 c.in_err-_at.ensures.err in
     record {
       fields = search rules;
@@ -39,7 +39,7 @@ returns-in_err-_at-clause-gives g c =
 
 pub returns-in_default-clause-gives : goal.returns-in_default-clause-gives
 returns-in_default-clause-gives g c =
-    let old = reading (g.P.Package.state c.args.package.now) c.args.self.now.cursor in
+    let old = c.args.self.now.cursor in
     record {
       fields = search rules;
       reads = search rules;
@@ -62,8 +62,8 @@ returns-in_default-clause-gives g c =
 
 pub returns-clause-at : goal.returns-clause-at
 returns-clause-at g c =
-    let old = reading (g.P.Package.state c.args.package.now) c.args.self.now.cursor in
-    let new = reading (g.P.Package.state c.find_element.new.package) c.find_element.new.cursor in
+    let old = c.args.self.now.cursor in
+    let new = c.find_element.new.xml in
     let reads = c.in_ok-_at.ensures.reads in
     rw c.depth.ensures
     (in_records (fields_kept c.args.self.now.fields.items) new reads.stays.reading
@@ -75,8 +75,8 @@ returns-clause-at g c =
 
 pub returns-clause-gives : goal.returns-clause-gives
 returns-clause-gives g c =
-    let old = reading (g.P.Package.state c.args.package.now) c.args.self.now.cursor in
-    let new = reading (g.P.Package.state c.find_element.new.package) c.find_element.new.cursor in
+    let old = c.args.self.now.cursor in
+    let new = c.find_element.new.xml in
     let fields = fields_kept c.args.self.now.fields.items in
     let same : row_kept c.in_ok-names.names.items ≡ names_row fields =
     c.in_ok-names.ensures

@@ -6,7 +6,7 @@ use Rattle.xlsx_tables.proofs.tables.TableReaderReadsRelated.push.Goals as goal
 
 pub returns-clause-answers : goal.returns-clause-answers
 returns-clause-answers g c =
-    let old = g.P.Package.state c.args.package.now in
+    let old = c.args.xml.now.source in
     let part = c.in_ok-part.part in
     let sheet = c.args.self.now.sheet in
     record {

@@ -1,14 +1,14 @@
 use Rattle.std.proofs.Common.{[], ◌≡◌, ◌<◌, ℕ, length, true, sym, ◌∙◌, ap, arith}
-use Rattle.part_events.specs.Reading.{reading, ahead}
+use Rattle.part_events.specs.Reading.{ahead}
 use Rattle.part_events.specs.Section.{is_closed, is_named}
 use Rattle.part_events.specs.Walk.{EndsInSection, inside}
 use Rattle.part_events.proofs.Steps.{ends_open}
-use Rattle.part_events.proofs.cursor.Cursor.skip_element.Goals as goal
+use Rattle.part_events.proofs.reader.XlReader.skip_element.Goals as goal
 
 pub returns-in-Ended-clause-err : goal.returns-in-Ended-clause-err
 returns-in-Ended-clause-err g c =
-    let old = reading (g.P.Package.state c.args.package.now) c.args.self.now in
-    let new = reading (g.P.Package.state c.walk.new.package) c.walk.new.self in
+    let old = c.args.self.now in
+    let new = c.walk.new.self in
     rw (c.leave_open.ensures.fails, c.leave_open.ensures.error) (λ told.
     let ends : EndsInSection (is_named []) c.depth-depth.result old new =
     rw c.in-Ended.is at (c.in_ok-walk.ensures.starts told) in

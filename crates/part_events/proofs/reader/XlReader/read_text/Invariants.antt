@@ -1,13 +1,13 @@
 use Rattle.std.proofs.Common.{◌≡◌, ◌≤◌, length, true, string_bytes}
 use Rattle.part_events.specs.JoinedText.{IsFrontOf}
-use Rattle.part_events.specs.Reading.{reading, ReadsOn}
+use Rattle.part_events.specs.Reading.{ReadsOn}
 use Rattle.part_events.proofs.Texts.{HasRead}
-use Rattle.part_events.proofs.cursor.Cursor.read_text.Given as goal
+use Rattle.part_events.proofs.reader.XlReader.read_text.Given as goal
 
 abbrev pub invariant-events : goal.invariant-events
 invariant-events g l =
-    let old = reading (g.P.Package.state l.fn.package) l.fn.self in
-    let now = reading (g.P.Package.state l.package) l.self in
+    let old = l.fn.self in
+    let now = l.self in
     record {
       reads : ReadsOn old now;
       within : l.base ≤ length l.self.names;
@@ -18,4 +18,4 @@ invariant-events g l =
     }
 
 abbrev pub decreases-events : goal.decreases-events
-decreases-events g l = (g.P.Package.state l.package).left
+decreases-events g l = l.self.source.left

@@ -1,16 +1,15 @@
-use Rattle.std.proofs.Common.{◌≡◌, true, sym, ◌∙◌}
-use Rattle.part_events.specs.Event.{tag_of}
-use Rattle.part_events.specs.Reading.{reading}
-use Rattle.part_events.specs.Walk.{wants, StandsInside, StepsInside}
+use Rattle.std.proofs.Common.{◌≡◌, true, sym, subst, ◌∙◌}
+use Rattle.part_events.specs.Event.{Tag, Event, IsStartAnd, tag_of}
+use Rattle.part_events.specs.Walk.{wants, IsNextElement, StandsInside, StepsInside}
 use Rattle.part_events.specs.declared.walk.Step.TheVariants.{Found}
 use Rattle.part_events.proofs.Walking.{element_later, next_element}
-use Rattle.part_events.proofs.cursor.Cursor.walk.Goals as goal
+use Rattle.part_events.proofs.reader.XlReader.walk.Goals as goal
 
 pub returns-then-accepts-clause-elements : goal.returns-then-accepts-clause-elements
 returns-then-accepts-clause-elements g c = λ told.
-    let old = reading (g.P.Package.state c.args.package.now) c.args.self.now in
-    let mid = reading (g.P.Package.state c.events.package) c.events.self in
-    let new = reading (g.P.Package.state c.next_inside.new.package) c.next_inside.new.self in
+    let old = c.args.self.now in
+    let mid = c.events.self in
+    let new = c.next_inside.new.self in
     let tag = tag_of c.in-Start.tag in
     let told_there : mid.source.is_told ≡ true = c.events.invariant.reads.moves.parts.is_told
     ∙ told in
@@ -18,7 +17,8 @@ returns-then-accepts-clause-elements g c = λ told.
     rw c.in-Found.is at c.in_ok-next_inside.ensures.stands in
     let steps : StepsInside c.args.base Found mid new =
     rw c.in-Found.is at (c.in_ok-next_inside.ensures.inside told_there) in
-    rw (← c.in-Start.ensures)
+    subst (λ (event : Event). IsStartAnd event
+    (λ (own : Tag). IsNextElement (wants c.args.wanted) c.args.base own old new)) c.in-Start.ensures
     (element_later (wants c.args.wanted) c.args.base tag old mid new (c.events.invariant.ahead told)
     (next_element (wants c.args.wanted) c.args.base tag mid new stands.0 steps.steps
     c.in-Start.ensures c.events.invariant.within steps.ends (sym c.accepts.ensures

@@ -1,17 +1,16 @@
 use Rattle.std.proofs.Common.{◌≡◌, ◌++◌, true, sym, ◌∙◌, ap, rules, string_bytes}
 use Rattle.part_events.specs.Event.{Event}
 use Rattle.part_events.specs.JoinedText.{event_text, is_unknown}
-use Rattle.part_events.specs.Reading.{reading}
 use Rattle.part_events.specs.Walk.{StandsInside, TakesInside}
 use Rattle.part_events.specs.declared.walk.Step.TheVariants.{Found}
 use Rattle.part_events.proofs.Texts.{front_further, has_read_more, event_fails}
-use Rattle.part_events.proofs.cursor.Cursor.read_text.Goals as goal
+use Rattle.part_events.proofs.reader.XlReader.read_text.Goals as goal
 
 pub returns-in-Err-clause-err : goal.returns-in-Err-clause-err
 returns-in-Err-clause-err g c =
-    let old = reading (g.P.Package.state c.args.package.now) c.args.self.now in
-    let mid = reading (g.P.Package.state c.events.package) c.events.self in
-    let new = reading (g.P.Package.state c.next_inside.new.package) c.next_inside.new.self in
+    let old = c.args.self.now in
+    let mid = c.events.self in
+    let new = c.next_inside.new.self in
     let told_there : old.source.is_told ≡ true → mid.source.is_told ≡ true =
     λ told. c.events.invariant.reads.moves.parts.is_told ∙ told in
     let stands : StandsInside c.depth-base.result Found mid new =
@@ -28,9 +27,9 @@ returns-in-Err-clause-err g c =
 
 pub events-preserved : goal.events-preserved
 events-preserved g c =
-    let old = reading (g.P.Package.state c.args.package.now) c.args.self.now in
-    let mid = reading (g.P.Package.state c.events.package) c.events.self in
-    let new = reading (g.P.Package.state c.next_inside.new.package) c.next_inside.new.self in
+    let old = c.args.self.now in
+    let mid = c.events.self in
+    let new = c.next_inside.new.self in
     record {
       reads = search rules;
       within = search rules;
