@@ -25,7 +25,8 @@ pub fn open_part<P: Package>(xml: &mut XlReader<P>, path: &str) -> Result<bool, 
     ensures err { IfErr result (SoundFails xml.old.source xml.new.source) }
     ensures kind { IfErr result (λ error. error ≡ Io) }
 {
-    Ok(xml.open(path)?)
+    let found = xml.open(path)?;
+    Ok(found)
 }
 
 /// Reads on behind the first start of this local name in a part of which nothing was taken, and
