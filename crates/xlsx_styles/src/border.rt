@@ -157,21 +157,21 @@ fn place_side(borders: &mut Borders, side: Side, border: Border, down: bool, up:
     }
 }
 
-/// Reads the borders at whose start the package stands, to its end (ECMA-376 part 1, section
-/// 18.8.4). Its diagonal is that of each direction that is asked for. Colors are named by the
-/// colors of the theme.
+/// Reads the borders at whose start the reader stands, to its matching end (ECMA-376 part 1,
+/// section 18.8.4). The last outermost side of each kind counts; the diagonal is that of each
+/// direction that is asked for. A number in `theme` names one of `theme_colors`.
 ///
 /// A part that ends in a side is `XmlEof("border side")`, and one that ends elsewhere in the
 /// element `XmlEof("border")`.
 #[tactic(auto, using(crate::proofs::StepErrors::border_step))]
-pub fn read_border<P: Package>(
+pub fn parse_border<P: Package>(
     xml: &mut XlReader<P>,
     diagonal_down: bool,
     diagonal_up: bool,
     theme_colors: &[Color],
 ) -> Result<Borders, XlsxError>
     requires element { IsReadingElement xml.old }
-    ensures { ReadsInside (border_of theme_colors.now diagonal_down diagonal_up)
+    ensures borders { ReadsInside (border_of theme_colors.now diagonal_down diagonal_up)
         (λ borders. borders) end_in_border IsBorderError result xml.old xml.new }
 {
     let base = xml.depth();

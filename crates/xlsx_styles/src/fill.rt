@@ -122,16 +122,15 @@ impl Keeps for FillKeeper<'_> {
     }
 }
 
-/// Reads the fill at whose start the package stands, to its end (ECMA-376 part 1, section
-/// 18.8.20). Colors are named by the colors of the theme.
-///
-/// A part that ends before is `XmlEof("fill")`.
-pub fn read_fill<P: Package>(
+/// Reads the fill at whose start the reader stands, to its matching end (ECMA-376 part 1, section
+/// 18.8.20). Of each kind the last start in it counts that says something. A number in `theme`
+/// names one of `theme_colors`. A part that ends before is `XmlEof("fill")`.
+pub fn parse_fill<P: Package>(
     xml: &mut XlReader<P>,
     theme_colors: &[Color],
 ) -> Result<Fill, XlsxError>
     requires element { IsReadingElement xml.old }
-    ensures { ReadsInside (fill_of theme_colors.now) (λ fill. fill) (always (codes "fill"))
+    ensures fill { ReadsInside (fill_of theme_colors.now) (λ fill. fill) (always (codes "fill"))
         (IsPlainError (codes "fill")) result xml.old xml.new }
 {
     let fill = Fill::default();

@@ -86,17 +86,18 @@ impl Keeps for FontKeeper<'_> {
     }
 }
 
-/// Reads the font at whose start the package stands, to its end (ECMA-376 part 1, section
-/// 18.8.22). Colors are named by the colors of the theme.
+/// Reads the font at whose start the reader stands, to its matching end (ECMA-376 part 1, section
+/// 18.8.22). Of each kind the last start in it counts that says something. A number in `theme`
+/// names one of `theme_colors`.
 ///
 /// A part that ends before is `XmlEof("font")`, and a name with a reference without a character is
 /// `Xml(Entity)` with the number of its start, counted from 0.
-pub fn read_font<P: Package>(
+pub fn parse_font<P: Package>(
     xml: &mut XlReader<P>,
     theme_colors: &[Color],
 ) -> Result<Font, XlsxError>
     requires element { IsReadingElement xml.old }
-    ensures { ReadsInside (font_of theme_colors.now) said_of (always (codes "font"))
+    ensures font { ReadsInside (font_of theme_colors.now) said_of (always (codes "font"))
         IsFontError result xml.old xml.new }
 {
     let alloc = xml.alloc();

@@ -3,9 +3,8 @@
 //!
 //! Rooms: `theme`, `tint`, `laws`, `texts` (truth values and small numbers), `color_text` (the
 //! color of a start), `alignment` (alignments and protections), `fill`, `font` and `font_parts`,
-//! `border` (a side, then its border), and `parsing` (the same over an `XlReader`). A tint is read
-//! in parts of 10^20 (`size_of`), and each channel is one fraction of whole numbers of 128 bits,
-//! divided once at the end (`nearest`).
+//! `border` (a side, then its border). A tint is read in parts of 10^20 (`size_of`), and each
+//! channel is one fraction of whole numbers of 128 bits, divided once at the end (`nearest`).
 //!
 //! **An element is a chain of changes.** What stands in a font, a fill or a border changes it one
 //! by one (`all_changes`): a later start of a kind takes the place of an earlier one, and one that
@@ -24,18 +23,16 @@ mod fill;
 mod font;
 mod font_parts;
 mod laws;
-mod parsing;
 mod texts;
 mod theme;
 mod tint;
 
 pub use alignment::{parse_alignment, parse_protection};
-pub use border::read_border;
+pub use border::parse_border;
 pub use color_text::{hex_color, parse_color};
-pub use fill::read_fill;
-pub use font::read_font;
+pub use fill::parse_fill;
+pub use font::parse_font;
 pub use laws::{one_number_is_nearest, short_tints_are_exact, tints_keep_the_order};
-pub use parsing::{parse_border, parse_fill, parse_font};
 pub use texts::truth_or;
 pub use theme::default_theme_colors;
 pub use tint::apply_tint;

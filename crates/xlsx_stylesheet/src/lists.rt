@@ -27,7 +27,7 @@ use std::alloc::Global;
 use xlsx_error::XlsxError;
 use xlsx_formats::{Formatting, NamedLists, read_format};
 use xlsx_sections::{ReadsEach, keep_elements, start_tag};
-use xlsx_styles::{read_border, read_fill, read_font, truth_or};
+use xlsx_styles::{parse_border, parse_fill, parse_font, truth_or};
 
 /// Reads fonts.
 #[derive(Drop)]
@@ -54,7 +54,7 @@ impl ReadsEach for FontReader<'_> {
     ghost kinds = { Prim.search rules };
 
     fn read<P: Package>(&self, xml: &mut XlReader<P>) -> Result<Font, XlsxError> {
-        read_font(xml, self.theme_colors)
+        parse_font(xml, self.theme_colors)
     }
 }
 
@@ -101,7 +101,7 @@ impl ReadsEach for FillReader<'_> {
     ghost kinds = { Prim.search rules };
 
     fn read<P: Package>(&self, xml: &mut XlReader<P>) -> Result<Fill, XlsxError> {
-        read_fill(xml, self.theme_colors)
+        parse_fill(xml, self.theme_colors)
     }
 }
 
@@ -150,7 +150,7 @@ fn read_one_border<P: Package>(
         end_in_border IsBorderError result xml.old xml.new }
 {
     let (down, up) = diagonals_of(&start_tag(xml))?;
-    read_border(xml, down, up, theme_colors)
+    parse_border(xml, down, up, theme_colors)
 }
 
 /// Reads borders.

@@ -1,7 +1,7 @@
 use Rattle.xlsx_sections.proofs.ElementsSaid.{KeepsElementsSaid}
 use Rattle.xlsx_sections.proofs.StartsSaid.{changes_behind}
 use Rattle.xlsx_styles.specs.Borders.{border_change, border_of, is_side}
-use Rattle.xlsx_styles.proofs.border.read_border.Given as goal
+use Rattle.xlsx_styles.proofs.border.parse_border.Given as goal
 
 abbrev pub invariant-sides : goal.invariant-sides
 invariant-sides g l =

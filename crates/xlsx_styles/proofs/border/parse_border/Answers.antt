@@ -12,18 +12,20 @@ use Rattle.xlsx_styles.specs.Borders.{side_of, side_placed, border_change, borde
 use Rattle.xlsx_styles.specs.Borders.{end_in_side, end_in_border}
 use Rattle.xlsx_styles.proofs.ElementsTold.{refused_inside}
 use Rattle.xlsx_styles.proofs.StepErrors.{border_step}
-use Rattle.xlsx_styles.proofs.border.read_border.Goals as goal
+use Rattle.xlsx_styles.proofs.border.parse_border.Goals as goal
 
 pub returns-in_err-_at : goal.returns-in_err-_at
 returns-in_err-_at g c =
     let old = c.args.xml.now in
     let refused = IsInsideRefused (border_of c.args.theme_colors.now c.args.diagonal_down
     c.args.diagonal_up) in
-    refused_inside c.from_residual.result c.from_residual.ensures.1
-    (leaves_further c.sides.invariant.keeps.section.reads c.in_err-_at.ensures.reads)
-    (own_step_refused old end_in_border refused c.next_element_in.new.xml.source _
-    c.depth-base.ensures (c.in_err-_at.ensures.refused old end_in_side c.sides.invariant.keeps))
-    (border_step _ c.in_err-_at.ensures.kind)
+    record {
+      borders = refused_inside c.from_residual.result c.from_residual.ensures.1
+          (leaves_further c.sides.invariant.keeps.section.reads c.in_err-_at.ensures.reads)
+          (own_step_refused old end_in_border refused c.next_element_in.new.xml.source _
+          c.depth-base.ensures (c.in_err-_at.ensures.refused old end_in_side c.sides.invariant.keeps))
+          (border_step _ c.in_err-_at.ensures.kind);
+    }
 
 pub sides-preserved : goal.sides-preserved
 sides-preserved g c =
@@ -53,13 +55,15 @@ returns-in_err-border g c =
     let found = at_start _ c.start_tag.ensures
     (rw c.in-Some.is at (c.in_ok-_at.ensures.step old c.sides.invariant.keeps)) in
     let error = c.in_err-border.field-0.0 in
-    refused_inside c.from_residual-in_err-border.result c.from_residual-in_err-border.ensures.1
-    (leaves_further c.sides.invariant.keeps.section.reads
-    (leaves_further c.in_ok-_at.ensures.reads c.in_err-border.ensures.reads))
-    (own_refused old end_in_border (IsInsideRefused (border_of theme down up)) last error
-    c.depth-base.ensures
-    (element_change_refused (codes "border") (λ own. always (codes "border side"))
-    (side_of theme tag) (border_change theme down up) last error c.sides.invariant found
-    (λ refusal is. ap (side_placed down up tag c.sides.borders) is)
-    (c.in_err-border.ensures.err tag c.start_tag.ensures)))
-    c.in_err-border.ensures.kind
+    record {
+      borders = refused_inside c.from_residual-in_err-border.result c.from_residual-in_err-border.ensures.1
+          (leaves_further c.sides.invariant.keeps.section.reads
+          (leaves_further c.in_ok-_at.ensures.reads c.in_err-border.ensures.reads))
+          (own_refused old end_in_border (IsInsideRefused (border_of theme down up)) last error
+          c.depth-base.ensures
+          (element_change_refused (codes "border") (λ own. always (codes "border side"))
+          (side_of theme tag) (border_change theme down up) last error c.sides.invariant found
+          (λ refusal is. ap (side_placed down up tag c.sides.borders) is)
+          (c.in_err-border.ensures.err tag c.start_tag.ensures)))
+          c.in_err-border.ensures.kind;
+    }
