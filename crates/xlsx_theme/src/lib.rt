@@ -1,7 +1,7 @@
 //! The theme of a workbook: the colors that the color scheme of its part says.
 //!
 //! Rooms: `slot` (one color of a scheme), `color_scheme` (its slots, and how colors are numbered),
-//! `theme_part` (the theme over an `XlReader`, and at a path). A slot is read to its end, and
+//! `theme_part` (the theme of the part that is read, and at a path). A slot is read to its end, and
 //! behind the start that gives its color no start is looked up, so that a fault there refuses
 //! nothing. The end of the part is told by the number of its events wherever it comes in a scheme.
 //!

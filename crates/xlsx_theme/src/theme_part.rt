@@ -1,6 +1,5 @@
 ghost use Rattle.std.specs.Prelude.{◌≡◌, ℕ, None, codes, true, IfOk, OnOk, IfErr};
 ghost use Rattle.part_events.specs.Package.{Uses, CountsUp, event_count};
-ghost use Rattle.part_events.specs.Reader.{reading_by, SamePackage};
 ghost use Rattle.part_events.specs.Reading.{IsReading, ReadsPart, ahead, events_of};
 ghost use Rattle.xlsx_error.specs.declared.error.XlsxError.TheVariants.{Io};
 ghost use Rattle.xlsx_sections.specs.Failing.{SoundFails};
@@ -48,8 +47,15 @@ fn theme_of(alloc: Global, slots: Vec<Color>) -> Result<ThemeColors, AllocError>
     }
 }
 
-/// The colors that the part says of which nothing was taken, up to the end of its first scheme.
-fn read_scheme<P: Package>(xml: &mut XlReader<P>) -> Result<ThemeColors, XlsxError>
+/// The colors of the theme in the part of which the reader has taken nothing yet (ECMA-376 part 1,
+/// section 20.1.6.2). Of the part's first color scheme each outermost slot counts, in order; the
+/// first two are swapped, and the next two. The default theme stands where there is no scheme, or
+/// one of fewer than four slots. Reads to the end of the scheme, and of a part that has none.
+///
+/// A part that ends in its scheme is `Xml(Unclosed)` with the number of the part's events. An end
+/// that breaks the nesting before the scheme's end is `Xml(EndMismatch)` with its number, counted
+/// from 0. A lookup in a slot that is refused is `XmlAttr`.
+pub fn read_theme_colors<P: Package>(xml: &mut XlReader<P>) -> Result<ThemeColors, XlsxError>
     requires reading { IsReading xml.old }
     requires first { xml.old.at ≡ 0 }
     ensures reads { ReadsPart Io result xml.old xml.new }
@@ -74,33 +80,6 @@ fn read_scheme<P: Package>(xml: &mut XlReader<P>) -> Result<ThemeColors, XlsxErr
     }
 }
 
-/// The colors of the theme in the part of which the reader has taken nothing yet (ECMA-376 part 1,
-/// section 20.1.6.2). Of the part's first color scheme each outermost slot counts, in order; the
-/// first two are swapped, and the next two. The default theme stands where there is no scheme, or
-/// one of fewer than four slots. Reads to the end of the scheme, and of a part that has none.
-///
-/// A part that ends in its scheme is `Xml(Unclosed)` with the number of the part's events. An end
-/// that breaks the nesting before the scheme's end is `Xml(EndMismatch)` with its number, counted
-/// from 0. A lookup in a slot that is refused is `XmlAttr`.
-pub fn read_theme_colors<P: Package>(xml: &mut XlReader<'_, P>) -> Result<ThemeColors, XlsxError>
-    requires reading { IsReading (reading_by P.state xml.old) }
-    requires first { (reading_by P.state xml.old).at ≡ 0 }
-    ensures same_package { SamePackage xml.old xml.new }
-    ensures reads { ReadsPart Io result (reading_by P.state xml.old) (reading_by P.state xml.new) }
-    ensures behind { let old = reading_by P.state xml.old in
-        let new = reading_by P.state xml.new in
-        old.source.is_told ≡ true → OnOk result (ahead new ≡ behind_scheme (ahead old)) }
-    ensures theme { let old = reading_by P.state xml.old in
-        old.source.is_told ≡ true → IfOk result (SaysTheme (events_of old)) }
-    ensures form { IfOk result IsTheme }
-    ensures err { IfErr result (ReadThemeFails (reading_by P.state xml.old)
-        (reading_by P.state xml.new)) }
-    ensures kind { IfErr result IsSchemeError }
-{
-    let alloc = xml.cursor.alloc();
-    read_scheme(alloc, xml.package, &mut xml.cursor)
-}
-
 /// The colors of the theme whose part is at this path. The default theme stands also where the part
 /// is absent, and where its reading is refused as `Xml` or `XmlAttr`. So this call is refused only
 /// for want of memory, and by a fault of the package.
@@ -119,8 +98,7 @@ pub fn read_theme<P: Package>(xml: &mut XlReader<P>, path: &str) -> Result<Theme
     if !xml.open(path)? {
         return Ok(default_theme(alloc)?);
     }
-    let mut cursor = Cursor::new(xml);
-    match read_scheme(xml) {
+    match read_theme_colors(xml) {
         Err(XlsxError::Xml(_)) => Ok(default_theme(alloc)?),
         Err(XlsxError::XmlAttr(_)) => Ok(default_theme(alloc)?),
         answer => answer,

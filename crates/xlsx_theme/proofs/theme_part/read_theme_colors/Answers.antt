@@ -7,7 +7,7 @@ use Rattle.part_events.proofs.Onward.{whole_at_end}
 use Rattle.xlsx_sections.proofs.SectionsRead.{start_there}
 use Rattle.xlsx_theme.proofs.ThemeRead.{scheme_found, scheme_says}
 use Rattle.xlsx_theme.proofs.ThemeTaken.{scheme_ended}
-use Rattle.xlsx_theme.proofs.theme_part.read_scheme.Goals as goal
+use Rattle.xlsx_theme.proofs.theme_part.read_theme_colors.Goals as goal
 
 pub returns-in_ok-theme_of-in-Found-clause-theme :
     goal.returns-in_ok-theme_of-in-Found-clause-theme
