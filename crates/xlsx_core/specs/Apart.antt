@@ -17,7 +17,6 @@ workbook_of xlsx = record {
   is_1904 = xlsx.is_1904;
   header_row = xlsx.header_row;
   lists = xlsx.lists;
-  alloc = xlsx.alloc;
 }
 
 -- where the part of the first sheet of a name is

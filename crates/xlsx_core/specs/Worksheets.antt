@@ -71,7 +71,7 @@ pub record KeepsWorkbook {P : Type 0} (old new : Xlsx P) : Type 0 where
 
 -- another header row, and all else as it was
 pub record SetsHeaderRow {P : Type 0} (header : HeaderRow) (old new : Xlsx P) : Type 0 where
-  pub «package» : new.package ≡ old.package
+  pub xml : new.xml ≡ old.xml
   pub metadata : new.metadata ≡ old.metadata
   pub paths : new.paths ≡ old.paths
   pub folder : new.folder ≡ old.folder

@@ -20,11 +20,11 @@ impl<P: Package> Xlsx<P> {
     /// `read_sheet_comments`. Whether the package has the part of the sheet isn't asked.
     pub fn comments_by_sheet_name(&mut self, name: &str) -> Result<Vec<Comments>, XlsxError>
         ensures answers { let ask = named_comments_ask name.now (path_of self.old name.now) in
-            Answers ask (λ all. map comments_kept all.items) result (P.state self.old.package)
-            (P.state self.new.package) }
+            Answers ask (λ all. map comments_kept all.items) result self.old.xml.source
+            self.new.xml.source }
         ensures rest { KeepsWorkbook self.old self.new }
     {
         let path = self.worksheet_path(name)?;
-        read_sheet_comments(self.alloc, &mut self.package, path.as_str())
+        read_sheet_comments(&mut self.xml, path.as_str())
     }
 }

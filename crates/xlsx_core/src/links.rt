@@ -56,24 +56,22 @@ impl<P: Package> Xlsx<P> {
     /// one of these sections is `Xml(EndMismatch)`. A start that can't be looked up, whose text
     /// can't be decoded, or whose `ref` names no area has its refusal.
     pub fn hyperlinks_by_sheet_name(&mut self, name: &str) -> Result<Vec<Hyperlink>, XlsxError>
-        ensures uses { let old = P.state self.old.package in
-            let new = P.state self.new.package in
-            Uses (placed_link_events (path_of self.old name.now) old.parts) Io result old new }
-        ensures to_end { let old = P.state self.old.package in
-            let new = P.state self.new.package in
+        ensures uses { Uses (placed_link_events (path_of self.old name.now)
+            self.old.xml.source.parts) Io result self.old.xml.source self.new.xml.source }
+        ensures to_end { let old = self.old.xml.source in
             old.is_told ≡ true → IfSome (path_of self.old name.now) (λ there.
-            OnOk result (CountsUp (link_sections old.parts there) old.taken new.taken)) }
+            OnOk result (CountsUp (link_sections old.parts there) old.taken
+            self.new.xml.source.taken)) }
         ensures rest { KeepsWorkbook self.old self.new }
-        ensures links { let old = P.state self.old.package in
-            old.is_told ≡ true → IfOk result (λ links.
-            links_placed (path_of self.old name.now) old.parts
+        ensures links { self.old.xml.source.is_told ≡ true → IfOk result (λ links.
+            links_placed (path_of self.old name.now) self.old.xml.source.parts
             ≡ Some (map link_said links.items)) }
         ensures err { IfErr result (PlacedLinksFail name.now (path_of self.old name.now)
-            (P.state self.old.package) (P.state self.new.package)) }
+            self.old.xml.source self.new.xml.source) }
         ensures kind { IfErr result (IsPlacedLinksError name.now) }
     {
         let path = path_named(&self.metadata.sheets, &self.paths, name);
-        placed_links(self.alloc, &mut self.package, path, name)
+        placed_links(&mut self.xml, path, name)
     }
 
     /// The hyperlinks of the sheet at this index, counted from 0, by its name: those of the first
@@ -82,26 +80,25 @@ impl<P: Package> Xlsx<P> {
     /// Fails with `WorksheetNotFound("Sheet index N out of range")` past the last sheet, and else
     /// as `hyperlinks_by_sheet_name` of the sheet's name.
     pub fn hyperlinks_by_sheet_id(&mut self, id: usize) -> Result<Vec<Hyperlink>, XlsxError>
-        ensures uses { let old = P.state self.old.package in
-            let new = P.state self.new.package in
-            Uses (placed_link_events (path_at self.old id) old.parts) Io result old new }
-        ensures to_end { let old = P.state self.old.package in
-            let new = P.state self.new.package in
+        ensures uses { Uses (placed_link_events (path_at self.old id) self.old.xml.source.parts)
+            Io result self.old.xml.source self.new.xml.source }
+        ensures to_end { let old = self.old.xml.source in
             old.is_told ≡ true → IfSome (path_at self.old id) (λ there.
-            OnOk result (CountsUp (link_sections old.parts there) old.taken new.taken)) }
+            OnOk result (CountsUp (link_sections old.parts there) old.taken
+            self.new.xml.source.taken)) }
         ensures rest { KeepsWorkbook self.old self.new }
-        ensures links { let old = P.state self.old.package in
-            old.is_told ≡ true → IfOk result (λ links.
-            links_placed (path_at self.old id) old.parts ≡ Some (map link_said links.items)) }
-        ensures err { IfErr result (NumberedLinksFail self.old id (P.state self.old.package)
-            (P.state self.new.package)) }
+        ensures links { self.old.xml.source.is_told ≡ true → IfOk result (λ links.
+            links_placed (path_at self.old id) self.old.xml.source.parts ≡ Some
+            (map link_said links.items)) }
+        ensures err { IfErr result (NumberedLinksFail self.old id self.old.xml.source
+            self.new.xml.source) }
         ensures kind { IfErr result (λ error.
             MatchOption (sheet_name_at self.old id) (IsIndexError id error)
             (λ name. IsPlacedLinksError name error)) }
     {
-        let sheet = numbered_sheet(self.alloc, &self.metadata.sheets, id)?;
+        let sheet = numbered_sheet(self.xml.alloc(), &self.metadata.sheets, id)?;
         let name = sheet.name.as_str();
         let path = path_named(&self.metadata.sheets, &self.paths, name);
-        placed_links(self.alloc, &mut self.package, path, name)
+        placed_links(&mut self.xml, path, name)
     }
 }

@@ -24,7 +24,6 @@ use crate::table_list::sheet_name;
 use crate::xlsx::Xlsx;
 use cell_refs::Dimensions;
 use part_events::{Package, XlReader};
-use std::alloc::Global;
 use xlsx_areas::{
     MergedRegion, MergedRegions, read_merges, read_merges_or_none, read_sheet_regions,
 };
@@ -92,9 +91,7 @@ fn placed_merges_or_none<P: Package>(
 
 /// Reads the regions of sheets.
 #[derive(Drop)]
-struct RegionLists {
-    alloc: Global,
-}
+struct RegionLists;
 
 impl ReadsSheets for RegionLists {
     type Items = Vec<MergedRegion>;
@@ -134,23 +131,20 @@ impl<P: Package> Xlsx<P> {
     /// part that ends in the section `XmlEof("")`, and a start in it that can't be looked up, or
     /// whose `ref` names no area, has its refusal.
     pub fn merge_cells_by_sheet_name(&mut self, name: &str) -> Result<Vec<Dimensions>, XlsxError>
-        ensures uses { let old = P.state self.old.package in
-            let new = P.state self.new.package in
-            Uses (placed_events (path_of self.old name.now) old.parts) Io result old new }
-        ensures to_end { let old = P.state self.old.package in
-            let new = P.state self.new.package in
-            IfSome (path_of self.old name.now) (λ there.
-            ReadsToEnd (codes "mergeCells") there result old new) }
+        ensures uses { Uses (placed_events (path_of self.old name.now) self.old.xml.source.parts)
+            Io result self.old.xml.source self.new.xml.source }
+        ensures to_end { IfSome (path_of self.old name.now) (λ there.
+            ReadsToEnd (codes "mergeCells") there result self.old.xml.source self.new.xml.source) }
         ensures rest { KeepsWorkbook self.old self.new }
-        ensures merges { let old = P.state self.old.package in
-            old.is_told ≡ true → IfOk result (λ areas.
-            merges_placed (path_of self.old name.now) old.parts ≡ Some areas.items) }
+        ensures merges { self.old.xml.source.is_told ≡ true → IfOk result (λ areas.
+            merges_placed (path_of self.old name.now) self.old.xml.source.parts ≡ Some areas.items)
+            }
         ensures err { IfErr result (PlacedMergesFail name.now (path_of self.old name.now)
-            (P.state self.old.package) (P.state self.new.package)) }
+            self.old.xml.source self.new.xml.source) }
         ensures kind { IfErr result (IsPlacedMergesError name.now) }
     {
         let path = path_named(&self.metadata.sheets, &self.paths, name);
-        placed_merges(self.alloc, &mut self.package, path, name)
+        placed_merges(&mut self.xml, path, name)
     }
 
     /// The merged cells of the sheet at this index, counted from 0, by its name: those of the first
@@ -159,27 +153,23 @@ impl<P: Package> Xlsx<P> {
     /// Fails with `WorksheetNotFound("Sheet index N out of range")` past the last sheet, and else
     /// as `merge_cells_by_sheet_name` of the sheet's name.
     pub fn merge_cells_by_sheet_id(&mut self, id: usize) -> Result<Vec<Dimensions>, XlsxError>
-        ensures uses { let old = P.state self.old.package in
-            let new = P.state self.new.package in
-            Uses (placed_events (path_at self.old id) old.parts) Io result old new }
-        ensures to_end { let old = P.state self.old.package in
-            let new = P.state self.new.package in
-            IfSome (path_at self.old id) (λ there.
-            ReadsToEnd (codes "mergeCells") there result old new) }
+        ensures uses { Uses (placed_events (path_at self.old id) self.old.xml.source.parts)
+            Io result self.old.xml.source self.new.xml.source }
+        ensures to_end { IfSome (path_at self.old id) (λ there.
+            ReadsToEnd (codes "mergeCells") there result self.old.xml.source self.new.xml.source) }
         ensures rest { KeepsWorkbook self.old self.new }
-        ensures merges { let old = P.state self.old.package in
-            old.is_told ≡ true → IfOk result (λ areas.
-            merges_placed (path_at self.old id) old.parts ≡ Some areas.items) }
-        ensures err { IfErr result (NumberedMergesFail self.old id (P.state self.old.package)
-            (P.state self.new.package)) }
+        ensures merges { self.old.xml.source.is_told ≡ true → IfOk result (λ areas.
+            merges_placed (path_at self.old id) self.old.xml.source.parts ≡ Some areas.items) }
+        ensures err { IfErr result (NumberedMergesFail self.old id self.old.xml.source
+            self.new.xml.source) }
         ensures kind { IfErr result (λ error.
             MatchOption (sheet_name_at self.old id) (IsIndexError id error)
             (λ name. IsPlacedMergesError name error)) }
     {
-        let sheet = numbered_sheet(self.alloc, &self.metadata.sheets, id)?;
+        let sheet = numbered_sheet(self.xml.alloc(), &self.metadata.sheets, id)?;
         let name = sheet.name.as_str();
         let path = path_named(&self.metadata.sheets, &self.paths, name);
-        placed_merges(self.alloc, &mut self.package, path, name)
+        placed_merges(&mut self.xml, path, name)
     }
 
     /// The merged cells as `merge_cells_by_sheet_name` has them, and none where what stands in
@@ -192,29 +182,26 @@ impl<P: Package> Xlsx<P> {
         &mut self,
         name: &str,
     ) -> Option<Result<Vec<Dimensions>, XlsxError>>
-        ensures uses { let old = P.state self.old.package in
-            let new = P.state self.new.package in
+        ensures uses { let old = self.old.xml.source in
+            let new = self.new.xml.source in
             MatchOption result (UsesPackage 0 old new) (λ answer.
             Uses (placed_events (path_of self.old name.now) old.parts) Io answer old new) }
-        ensures to_end { let old = P.state self.old.package in
-            let new = P.state self.new.package in
-            IfSome (path_of self.old name.now) (λ there. IfSome result (λ answer.
-            IsSome (merges_at old.parts there) →
-            ReadsToEnd (codes "mergeCells") there answer old new)) }
-        ensures absent { let old = P.state self.old.package in
-            IfNone result (old.is_told ≡ true →
-            events_at (path_of self.old name.now) old.parts ≡ None) }
+        ensures to_end { IfSome (path_of self.old name.now) (λ there. IfSome result (λ answer.
+            IsSome (merges_at self.old.xml.source.parts there) →
+            ReadsToEnd (codes "mergeCells") there answer self.old.xml.source self.new.xml.source)) }
+        ensures absent { IfNone result (self.old.xml.source.is_told ≡ true →
+            events_at (path_of self.old name.now) self.old.xml.source.parts ≡ None) }
         ensures rest { KeepsWorkbook self.old self.new }
-        ensures merges { let old = P.state self.old.package in
-            old.is_told ≡ true → IfSome result (λ answer. IfOk answer (λ areas.
-            merges_or_none_placed (path_of self.old name.now) old.parts ≡ Some areas.items)) }
+        ensures merges { self.old.xml.source.is_told ≡ true →
+            IfSome result (λ answer. IfOk answer (λ areas.
+            merges_or_none_placed (path_of self.old name.now) self.old.xml.source.parts ≡ Some
+            areas.items)) }
         ensures err { IfSome result (λ answer. IfErr answer
-            (PlacedBreaks (path_of self.old name.now) (P.state self.old.package)
-            (P.state self.new.package))) }
+            (PlacedBreaks (path_of self.old name.now) self.old.xml.source self.new.xml.source)) }
         ensures kind { IfSome result (λ answer. IfErr answer IsBreakError) }
     {
         let path = path_named(&self.metadata.sheets, &self.paths, name);
-        placed_merges_or_none(self.alloc, &mut self.package, path)
+        placed_merges_or_none(&mut self.xml, path)
     }
 
     /// The merged cells of the sheet at this index, counted from 0, by its name, as
@@ -223,31 +210,27 @@ impl<P: Package> Xlsx<P> {
         &mut self,
         sheet_index: usize,
     ) -> Option<Result<Vec<Dimensions>, XlsxError>>
-        ensures uses { let old = P.state self.old.package in
-            let new = P.state self.new.package in
+        ensures uses { let old = self.old.xml.source in
+            let new = self.new.xml.source in
             MatchOption result (UsesPackage 0 old new) (λ answer.
             Uses (placed_events (path_at self.old sheet_index) old.parts) Io answer old new) }
-        ensures to_end { let old = P.state self.old.package in
-            let new = P.state self.new.package in
-            IfSome (path_at self.old sheet_index) (λ there. IfSome result (λ answer.
-            IsSome (merges_at old.parts there) →
-            ReadsToEnd (codes "mergeCells") there answer old new)) }
-        ensures absent { let old = P.state self.old.package in
-            IfNone result (old.is_told ≡ true →
-            events_at (path_at self.old sheet_index) old.parts ≡ None) }
+        ensures to_end { IfSome (path_at self.old sheet_index) (λ there. IfSome result (λ answer.
+            IsSome (merges_at self.old.xml.source.parts there) →
+            ReadsToEnd (codes "mergeCells") there answer self.old.xml.source self.new.xml.source)) }
+        ensures absent { IfNone result (self.old.xml.source.is_told ≡ true →
+            events_at (path_at self.old sheet_index) self.old.xml.source.parts ≡ None) }
         ensures rest { KeepsWorkbook self.old self.new }
-        ensures merges { let old = P.state self.old.package in
-            old.is_told ≡ true → IfSome result (λ answer. IfOk answer (λ areas.
-            merges_or_none_placed (path_at self.old sheet_index) old.parts
+        ensures merges { self.old.xml.source.is_told ≡ true →
+            IfSome result (λ answer. IfOk answer (λ areas.
+            merges_or_none_placed (path_at self.old sheet_index) self.old.xml.source.parts
             ≡ Some areas.items)) }
         ensures err { IfSome result (λ answer. IfErr answer
-            (PlacedBreaks (path_at self.old sheet_index) (P.state self.old.package)
-            (P.state self.new.package))) }
+            (PlacedBreaks (path_at self.old sheet_index) self.old.xml.source self.new.xml.source)) }
         ensures kind { IfSome result (λ answer. IfErr answer IsBreakError) }
     {
         let sheet = self.metadata.sheets.get(sheet_index)?;
         let path = path_named(&self.metadata.sheets, &self.paths, sheet.name.as_str());
-        placed_merges_or_none(self.alloc, &mut self.package, path)
+        placed_merges_or_none(&mut self.xml, path)
     }
 
     /// Loads the regions of all sheets in their order: the area of each `mergeCell` start of each
@@ -260,7 +243,7 @@ impl<P: Package> Xlsx<P> {
     pub fn load_merged_regions(&mut self) -> Result<(), XlsxError>
         ensures answers { let ask = all_regions_ask (sheets_of_book self.old) in
             Answers ask (λ _. regions_held self.new.lists.regions) result
-            (P.state self.old.package) (P.state self.new.package) }
+            self.old.xml.source self.new.xml.source }
         ensures book { KeepsBook self.old self.new }
         ensures loaded { OnOk result (IsSome self.new.lists.regions) }
         ensures properties { self.new.lists.properties ≡ self.old.lists.properties }
@@ -268,10 +251,8 @@ impl<P: Package> Xlsx<P> {
         ensures unchanged { OnErr result (KeepsWorkbook self.old self.new) }
     {
         let sheets = &self.metadata.sheets;
-        let regions = Vec::new(self.alloc);
-        let by = RegionLists { alloc: self.alloc };
-        let package = &mut self.package;
-        let regions = read_sheets(self.alloc, package, regions, sheets, &self.paths, &by)?;
+        let regions = Vec::new(self.xml.alloc());
+        let regions = read_sheets(&mut self.xml, regions, sheets, &self.paths, &RegionLists)?;
         self.lists.regions = Some(regions);
         Ok(())
     }

@@ -16,7 +16,6 @@ use crate::sheet_lists::{ReadsSheets, read_sheets};
 use crate::table_list::sheet_name;
 use crate::xlsx::Xlsx;
 use part_events::{Package, XlReader};
-use std::alloc::Global;
 use xlsx_error::XlsxError;
 use xlsx_open::Sheet;
 use xlsx_pivot_cache::PivotCacheIter;
@@ -25,7 +24,6 @@ use xlsx_pivots::{PivotTables, read_sheet_pivots};
 /// Reads the pivot tables of sheets, in the workbook's folder.
 #[derive(Drop)]
 struct PivotLists<'a> {
-    alloc: Global,
     folder: &'a str,
 }
 
@@ -68,15 +66,14 @@ impl<P: Package> Xlsx<P> {
     pub fn pivot_tables(&mut self) -> Result<PivotTables, XlsxError>
         ensures answers { let folder = arc_str_bytes self.old.folder in
             Answers (pivots_ask folder (sheets_of_book self.old)) pivots_kept result
-            (P.state self.old.package) (P.state self.new.package) }
+            self.old.xml.source self.new.xml.source }
         ensures workbook { KeepsWorkbook self.old self.new }
     {
-        let alloc = self.alloc;
         let folder = self.folder.as_str();
-        let by = PivotLists { alloc, folder };
-        let pivots = PivotTables::new(alloc);
+        let by = PivotLists { folder };
+        let pivots = PivotTables::new(self.xml.alloc());
         let sheets = &self.metadata.sheets;
-        read_sheets(alloc, &mut self.package, pivots, sheets, &self.paths, &by)
+        read_sheets(&mut self.xml, pivots, sheets, &self.paths, &by)
     }
 
     /// The rows of the cache of the first of these pivot tables that has this name and is on a
@@ -90,25 +87,23 @@ impl<P: Package> Xlsx<P> {
         sheet_name: &str,
         pivot_table_name: &str,
     ) -> Result<PivotCacheIter<'_, P>, XlsxError>
-        ensures opens { let old = P.state self.old.package in
-            let kept = pivots_kept pivot_tables.now in
+        ensures opens { let kept = pivots_kept pivot_tables.now in
             IfOk result (λ rows. IsSomeAnd (paths_of kept sheet_name.now pivot_table_name.now)
-            (λ paths. OpensRows paths.0 paths.1 old (rows_by P.state rows))) }
+            (λ paths. OpensRows paths.0 paths.1 self.old.xml.source (rows_by rows))) }
         ensures err { let kept = pivots_kept pivot_tables.now in
             let paths = paths_of kept sheet_name.now pivot_table_name.now in
-            IfErr result
-            (PivotDataFails pivot_table_name.now paths (P.state self.old.package)) }
-        ensures fault { IfErr result (LentFails Io P.state (P.state self.old.package)) }
+            IfErr result (PivotDataFails pivot_table_name.now paths self.old.xml.source) }
+        ensures fault { IfErr result (LentFails Io P.state self.old.xml.source) }
         ensures kind { let kept = pivots_kept pivot_tables.now in
             let paths = paths_of kept sheet_name.now pivot_table_name.now in
             IfErr result (IsPivotDataError pivot_table_name.now paths) }
     {
         match pivot_tables.cache_paths(sheet_name, pivot_table_name) {
             Some((definitions, records)) => {
-                PivotCacheIter::open(self.alloc, &mut self.package, definitions, records)
+                PivotCacheIter::open(&mut self.xml, definitions, records)
             }
             None => {
-                let name = String::from_str(self.alloc, pivot_table_name)?;
+                let name = String::from_str(self.xml.alloc(), pivot_table_name)?;
                 Err(XlsxError::PivotTableNotFound(name))
             }
         }

@@ -20,44 +20,40 @@ impl<P: Package> Xlsx<P> {
     /// The properties of the workbook, as `read_properties` reads them. They are read once and then
     /// kept, and each call answers a copy. A refusal keeps none.
     pub fn workbook_properties(&mut self) -> Result<WorkbookProperties, XlsxError>
-        ensures keeps { SameParts (P.state self.old.package) (P.state self.new.package) }
+        ensures keeps { SameParts self.old.xml.source self.new.xml.source }
         ensures book { KeepsBook self.old self.new }
         ensures regions { self.new.lists.regions ≡ self.old.lists.regions }
         ensures tables { self.new.lists.tables ≡ self.old.lists.tables }
         ensures unchanged { OnErr result (KeepsWorkbook self.old self.new) }
         ensures kept { IfOk result (λ properties.
             IsSomeAnd self.new.lists.properties (AreSame properties)) }
-        ensures again { IfSome self.old.lists.properties (λ kept.
-            KeepsWorkbook self.old self.new
-            × (P.state self.new.package ≡ P.state self.old.package)
+        ensures again { IfSome self.old.lists.properties (λ kept. KeepsWorkbook self.old self.new
+            × (self.new.xml.source ≡ self.old.xml.source)
             × IfOk result (AreSame kept) × IfErr result (λ error. error ≡ OutOfMemory)) }
-        ensures uses { let old = P.state self.old.package in
-            self.old.lists.properties ≡ None →
-            Uses (property_events old.parts) Io result old (P.state self.new.package) }
-        ensures to_end { let old = P.state self.old.package in
-            let new = P.state self.new.package in
+        ensures uses { self.old.lists.properties ≡ None →
+            Uses (property_events self.old.xml.source.parts) Io result self.old.xml.source
+            self.new.xml.source }
+        ensures to_end { let old = self.old.xml.source in
             self.old.lists.properties ≡ None → old.is_told ≡ true →
-            OnOk result (CountsUp (property_events old.parts) old.taken new.taken) }
-        ensures whole { let old = P.state self.old.package in
-            self.old.lists.properties ≡ None → old.is_told ≡ true →
-            IfOk result (λ properties. AreWhole old.parts) }
-        ensures properties { let old = P.state self.old.package in
-            self.old.lists.properties ≡ None → old.is_told ≡ true →
+            OnOk result (CountsUp (property_events old.parts) old.taken self.new.xml.source.taken) }
+        ensures whole { self.old.lists.properties ≡ None → self.old.xml.source.is_told ≡ true →
+            IfOk result (λ properties. AreWhole self.old.xml.source.parts) }
+        ensures properties { self.old.lists.properties ≡ None → self.old.xml.source.is_told ≡ true →
             IfOk result (λ properties. (wanted : Property) →
-            property_said old.parts wanted ≡ Ok (held wanted properties)) }
-        ensures custom { let old = P.state self.old.package in
-            self.old.lists.properties ≡ None → old.is_told ≡ true →
+            property_said self.old.xml.source.parts wanted ≡ Ok (held wanted properties)) }
+        ensures custom { self.old.lists.properties ≡ None → self.old.xml.source.is_told ≡ true →
             IfOk result (λ properties. (name : List ℕ) →
-            custom_said old.parts name ≡ Ok (custom_held name properties)) }
-        ensures err { let old = P.state self.old.package in
-            IfErr result (FailsBy (PropertiesCause old.parts) old (P.state self.new.package)) }
+            custom_said self.old.xml.source.parts name ≡ Ok (custom_held name properties)) }
+        ensures err { IfErr result
+            (FailsBy (PropertiesCause self.old.xml.source.parts) self.old.xml.source
+            self.new.xml.source) }
         ensures kind { IfErr result IsPropertyError }
     {
         if let Some(kept) = &self.lists.properties {
-            return Ok(kept.clone_in(self.alloc)?);
+            return Ok(kept.clone_in(self.xml.alloc())?);
         }
-        let properties = read_properties(self.alloc, &mut self.package)?;
-        let copy = properties.clone_in(self.alloc)?;
+        let properties = read_properties(&mut self.xml)?;
+        let copy = properties.clone_in(self.xml.alloc())?;
         self.lists.properties = Some(properties);
         Ok(copy)
     }

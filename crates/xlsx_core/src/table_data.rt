@@ -74,14 +74,14 @@ impl<P: Package> Xlsx<P> {
         ensures err { IfErr result (LacksTable name.now (loaded_tables self.now)) }
     {
         let Some(table) = first_named(self.kept_tables(), name) else {
-            let name = String::from_str(self.alloc, name)?;
+            let name = String::from_str(self.xml.alloc(), name)?;
             return Err(XlsxError::TableNotFound(name));
         };
         let sheet = sheet_name(&self.metadata.sheets, table.sheet());
         Ok(TableHead {
-            name: String::from_str(self.alloc, table.name())?,
-            sheet: String::from_str(self.alloc, sheet)?,
-            columns: copied_texts(self.alloc, table.columns())?,
+            name: String::from_str(self.xml.alloc(), table.name())?,
+            sheet: String::from_str(self.xml.alloc(), sheet)?,
+            columns: copied_texts(self.xml.alloc(), table.columns())?,
             area: table.area(),
         })
     }
@@ -90,31 +90,29 @@ impl<P: Package> Xlsx<P> {
     /// text is copied of those that stand elsewhere, and without an area none are read.
     fn values_in(&mut self, sheet: &str, area: Option<Dimensions>) -> Result<Range<Data>, XlsxError>
         requires { are_sheet_bounds area ≡ true }
-        ensures uses { let old = P.state self.old.package in
-            let new = P.state self.new.package in
-            let most = area_events area (path_of self.old sheet.now) old.parts in
-            Uses most Io result old new }
-        ensures to_end { let old = P.state self.old.package in
-            let count = area_data_events area (path_of self.old sheet.now) old.parts in
-            TakesExactly count result old (P.state self.new.package) }
+        ensures uses { let most = area_events area (path_of self.old sheet.now)
+            self.old.xml.source.parts in
+            Uses most Io result self.old.xml.source self.new.xml.source }
+        ensures to_end { let count = area_data_events area (path_of self.old sheet.now)
+            self.old.xml.source.parts in
+            TakesExactly count result self.old.xml.source self.new.xml.source }
         ensures rest { KeepsWorkbook self.old self.new }
-        ensures unread { area ≡ None →
-            P.state self.new.package ≡ P.state self.old.package }
+        ensures unread { area ≡ None → self.new.xml.source ≡ self.old.xml.source }
         ensures bounds { IfOk result (λ range. bounds_of range ≡ area) }
-        ensures reads { let old = P.state self.old.package in
-            old.is_told ≡ true → IfOk result (ReadsValuesIn (grounds_of_book self.old)
-            self.old.header_row area (path_of self.old sheet.now) old.parts) }
-        ensures err { IfErr result (AreaFails self.old sheet.now area (P.state self.old.package)
-            (P.state self.new.package)) }
+        ensures reads { self.old.xml.source.is_told ≡ true →
+            IfOk result (ReadsValuesIn (grounds_of_book self.old)
+            self.old.header_row area (path_of self.old sheet.now) self.old.xml.source.parts) }
+        ensures err { IfErr result (AreaFails self.old sheet.now area self.old.xml.source
+            self.new.xml.source) }
         ensures kind { IfErr result (IsRangeError sheet.now) }
     {
         let Some(area) = area else {
-            return Ok(Range::from_sparse(self.alloc, Vec::new(self.alloc), Data::Empty)?);
+            return Ok(Range::from_sparse(self.xml.alloc(), Vec::new(self.xml.alloc()), Data::Empty)?);
         };
         let cells = self.worksheet_cells(sheet, Wants::VALUES)?;
         let strings = &self.shared.strings;
         let header_row = self.header_row;
-        Ok(values_in_area(self.alloc, cells.values, strings, header_row, area)?)
+        Ok(values_in_area(self.xml.alloc(), cells.values, strings, header_row, area)?)
     }
 
     /// The same, with shared strings by their places.
@@ -124,29 +122,27 @@ impl<P: Package> Xlsx<P> {
         area: Option<Dimensions>,
     ) -> Result<Range<DataRef>, XlsxError>
         requires { are_sheet_bounds area ≡ true }
-        ensures uses { let old = P.state self.old.package in
-            let new = P.state self.new.package in
-            let most = area_events area (path_of self.old sheet.now) old.parts in
-            Uses most Io result old new }
-        ensures to_end { let old = P.state self.old.package in
-            let count = area_data_events area (path_of self.old sheet.now) old.parts in
-            TakesExactly count result old (P.state self.new.package) }
+        ensures uses { let most = area_events area (path_of self.old sheet.now)
+            self.old.xml.source.parts in
+            Uses most Io result self.old.xml.source self.new.xml.source }
+        ensures to_end { let count = area_data_events area (path_of self.old sheet.now)
+            self.old.xml.source.parts in
+            TakesExactly count result self.old.xml.source self.new.xml.source }
         ensures rest { KeepsWorkbook self.old self.new }
-        ensures unread { area ≡ None →
-            P.state self.new.package ≡ P.state self.old.package }
+        ensures unread { area ≡ None → self.new.xml.source ≡ self.old.xml.source }
         ensures bounds { IfOk result (λ range. bounds_of range ≡ area) }
-        ensures reads { let old = P.state self.old.package in
-            old.is_told ≡ true → IfOk result (ReadsPlacesIn (grounds_of_book self.old)
-            self.old.header_row area (path_of self.old sheet.now) old.parts) }
-        ensures err { IfErr result (AreaFails self.old sheet.now area (P.state self.old.package)
-            (P.state self.new.package)) }
+        ensures reads { self.old.xml.source.is_told ≡ true →
+            IfOk result (ReadsPlacesIn (grounds_of_book self.old)
+            self.old.header_row area (path_of self.old sheet.now) self.old.xml.source.parts) }
+        ensures err { IfErr result (AreaFails self.old sheet.now area self.old.xml.source
+            self.new.xml.source) }
         ensures kind { IfErr result (IsRangeError sheet.now) }
     {
         let Some(area) = area else {
-            return Ok(Range::from_sparse(self.alloc, Vec::new(self.alloc), DataRef::Empty)?);
+            return Ok(Range::from_sparse(self.xml.alloc(), Vec::new(self.xml.alloc()), DataRef::Empty)?);
         };
         let cells = self.worksheet_cells(sheet, Wants::VALUES)?;
-        Ok(places_in_area(self.alloc, cells.values, self.header_row, area)?)
+        Ok(places_in_area(self.xml.alloc(), cells.values, self.header_row, area)?)
     }
 
     /// The first loaded table of this name, with its data (ECMA-376 part 1, section 18.5.1.2):
@@ -160,25 +156,22 @@ impl<P: Package> Xlsx<P> {
     /// `worksheet_range` of its sheet's name is, where the area has a cell.
     pub fn table_by_name(&mut self, table_name: &str) -> Result<Table<Data>, XlsxError>
         requires { IsSome self.old.lists.tables }
-        ensures uses { let old = P.state self.old.package in
-            let new = P.state self.new.package in
-            let most = table_data_events self.old table_name.now old.parts in
-            Uses most Io result old new }
-        ensures to_end { let old = P.state self.old.package in
-            let count = table_ends self.old table_name.now old.parts in
-            TakesExactly count result old (P.state self.new.package) }
+        ensures uses { let most = table_data_events self.old table_name.now
+            self.old.xml.source.parts in
+            Uses most Io result self.old.xml.source self.new.xml.source }
+        ensures to_end { let count = table_ends self.old table_name.now self.old.xml.source.parts in
+            TakesExactly count result self.old.xml.source self.new.xml.source }
         ensures rest { KeepsWorkbook self.old self.new }
         ensures unread { area_of_book self.old table_name.now ≡ None →
-            P.state self.new.package ≡ P.state self.old.package }
+            self.new.xml.source ≡ self.old.xml.source }
         ensures table { IfOk result (λ table.
             IsSomeAnd (table_of_book self.old table_name.now) (λ own. IsOfTable own table)) }
-        ensures data { let old = P.state self.old.package in
-            old.is_told ≡ true → IfOk result (λ table.
+        ensures data { self.old.xml.source.is_told ≡ true → IfOk result (λ table.
             IsSomeAnd (table_of_book self.old table_name.now) (λ own.
             ReadsValuesIn (grounds_of_book self.old) self.old.header_row own.table.area
-            (path_of self.old own.sheet) old.parts (table_data table))) }
+            (path_of self.old own.sheet) self.old.xml.source.parts (table_data table))) }
         ensures err { IfErr result (TableDataFails self.old table_name.now
-            (P.state self.old.package) (P.state self.new.package)) }
+            self.old.xml.source self.new.xml.source) }
         ensures kind { IfErr result (IsTableDataError self.old table_name.now) }
     {
         let head = self.table_head(table_name)?;
@@ -191,25 +184,22 @@ impl<P: Package> Xlsx<P> {
     /// `table_by_name` is.
     pub fn table_by_name_ref(&mut self, table_name: &str) -> Result<Table<DataRef>, XlsxError>
         requires { IsSome self.old.lists.tables }
-        ensures uses { let old = P.state self.old.package in
-            let new = P.state self.new.package in
-            let most = table_data_events self.old table_name.now old.parts in
-            Uses most Io result old new }
-        ensures to_end { let old = P.state self.old.package in
-            let count = table_ends self.old table_name.now old.parts in
-            TakesExactly count result old (P.state self.new.package) }
+        ensures uses { let most = table_data_events self.old table_name.now
+            self.old.xml.source.parts in
+            Uses most Io result self.old.xml.source self.new.xml.source }
+        ensures to_end { let count = table_ends self.old table_name.now self.old.xml.source.parts in
+            TakesExactly count result self.old.xml.source self.new.xml.source }
         ensures rest { KeepsWorkbook self.old self.new }
         ensures unread { area_of_book self.old table_name.now ≡ None →
-            P.state self.new.package ≡ P.state self.old.package }
+            self.new.xml.source ≡ self.old.xml.source }
         ensures table { IfOk result (λ table.
             IsSomeAnd (table_of_book self.old table_name.now) (λ own. IsOfTable own table)) }
-        ensures data { let old = P.state self.old.package in
-            old.is_told ≡ true → IfOk result (λ table.
+        ensures data { self.old.xml.source.is_told ≡ true → IfOk result (λ table.
             IsSomeAnd (table_of_book self.old table_name.now) (λ own.
             ReadsPlacesIn (grounds_of_book self.old) self.old.header_row own.table.area
-            (path_of self.old own.sheet) old.parts (table_data table))) }
+            (path_of self.old own.sheet) self.old.xml.source.parts (table_data table))) }
         ensures err { IfErr result (TableDataFails self.old table_name.now
-            (P.state self.old.package) (P.state self.new.package)) }
+            self.old.xml.source self.new.xml.source) }
         ensures kind { IfErr result (IsTableDataError self.old table_name.now) }
     {
         let head = self.table_head(table_name)?;

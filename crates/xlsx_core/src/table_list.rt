@@ -15,7 +15,6 @@ use crate::sheet_lists::{ReadsSheets, read_sheets};
 use crate::xlsx::Xlsx;
 use cell_refs::Dimensions;
 use part_events::{Package, XlReader};
-use std::alloc::Global;
 use xlsx_error::XlsxError;
 use xlsx_open::{KeptPath, Sheet};
 use xlsx_tables::{LoadedTable, read_sheet_tables};
@@ -42,9 +41,7 @@ fn is_wanted(wanted: Option<&str>, sheet: &str) -> bool
 
 /// Reads the tables of sheets, and keeps them with the numbers of these.
 #[derive(Drop)]
-struct TableLists {
-    alloc: Global,
-}
+struct TableLists;
 
 impl ReadsSheets for TableLists {
     type Items = Vec<LoadedTable>;
@@ -132,8 +129,8 @@ impl<P: Package> Xlsx<P> {
     /// refusal leaves what was loaded as it was.
     pub fn load_tables(&mut self) -> Result<(), XlsxError>
         ensures answers { let ask = all_tables_ask (sheets_of_book self.old) in
-            Answers ask (λ _. loaded_tables self.new) result (P.state self.old.package)
-            (P.state self.new.package) }
+            Answers ask (λ _. loaded_tables self.new) result self.old.xml.source
+            self.new.xml.source }
         ensures book { KeepsBook self.old self.new }
         ensures loaded { OnOk result (IsSome self.new.lists.tables) }
         ensures regions { self.new.lists.regions ≡ self.old.lists.regions }
@@ -141,10 +138,8 @@ impl<P: Package> Xlsx<P> {
         ensures unchanged { OnErr result (KeepsWorkbook self.old self.new) }
     {
         let sheets = &self.metadata.sheets;
-        let tables = Vec::new(self.alloc);
-        let by = TableLists { alloc: self.alloc };
-        let package = &mut self.package;
-        let tables = read_sheets(self.alloc, package, tables, sheets, &self.paths, &by)?;
+        let tables = Vec::new(self.xml.alloc());
+        let tables = read_sheets(&mut self.xml, tables, sheets, &self.paths, &TableLists)?;
         self.lists.tables = Some(tables);
         Ok(())
     }

@@ -15,7 +15,6 @@ use crate::xlsx::Xlsx;
 use cell_data::HeaderRow;
 use cell_refs::Dimensions;
 use part_events::{Package, XlReader};
-use std::alloc::Global;
 use std::sync::ArcStr;
 use xlsx_cells::{SheetCursor, XlsxCellReader};
 use xlsx_error::XlsxError;
@@ -36,18 +35,17 @@ pub struct Workbook {
     pub(crate) is_1904: bool,
     pub(crate) header_row: HeaderRow,
     pub(crate) lists: Lists,
-    pub(crate) alloc: Global,
 }
 
-/// A workbook and its package, apart and together.
+/// A workbook and the reader of its package, apart and together.
 impl<P: Package> Xlsx<P> {
-    /// The package, and what is known of the workbook beside it.
-    pub fn into_parts(self) -> (P, Workbook)
-        ensures kept { result.0 ≡ self.package }
+    /// The reader of the package, and what is known of the workbook beside it.
+    pub fn into_parts(self) -> (XlReader<P>, Workbook)
+        ensures kept { result.0 ≡ self.xml }
         ensures workbook { result.1 ≡ workbook_of self }
     {
         let Xlsx {
-            package,
+            xml,
             metadata,
             paths,
             folder,
@@ -55,7 +53,6 @@ impl<P: Package> Xlsx<P> {
             is_1904,
             header_row,
             lists,
-            alloc,
         } = self;
         let workbook = Workbook {
             metadata,
@@ -65,18 +62,17 @@ impl<P: Package> Xlsx<P> {
             is_1904,
             header_row,
             lists,
-            alloc,
         };
-        (package, workbook)
+        (xml, workbook)
     }
 
-    /// The workbook of which this is known, over this package.
-    pub fn from_parts(package: P, workbook: Workbook) -> Xlsx<P>
-        ensures kept { result.package ≡ «package» }
+    /// The workbook of which this is known, over the package of this reader.
+    pub fn from_parts(xml: XlReader<P>, workbook: Workbook) -> Xlsx<P>
+        ensures kept { result.xml ≡ xml }
         ensures workbook { workbook_of result ≡ workbook }
     {
         Xlsx {
-            package,
+            xml,
             metadata: workbook.metadata,
             paths: workbook.paths,
             folder: workbook.folder,
@@ -84,15 +80,14 @@ impl<P: Package> Xlsx<P> {
             is_1904: workbook.is_1904,
             header_row: workbook.header_row,
             lists: workbook.lists,
-            alloc: workbook.alloc,
         }
     }
 }
 
-/// Reading the cells of a worksheet over a package that is lent beside the workbook.
+/// Reading the cells of a worksheet by a reader that is lent beside the workbook.
 impl Workbook {
     /// Enters the data of the first sheet of this name (ECMA-376 part 1, 18.3.1.80), and answers
-    /// where reading stands behind their start, and the sheet's dimensions. The package is lent for
+    /// where reading stands behind their start, and the sheet's dimensions. The reader is lent for
     /// this call alone, so its clauses say what a refusal leaves. `resume_worksheet` goes on from
     /// there.
     ///
@@ -106,7 +101,7 @@ impl Workbook {
         ensures uses { Uses (placed_events (path_in self.now name.now) xml.old.source.parts)
             Io result xml.old.source xml.new.source }
         ensures enters { IfOk result (λ entered. EntersSheet (path_in self.now name.now) entered.1
-            xml.old.source (stream xml.new.source entered.0)) }
+            xml.old.source (stream xml.new entered.0)) }
         ensures err { IfErr result (PlacedHeadFails name.now (path_in self.now name.now)
             xml.old.source xml.new.source) }
         ensures kind { IfErr result (IsPlacedHeadError name.now) }
@@ -116,23 +111,23 @@ impl Workbook {
     }
 
     /// A reader of the cells of a sheet of this workbook with these dimensions, that goes on where
-    /// reading stands, over this very package.
+    /// reading stands, by this very reader.
     pub fn resume_worksheet<'a, P: Package>(
         &'a self,
-        package: &'a mut P,
+        xml: &'a mut XlReader<P>,
         sheet: SheetCursor,
         dimensions: Dimensions,
     ) -> XlsxCellReader<'a, P>
-        requires { IsStreaming (stream xml.old.source sheet) }
-        ensures same_reference { reference_of result ≡ «package».entry.ghost_name }
-        ensures same { result.package.now ≡ «package».old }
+        requires { IsStreaming (stream xml.old sheet) }
+        ensures same_reference { reference_of result ≡ xml.entry.ghost_name }
+        ensures same { result.xml.now ≡ xml.old }
         ensures grounds { grounds_by result ≡ grounds_in self.now }
         ensures styles { styles_held result ≡ palette_in self.now }
         ensures dimensions { area_held result ≡ dimensions }
-        ensures stream { stream_by P.state result ≡ stream xml.old.source sheet }
+        ensures stream { stream_by result ≡ stream xml.old sheet }
     {
         XlsxCellReader::resume(
-            package,
+            xml,
             &self.shared.strings,
             &self.shared.style_sheet.formats,
             &self.shared.style_sheet.styles,
@@ -144,18 +139,18 @@ impl Workbook {
 
     /// A reader of the cells of the first sheet of this name, which stands behind the start of its
     /// data and has taken nothing of them: `enter_worksheet` and then `resume_worksheet`. Whoever
-    /// has to know what a refusal leaves of the package makes these two calls.
+    /// has to know what a refusal leaves makes these two calls.
     ///
     /// It is refused as `enter_worksheet` is.
     pub fn worksheet_cells_reader<'a, P: Package>(
         &'a self,
-        package: &'a mut P,
+        xml: &'a mut XlReader<P>,
         name: &str,
     ) -> Result<XlsxCellReader<'a, P>, XlsxError>
         ensures same_reference { IfOk result (λ reader.
-            reference_of reader ≡ «package».entry.ghost_name) }
+            reference_of reader ≡ xml.entry.ghost_name) }
         ensures enters { IfOk result (λ reader. EntersSheet (path_in self.now name.now)
-            (area_held reader) xml.old.source (stream_by P.state reader)) }
+            (area_held reader) xml.old.source (stream_by reader)) }
         ensures grounds { IfOk result (λ reader. grounds_by reader ≡ grounds_in self.now) }
         ensures styles { IfOk result (λ reader. styles_held reader ≡ palette_in self.now) }
         ensures err { IfErr result (ReaderFails name.now (path_in self.now name.now)
@@ -163,7 +158,12 @@ impl Workbook {
         ensures fault { IfErr result (LentFails Io P.state xml.old.source) }
         ensures kind { IfErr result (IsPlacedHeadError name.now) }
     {
-        let (sheet, dimensions) = self.enter_worksheet(xml, name)?;
-        Ok(self.resume_worksheet(xml, sheet, dimensions))
+        match self.enter_worksheet(xml, name) {
+            Ok((sheet, dimensions)) => Ok(self.resume_worksheet(xml, sheet, dimensions)),
+            Err(error) => {
+                xml.holds_package();
+                Err(error)
+            }
+        }
     }
 }

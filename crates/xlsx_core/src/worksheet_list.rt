@@ -165,26 +165,24 @@ impl<P: Package> Xlsx<P> {
     /// sheets of one name both have the range of the first. A sheet whose range is refused is left
     /// out, but a fault of the package (`Io`) and want of memory are answered.
     pub fn worksheets(&mut self) -> Result<Vec<(String, Range<Data>)>, XlsxError>
-        ensures uses { let old = P.state self.old.package in
-            let new = P.state self.new.package in
-            let sheets = self.old.metadata.sheets.items in
-            Uses (listed_events (path_of self.old) old.parts sheets) Io result old new }
-        ensures to_end { let old = P.state self.old.package in
-            let new = P.state self.new.package in
+        ensures uses { let sheets = self.old.metadata.sheets.items in
+            Uses (listed_events (path_of self.old) self.old.xml.source.parts sheets) Io result
+            self.old.xml.source self.new.xml.source }
+        ensures to_end { let old = self.old.xml.source in
             old.is_told ≡ true → IfOk result (λ listed. let place = path_of self.old in
-            CountsAtLeast (listed_data place old.parts listed.items) old.taken new.taken) }
+            CountsAtLeast (listed_data place old.parts listed.items) old.taken
+            self.new.xml.source.taken) }
         ensures rest { KeepsWorkbook self.old self.new }
-        ensures lists { let old = P.state self.old.package in
-            old.is_told ≡ true → IfOk result (λ listed. AreListed (grounds_of_book self.old)
-            self.old.header_row (path_of self.old) old.parts self.old.metadata.sheets.items
+        ensures lists { self.old.xml.source.is_told ≡ true →
+            IfOk result (λ listed. AreListed (grounds_of_book self.old)
+            self.old.header_row (path_of self.old) self.old.xml.source.parts
+            self.old.metadata.sheets.items
             listed.items) }
-        ensures err { IfErr result
-            (SoundFails (P.state self.old.package) (P.state self.new.package)) }
+        ensures err { IfErr result (SoundFails self.old.xml.source self.new.xml.source) }
     {
         let asked = asked_of(&self.shared, self.is_1904, Wants::VALUES);
         ranges_listed(
-            self.alloc,
-            &mut self.package,
+            &mut self.xml,
             &self.metadata.sheets,
             &self.paths,
             asked,

@@ -38,58 +38,56 @@ use xlsx_error::XlsxError;
 impl<P: Package> Xlsx<P> {
     /// What is wanted of the first sheet of this name.
     fn placed_cells(&mut self, name: &str, wants: Wants) -> Result<SheetCells, XlsxError>
-        ensures uses { let old = P.state self.old.package in
-            let new = P.state self.new.package in
-            Uses (placed_events (path_of self.old name.now) old.parts) Io result old new }
-        ensures to_end { let old = P.state self.old.package in
-            let count = data_events (path_of self.old name.now) old.parts in
-            TakesExactly count result old (P.state self.new.package) }
+        ensures uses { Uses (placed_events (path_of self.old name.now) self.old.xml.source.parts)
+            Io result self.old.xml.source self.new.xml.source }
+        ensures to_end { let count = data_events (path_of self.old name.now)
+            self.old.xml.source.parts in
+            TakesExactly count result self.old.xml.source self.new.xml.source }
         ensures rest { KeepsWorkbook self.old self.new }
         ensures inside { IfOk result (λ cells.
             LieInSheet (cells_gathered cells.values) (cells_gathered cells.formulas)
             cells.style_ids.items) }
-        ensures reads { let old = P.state self.old.package in
-            let path = path_of self.old name.now in
+        ensures reads { let path = path_of self.old name.now in
             let grounds = grounds_of_book self.old in
             let count = length (palette_of_book self.old) in
-            old.is_told ≡ true → IfOk result (λ cells. IsSomeAnd (events_at path old.parts)
+            self.old.xml.source.is_told ≡ true →
+            IfOk result (λ cells. IsSomeAnd (events_at path self.old.xml.source.parts)
             (λ events. let values = value_entries (cells_gathered cells.values) in
             HoldsWanted wants grounds count events values
             (formula_entries (cells_gathered cells.formulas)) cells.style_ids.items)) }
         ensures err { IfErr result (PlacedSheetFails name.now wants (grounds_of_book self.old)
-            (path_of self.old name.now) (P.state self.old.package) (P.state self.new.package)) }
+            (path_of self.old name.now) self.old.xml.source self.new.xml.source) }
         ensures kind { IfErr result (IsPlacedError name.now) }
         ensures plain { reads_children wants ≡ false → IfErr result (IsStyleRangeError name.now) }
     {
         let path = path_named(&self.metadata.sheets, &self.paths, name);
         let asked = asked_of(&self.shared, self.is_1904, wants);
-        read_placed(self.alloc, &mut self.package, path, name, asked)
+        read_placed(&mut self.xml, path, name, asked)
     }
 
     /// What was read of the first sheet of this name, beside what the sheets of the workbook share,
     /// and the package. The workbook is given up.
     pub(crate) fn into_cells(self, name: &str) -> SheetAnswer<P, ReadCells>
-        ensures uses { let old = P.state self.package in
+        ensures uses { let old = self.xml.source in
             let new = P.state result.package in
             Uses (placed_events (path_of self name.now) old.parts) Io result.result old new }
-        ensures to_end { let old = P.state self.package in
+        ensures to_end { let old = self.xml.source in
             let count = data_events (path_of self name.now) old.parts in
             TakesExactly count result.result old (P.state result.package) }
         ensures inside { IfOk result.result LieOnSheet }
         ensures shared { IfOk result.result (λ read. read.shared ≡ self.shared) }
-        ensures reads { let old = P.state self.package in
-            old.is_told ≡ true → IfOk result.result
+        ensures reads { self.xml.source.is_told ≡ true → IfOk result.result
             (ReadsCells (grounds_of_book self) (palette_of_book self) (path_of self name.now)
-            old.parts) }
+            self.xml.source.parts) }
         ensures err { IfErr result.result (PlacedSheetFails name.now all_wanted
-            (grounds_of_book self) (path_of self name.now) (P.state self.package)
+            (grounds_of_book self) (path_of self name.now) self.xml.source
             (P.state result.package)) }
         ensures kind { IfErr result.result (IsPlacedError name.now) }
     {
         let mut xlsx = self;
         let found = xlsx.placed_cells(name, Wants::ALL);
         let Xlsx {
-            package,
+            xml,
             shared,
             ..
         } = xlsx;
@@ -97,7 +95,10 @@ impl<P: Package> Xlsx<P> {
             Ok(cells) => Ok(ReadCells { cells, shared }),
             Err(error) => Err(error),
         };
-        SheetAnswer { result, package }
+        SheetAnswer {
+            result,
+            package: xml.into_package(),
+        }
     }
 
     /// What is wanted of the first sheet of this name, and nothing where its part is no worksheet.
@@ -106,30 +107,29 @@ impl<P: Package> Xlsx<P> {
         name: &str,
         wants: Wants,
     ) -> Result<SheetCells, XlsxError>
-        ensures uses { let old = P.state self.old.package in
-            let new = P.state self.new.package in
-            Uses (placed_events (path_of self.old name.now) old.parts) Io result old new }
-        ensures to_end { let old = P.state self.old.package in
-            let count = data_events (path_of self.old name.now) old.parts in
-            TakesExactly count result old (P.state self.new.package) }
+        ensures uses { Uses (placed_events (path_of self.old name.now) self.old.xml.source.parts)
+            Io result self.old.xml.source self.new.xml.source }
+        ensures to_end { let count = data_events (path_of self.old name.now)
+            self.old.xml.source.parts in
+            TakesExactly count result self.old.xml.source self.new.xml.source }
         ensures rest { KeepsWorkbook self.old self.new }
         ensures inside { IfOk result (λ cells.
             LieInSheet (cells_gathered cells.values) (cells_gathered cells.formulas)
             cells.style_ids.items) }
-        ensures reads { let old = P.state self.old.package in
-            let path = path_of self.old name.now in
+        ensures reads { let path = path_of self.old name.now in
             let grounds = grounds_of_book self.old in
             let count = length (palette_of_book self.old) in
-            old.is_told ≡ true → IfOk result (λ cells. IsSomeAnd (events_at path old.parts)
+            self.old.xml.source.is_told ≡ true →
+            IfOk result (λ cells. IsSomeAnd (events_at path self.old.xml.source.parts)
             (AnswersCells wants grounds count (value_entries (cells_gathered cells.values))
             (formula_entries (cells_gathered cells.formulas)) cells.style_ids.items)) }
         ensures err { IfErr result (RangeFails name.now wants (grounds_of_book self.old)
-            (path_of self.old name.now) (P.state self.old.package) (P.state self.new.package)) }
+            (path_of self.old name.now) self.old.xml.source self.new.xml.source) }
         ensures kind { IfErr result (IsRangeError name.now) }
     {
         let path = path_named(&self.metadata.sheets, &self.paths, name);
         let asked = asked_of(&self.shared, self.is_1904, wants);
-        read_range(self.alloc, &mut self.package, path, name, asked)
+        read_range(&mut self.xml, path, name, asked)
     }
 
     /// The values of the first sheet of this name (ECMA-376 part 1, 18.3.1.80) that aren't empty:
@@ -140,47 +140,45 @@ impl<P: Package> Xlsx<P> {
     /// `WorksheetNotFound` where no sheet has the name or the first such sheet has no part. Else
     /// the first start, row or cell that can't be read gives the refusal.
     pub fn worksheet_range(&mut self, name: &str) -> Result<Range<Data>, XlsxError>
-        ensures uses { let old = P.state self.old.package in
-            let new = P.state self.new.package in
-            Uses (placed_events (path_of self.old name.now) old.parts) Io result old new }
-        ensures to_end { let old = P.state self.old.package in
-            let count = data_events (path_of self.old name.now) old.parts in
-            TakesExactly count result old (P.state self.new.package) }
+        ensures uses { Uses (placed_events (path_of self.old name.now) self.old.xml.source.parts)
+            Io result self.old.xml.source self.new.xml.source }
+        ensures to_end { let count = data_events (path_of self.old name.now)
+            self.old.xml.source.parts in
+            TakesExactly count result self.old.xml.source self.new.xml.source }
         ensures rest { KeepsWorkbook self.old self.new }
-        ensures reads { let old = P.state self.old.package in
-            let path = path_of self.old name.now in
-            old.is_told ≡ true → IfOk result
-            (ReadsValues (grounds_of_book self.old) self.old.header_row path old.parts) }
+        ensures reads { let path = path_of self.old name.now in
+            self.old.xml.source.is_told ≡ true → IfOk result
+            (ReadsValues (grounds_of_book self.old) self.old.header_row path
+            self.old.xml.source.parts) }
         ensures err { IfErr result (RangeFails name.now values_alone (grounds_of_book self.old)
-            (path_of self.old name.now) (P.state self.old.package) (P.state self.new.package)) }
+            (path_of self.old name.now) self.old.xml.source self.new.xml.source) }
         ensures kind { IfErr result (IsRangeError name.now) }
     {
         let path = path_named(&self.metadata.sheets, &self.paths, name);
         let asked = asked_of(&self.shared, self.is_1904, Wants::VALUES);
         let header_row = self.header_row;
-        read_values(self.alloc, &mut self.package, path, name, asked, header_row)
+        read_values(&mut self.xml, path, name, asked, header_row)
     }
 
     /// The values that `worksheet_range` answers, with shared strings by their places, whose texts
     /// `shared_string` has. Refused as `worksheet_range` is.
     pub fn worksheet_range_ref(&mut self, name: &str) -> Result<Range<DataRef>, XlsxError>
-        ensures uses { let old = P.state self.old.package in
-            let new = P.state self.new.package in
-            Uses (placed_events (path_of self.old name.now) old.parts) Io result old new }
-        ensures to_end { let old = P.state self.old.package in
-            let count = data_events (path_of self.old name.now) old.parts in
-            TakesExactly count result old (P.state self.new.package) }
+        ensures uses { Uses (placed_events (path_of self.old name.now) self.old.xml.source.parts)
+            Io result self.old.xml.source self.new.xml.source }
+        ensures to_end { let count = data_events (path_of self.old name.now)
+            self.old.xml.source.parts in
+            TakesExactly count result self.old.xml.source self.new.xml.source }
         ensures rest { KeepsWorkbook self.old self.new }
-        ensures reads { let old = P.state self.old.package in
-            let path = path_of self.old name.now in
-            old.is_told ≡ true → IfOk result
-            (ReadsPlaces (grounds_of_book self.old) self.old.header_row path old.parts) }
+        ensures reads { let path = path_of self.old name.now in
+            self.old.xml.source.is_told ≡ true → IfOk result
+            (ReadsPlaces (grounds_of_book self.old) self.old.header_row path
+            self.old.xml.source.parts) }
         ensures err { IfErr result (RangeFails name.now values_alone (grounds_of_book self.old)
-            (path_of self.old name.now) (P.state self.old.package) (P.state self.new.package)) }
+            (path_of self.old name.now) self.old.xml.source self.new.xml.source) }
         ensures kind { IfErr result (IsRangeError name.now) }
     {
         let cells = self.worksheet_cells(name, Wants::VALUES)?;
-        Ok(place_range(self.alloc, cells.values, self.header_row)?)
+        Ok(place_range(self.xml.alloc(), cells.values, self.header_row)?)
     }
 
     /// The formulas of the first sheet of this name (18.3.1.40) that aren't empty, without `=`: the
@@ -190,22 +188,20 @@ impl<P: Package> Xlsx<P> {
     /// A part that is no worksheet has the empty range. Refused as `worksheet_range` is, but by
     /// what formulas say in place of values.
     pub fn worksheet_formula(&mut self, name: &str) -> Result<Range<String>, XlsxError>
-        ensures uses { let old = P.state self.old.package in
-            let new = P.state self.new.package in
-            Uses (placed_events (path_of self.old name.now) old.parts) Io result old new }
-        ensures to_end { let old = P.state self.old.package in
-            let count = data_events (path_of self.old name.now) old.parts in
-            TakesExactly count result old (P.state self.new.package) }
+        ensures uses { Uses (placed_events (path_of self.old name.now) self.old.xml.source.parts)
+            Io result self.old.xml.source self.new.xml.source }
+        ensures to_end { let count = data_events (path_of self.old name.now)
+            self.old.xml.source.parts in
+            TakesExactly count result self.old.xml.source self.new.xml.source }
         ensures rest { KeepsWorkbook self.old self.new }
-        ensures reads { let old = P.state self.old.package in
-            old.is_told ≡ true → IfOk result
-            (ReadsFormulas (path_of self.old name.now) old.parts) }
+        ensures reads { self.old.xml.source.is_told ≡ true → IfOk result
+            (ReadsFormulas (path_of self.old name.now) self.old.xml.source.parts) }
         ensures err { IfErr result (RangeFails name.now formulas_alone (grounds_of_book self.old)
-            (path_of self.old name.now) (P.state self.old.package) (P.state self.new.package)) }
+            (path_of self.old name.now) self.old.xml.source self.new.xml.source) }
         ensures kind { IfErr result (IsRangeError name.now) }
     {
         let cells = self.worksheet_cells(name, Wants::FORMULAS)?;
-        Ok(formula_range(self.alloc, cells.formulas)?)
+        Ok(formula_range(self.xml.alloc(), cells.formulas)?)
     }
 
     /// The styles of the first sheet of this name, over those of the workbook: the style id of a
@@ -217,24 +213,23 @@ impl<P: Package> Xlsx<P> {
     /// part, with `NotAWorksheet` where its part is none, and else as
     /// `XlsxCellReader::next_style_id`.
     pub fn worksheet_style(&mut self, name: &str) -> Result<StyleRange, XlsxError>
-        ensures uses { let old = P.state self.old.package in
-            let new = P.state self.new.package in
-            Uses (placed_events (path_of self.old name.now) old.parts) Io result old new }
-        ensures to_end { let old = P.state self.old.package in
-            let count = data_events (path_of self.old name.now) old.parts in
-            TakesExactly count result old (P.state self.new.package) }
+        ensures uses { Uses (placed_events (path_of self.old name.now) self.old.xml.source.parts)
+            Io result self.old.xml.source self.new.xml.source }
+        ensures to_end { let count = data_events (path_of self.old name.now)
+            self.old.xml.source.parts in
+            TakesExactly count result self.old.xml.source self.new.xml.source }
         ensures rest { KeepsWorkbook self.old self.new }
-        ensures reads { let old = P.state self.old.package in
-            old.is_told ≡ true → IfOk result (ReadsStyles (palette_of_book self.old)
-            (path_of self.old name.now) old.parts) }
+        ensures reads { self.old.xml.source.is_told ≡ true →
+            IfOk result (ReadsStyles (palette_of_book self.old)
+            (path_of self.old name.now) self.old.xml.source.parts) }
         ensures err { IfErr result (PlacedSheetFails name.now styles_alone
-            (grounds_of_book self.old) (path_of self.old name.now) (P.state self.old.package)
-            (P.state self.new.package)) }
+            (grounds_of_book self.old) (path_of self.old name.now) self.old.xml.source
+            self.new.xml.source) }
         ensures kind { IfErr result (IsStyleRangeError name.now) }
     {
         let found = self.placed_cells(name, Wants::STYLES)?;
         let styles = &self.shared.style_sheet.styles;
-        Ok(copied_style_range(self.alloc, found.style_ids, styles)?)
+        Ok(copied_style_range(self.xml.alloc(), found.style_ids, styles)?)
     }
 
     /// The name of the part that the first sheet of this name is read from, by the relationships of
@@ -246,8 +241,8 @@ impl<P: Package> Xlsx<P> {
         ensures err { IfErr result (LacksPath name.now (path_of self.now name.now)) }
     {
         match path_named(&self.metadata.sheets, &self.paths, name) {
-            Some(path) => Ok(path.joined(self.alloc)?),
-            None => Err(XlsxError::WorksheetNotFound(String::from_str(self.alloc, name)?)),
+            Some(path) => Ok(path.joined(self.xml.alloc())?),
+            None => Err(XlsxError::WorksheetNotFound(String::from_str(self.xml.alloc(), name)?)),
         }
     }
 
@@ -258,19 +253,17 @@ impl<P: Package> Xlsx<P> {
     /// Fails with `WorksheetNotFound` where no sheet has the name or the first such sheet has no
     /// part, with `NotAWorksheet` where its part is none, and else as `XlsxCellReader::new`.
     pub fn enter_worksheet(&mut self, name: &str) -> Result<(SheetCursor, Dimensions), XlsxError>
-        ensures uses { let old = P.state self.old.package in
-            let new = P.state self.new.package in
-            Uses (placed_events (path_of self.old name.now) old.parts) Io result old new }
+        ensures uses { Uses (placed_events (path_of self.old name.now) self.old.xml.source.parts)
+            Io result self.old.xml.source self.new.xml.source }
         ensures rest { KeepsWorkbook self.old self.new }
-        ensures enters { let new = P.state self.new.package in
-            IfOk result (λ entered. EntersSheet (path_of self.old name.now) entered.1
-            (P.state self.old.package) (stream new entered.0)) }
+        ensures enters { IfOk result (λ entered. EntersSheet (path_of self.old name.now) entered.1
+            self.old.xml.source (stream self.new.xml entered.0)) }
         ensures err { IfErr result (PlacedHeadFails name.now (path_of self.old name.now)
-            (P.state self.old.package) (P.state self.new.package)) }
+            self.old.xml.source self.new.xml.source) }
         ensures kind { IfErr result (IsPlacedHeadError name.now) }
     {
         let path = path_named(&self.metadata.sheets, &self.paths, name);
-        open_placed(self.alloc, &mut self.package, path, name)
+        open_placed(&mut self.xml, path, name)
     }
 
     /// A reader of the cells of a sheet of this workbook with these dimensions, that goes on where
@@ -280,20 +273,20 @@ impl<P: Package> Xlsx<P> {
         sheet: SheetCursor,
         dimensions: Dimensions,
     ) -> XlsxCellReader<'a, P>
-        requires { IsStreaming (stream (P.state self.old.package) sheet) }
+        requires { IsStreaming (stream self.old.xml sheet) }
         ensures grounds { grounds_by result ≡ grounds_of_book self.old }
         ensures styles { styles_held result ≡ palette_of_book self.old }
         ensures dimensions { area_held result ≡ dimensions }
-        ensures stream { stream_by P.state result ≡ stream (P.state self.old.package) sheet }
+        ensures stream { stream_by result ≡ stream self.old.xml sheet }
     {
         let is_1904 = self.is_1904;
         let Xlsx {
-            package,
+            xml,
             shared,
             ..
         } = self;
         XlsxCellReader::resume(
-            package,
+            xml,
             &shared.strings,
             &shared.style_sheet.formats,
             &shared.style_sheet.styles,
@@ -313,15 +306,20 @@ impl<P: Package> Xlsx<P> {
         name: &str,
     ) -> Result<XlsxCellReader<'a, P>, XlsxError>
         ensures enters { IfOk result (λ reader. EntersSheet (path_of self.old name.now)
-            (area_held reader) (P.state self.old.package) (stream_by P.state reader)) }
+            (area_held reader) self.old.xml.source (stream_by reader)) }
         ensures grounds { IfOk result (λ reader. grounds_by reader ≡ grounds_of_book self.old) }
         ensures styles { IfOk result (λ reader. styles_held reader ≡ palette_of_book self.old) }
         ensures err { IfErr result (ReaderFails name.now (path_of self.old name.now)
-            (P.state self.old.package)) }
-        ensures fault { IfErr result (LentFails Io P.state (P.state self.old.package)) }
+            self.old.xml.source) }
+        ensures fault { IfErr result (LentFails Io P.state self.old.xml.source) }
         ensures kind { IfErr result (IsPlacedHeadError name.now) }
     {
-        let (sheet, dimensions) = self.enter_worksheet(name)?;
-        Ok(self.resume_worksheet(sheet, dimensions))
+        match self.enter_worksheet(name) {
+            Ok((sheet, dimensions)) => Ok(self.resume_worksheet(sheet, dimensions)),
+            Err(error) => {
+                self.xml.holds_package();
+                Err(error)
+            }
+        }
     }
 }

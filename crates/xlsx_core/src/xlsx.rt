@@ -10,7 +10,7 @@ ghost use Rattle.xlsx_sections.specs.Failing.{SoundFails};
 use crate::lists::Lists;
 use cell_data::HeaderRow;
 use cell_styles::Style;
-use part_events::Package;
+use part_events::{Package, XlReader};
 use std::alloc::Global;
 use std::sync::ArcStr;
 use xlsx_error::XlsxError;
@@ -19,7 +19,7 @@ use xlsx_open::{KeptPath, Metadata, SharedParts, open};
 /// An open workbook, and the package that it is read from.
 #[derive(Drop)]
 pub struct Xlsx<P: Package> {
-    pub(crate) package: P,
+    pub(crate) xml: XlReader<P>,
     pub(crate) metadata: Metadata,
     pub(crate) paths: Vec<KeptPath>,
     pub(crate) folder: ArcStr,
@@ -27,7 +27,6 @@ pub struct Xlsx<P: Package> {
     pub(crate) is_1904: bool,
     pub(crate) header_row: HeaderRow,
     pub(crate) lists: Lists,
-    pub(crate) alloc: Global,
 }
 
 /// Why a workbook could not be opened, with the package that was handed in.
@@ -57,7 +56,7 @@ impl<P: Package> Xlsx<P> {
     /// that can't be read gives the refusal, which is `Xml`, `XmlAttr` or `XmlEof`.
     pub fn new(alloc: Global, package: P) -> Result<Xlsx<P>, OpenFailure<P>>
         ensures uses { MatchResult result
-            (λ xlsx. OpensFrom (P.state «package») (P.state xlsx.package))
+            (λ xlsx. OpensFrom (P.state «package») xlsx.xml.source)
             (λ failure.
             FailsToOpen Io (P.state «package») (P.state failure.package) failure.error) }
         ensures opens { let old = P.state «package» in
@@ -78,10 +77,10 @@ impl<P: Package> Xlsx<P> {
             old.is_told ≡ true → OpensSoundly old.parts → IfErr result (λ failure.
             SoundFails old (P.state failure.package) failure.error) }
     {
-        let mut package = package;
-        match open(alloc, &mut package) {
+        let mut xml = XlReader::new(alloc, package);
+        match open(&mut xml) {
             Ok(opened) => Ok(Xlsx {
-                package,
+                xml,
                 metadata: opened.metadata,
                 paths: opened.paths,
                 folder: opened.folder,
@@ -89,9 +88,11 @@ impl<P: Package> Xlsx<P> {
                 is_1904: opened.is_1904,
                 header_row: HeaderRow::FirstNonEmptyRow,
                 lists: Lists::new(),
-                alloc,
             }),
-            Err(error) => Err(OpenFailure { error, package }),
+            Err(error) => Err(OpenFailure {
+                error,
+                package: xml.into_package(),
+            }),
         }
     }
 
@@ -107,10 +108,10 @@ impl<P: Package> Xlsx<P> {
 
     /// The package, as it is now.
     pub fn into_package(self) -> P
-        ensures { result ≡ self.package }
+        ensures { P.state result ≡ self.xml.source }
     {
         let Xlsx {
-            package,
+            xml,
             metadata: _,
             paths: _,
             folder: _,
@@ -118,16 +119,15 @@ impl<P: Package> Xlsx<P> {
             is_1904: _,
             header_row: _,
             lists: _,
-            alloc: _,
         } = self;
-        package
+        xml.into_package()
     }
 
     /// How often a call of the package failed.
     pub fn faults(&self) -> u64
-        ensures { result ≡ (P.state self.now.package).faults }
+        ensures { result ≡ self.now.xml.source.faults }
     {
-        self.package.faults()
+        self.xml.faults()
     }
 
     /// The shared string at this index, counted from 0.
