@@ -63,8 +63,8 @@ pub fn read_fields<P: Package>(
     xml: &mut XlReader<P>,
     path: &str,
 ) -> Result<Vec<CacheField>, XlsxError>
-    ensures uses { Uses (event_count xml.old.source.parts path.now) Io result xml.old.source
-        xml.new.source }
+    ensures uses { Uses (event_count xml.old.source.parts path.now) Io result
+        xml.old.source xml.new.source }
     ensures to_end { let old = xml.old.source in
         old.is_told ≡ true →
         OnOk result (CountsUp (event_count old.parts path.now) old.taken xml.new.source.taken) }

@@ -63,8 +63,8 @@ impl PivotCursor {
         ensures opens { IfOk result (λ rows.
             OpensRows definitions.now records.now xml.old.source (pivot_rows xml.new rows)) }
         ensures leaves { IfErr result
-            (LeavesPackage (event_count xml.old.source.parts definitions.now) Io xml.old.source
-            xml.new.source) }
+            (LeavesPackage (event_count xml.old.source.parts definitions.now) Io
+            xml.old.source xml.new.source) }
         ensures err { let cause = OpenRowsCause xml.old.source.parts definitions.now records.now in
             IfErr result (FailsBy cause xml.old.source xml.new.source) }
         ensures kind { IfErr result IsCacheFieldsError }
