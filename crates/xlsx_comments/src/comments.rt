@@ -42,8 +42,7 @@ fn entries_in<P: Package>(xml: &mut XlReader<P>, base: usize) -> Result<Vec<Entr
         (SectionFails end_in_entries (IsInsideRefused entries_in) base xml.old xml.new) }
     ensures kind { IfErr result IsCommentsError }
 {
-    let alloc = xml.alloc();
-    let mut entries = Vec::new(alloc);
+    let mut entries = Vec::new(xml.alloc());
     let names = ["author", "comment"];
     'entries: while let Some(_at) = next_element_in(xml, base, &names, "comments")? {
         entries.push(read_entry(xml)?)?;
@@ -53,19 +52,18 @@ fn entries_in<P: Package>(xml: &mut XlReader<P>, base: usize) -> Result<Vec<Entr
 
 /// What the authors and the comments say in the part at this path. An absent part has none.
 fn read_entries<P: Package>(xml: &mut XlReader<P>, path: &str) -> Result<Vec<Entry>, XlsxError>
-    ensures uses { Uses (event_count xml.old.source.parts path.now) Io result xml.old.source
-        xml.new.source }
+    ensures uses { Uses (event_count xml.old.source.parts path.now) Io result
+        xml.old.source xml.new.source }
     ensures to_end { ReadsToEnd (codes "comments") path.now result xml.old.source xml.new.source }
     ensures entries { xml.old.source.is_told ≡ true → IfOk result (λ entries.
         entries_at xml.old.source.parts path.now ≡ Some (map entry_kept entries.items)) }
     ensures err { IfErr result
-        (FailsBy (CommentsCause (part_of xml.old.source.parts path.now)) xml.old.source
-        xml.new.source) }
+        (FailsBy (CommentsCause (part_of xml.old.source.parts path.now))
+        xml.old.source xml.new.source) }
     ensures kind { IfErr result IsCommentsError }
 {
-    let alloc = xml.alloc();
     if !enter_part(xml, path, "comments")? {
-        return Ok(Vec::new(alloc));
+        return Ok(Vec::new(xml.alloc()));
     }
     let base = xml.depth();
     entries_in(xml, base)
@@ -89,9 +87,7 @@ fn gathered(alloc: Global, entries: Vec<Entry>) -> Result<Comments, AllocError>
 
 /// Reads the comments of parts.
 #[derive(Drop)]
-struct CommentsReader {
-    alloc: Global,
-}
+struct CommentsReader;
 
 impl ReadsRelated for CommentsReader {
     type Item = Comments;
@@ -116,7 +112,7 @@ impl ReadsRelated for CommentsReader {
         path: &str,
     ) -> Result<(), XlsxError> {
         let entries = read_entries(xml, path)?;
-        all.push(gathered(self.alloc, entries)?)?;
+        all.push(gathered(xml.alloc(), entries)?)?;
         Ok(())
     }
 }
@@ -143,9 +139,7 @@ pub fn read_sheet_comments<P: Package>(
     ensures answers { Answers (sheet_comments_ask path.now) (λ all. map comments_kept all.items)
         result xml.old.source xml.new.source }
 {
-    let alloc = xml.alloc();
-    let mut all = Vec::new(alloc);
-    let by = CommentsReader { alloc };
-    push_related(xml, &mut all, path, COMMENTS_TYPE, &by)?;
+    let mut all = Vec::new(xml.alloc());
+    push_related(xml, &mut all, path, COMMENTS_TYPE, &CommentsReader)?;
     Ok(all)
 }

@@ -77,7 +77,7 @@ fn placed_entry(position: Option<(u32, u32)>, author: Option<u64>, text: String)
     }
 }
 
-/// The comment at whose start the package stands, which is read to its end.
+/// The comment at whose start the reader stands, which is read to its end.
 fn read_comment<P: Package>(xml: &mut XlReader<P>) -> Result<Entry, XlsxError>
     requires element { IsReadingElement xml.old }
     ensures reads { ReadsElement Io result xml.old xml.new }
@@ -96,7 +96,7 @@ fn read_comment<P: Package>(xml: &mut XlReader<P>) -> Result<Entry, XlsxError>
     Ok(placed_entry(position, author, text))
 }
 
-/// The author at whose start the package stands, which is read to its end.
+/// The author at whose start the reader stands, which is read to its end.
 fn read_author<P: Package>(xml: &mut XlReader<P>) -> Result<Entry, XlsxError>
     requires element { IsReadingElement xml.old }
     ensures reads { ReadsElement Io result xml.old xml.new }
@@ -112,7 +112,7 @@ fn read_author<P: Package>(xml: &mut XlReader<P>) -> Result<Entry, XlsxError>
     Ok(Entry::Author(unescaped(alloc, written)?))
 }
 
-/// What the author or the comment says at whose start the package stands, which is read to its end.
+/// What the author or the comment says at whose start the reader stands, which is read to its end.
 pub fn read_entry<P: Package>(xml: &mut XlReader<P>) -> Result<Entry, XlsxError>
     requires element { IsReadingElement xml.old }
     ensures reads { ReadsElement Io result xml.old xml.new }

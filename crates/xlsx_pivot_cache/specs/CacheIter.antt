@@ -13,13 +13,13 @@ use Rattle.xlsx_pivot_cache.specs.declared.pivot_cursor.RecordsPlace.{RecordsPla
 use Rattle.xlsx_pivot_cache.specs.declared.pivot_cursor.RecordsPlace.TheVariants.{Before, Within}
 use Rattle.xlsx_pivot_cache.specs.declared.pivot_cursor.RecordsPlace.TheVariants.{Done}
 
--- where an iterator stands, and by which reference it holds its package
-abbrev pub rows_by : {P : Type 0} → (P → PackageState) → PivotCacheIter P PivotCursor → PivotRows
-rows_by state rows = pivot_rows (state rows.package.now) rows.rows
+-- where an iterator stands, and by which reference it holds its reader
+abbrev pub rows_by : {P : Type 0} → PivotCacheIter P PivotCursor → PivotRows
+rows_by rows = pivot_rows rows.xml.now rows.rows
 
--- the name of the reference to the package that an iterator over rows holds
+-- the name of the reference to the reader that an iterator over rows holds
 abbrev pub rows_reference : {P : Type 0} → PivotCacheIter P PivotCursor → GName
-rows_reference rows = rows.package.ghost_name
+rows_reference rows = rows.xml.ghost_name
 
 -- each row takes an event of the part, and a refusal is the last answer before None
 abbrev pub most_left : RecordsPlace → ℕ → ℕ
@@ -31,7 +31,7 @@ most_left Done left = 0
 abbrev pub rows_count : PivotRows → Count
 rows_count rows = at_most (most_left rows.place rows.reading.source.left)
 
--- when a cache can't be opened that is lent its package: nothing is said of the package then, which
+-- when a cache can't be opened that is lent its reader: nothing is said of the reader then, which
 -- nobody holds
 abbrev pub OpenCacheFails : List ℕ → List ℕ → PackageState → XlsxError → Type 0
 OpenCacheFails definitions records old Io = ⊤

@@ -5,7 +5,7 @@ use Rattle.std.specs.Prelude.{MatchResult, IfOk, IfErr, OnOk, OnErr, IfSome, IfN
 use Rattle.std.specs.declared.alloc.Global.{Global}
 use Rattle.std.specs.declared.vec.Vec.{Vec}
 use Rattle.part_events.specs.Package.{PackageState, SameParts, CountsUp, part_of, event_count}
-use Rattle.part_events.specs.Reading.{Reading, reading, IsReading, MovesForward, SamePart}
+use Rattle.part_events.specs.Reading.{Reading, IsReading, MovesForward, SamePart}
 use Rattle.part_events.specs.Reading.{LeavesPart, events_of}
 use Rattle.part_events.specs.Section.{Element, outermost, unclosed}
 use Rattle.part_events.specs.Walk.{section_ahead, is_closed_ahead}
@@ -36,12 +36,12 @@ pub record PivotRows : Type 0 where
   pub place : RecordsPlace
   pub reading : Reading
 
--- a package and a cursor over the records as the rows of a pivot table
-abbrev pub pivot_rows : PackageState → PivotCursor → PivotRows
-pivot_rows source rows = record {
+-- a reading and a cursor over the records as the rows of a pivot table
+abbrev pub pivot_rows : Reading → PivotCursor → PivotRows
+pivot_rows now rows = record {
   fields = fields_kept rows.fields.items;
   place = rows.place;
-  reading = reading source rows.cursor;
+  reading = now;
 }
 
 -- the rows of the records that are left, where their end is there before the nesting breaks

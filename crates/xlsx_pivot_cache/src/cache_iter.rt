@@ -3,35 +3,31 @@ ghost use Rattle.std.specs.Prelude.{◌≡◌};
 use crate::pivot_cursor::PivotCursor;
 use cell_data::Data;
 use part_events::{Package, XlReader};
-use std::alloc::Global;
 use xlsx_error::XlsxError;
 
 /// The rows of a pivot table's cache, one at a time (ECMA-376 part 1, section 18.10.1.69): the
 /// names of its fields first, and then a row for each record. After a refusal it gives None.
 ///
-/// What it keeps beside the package is a type parameter, so that a caller knows what became of the
-/// package once the iterator is gone. A caller who has to know what became of the package where a
+/// What it keeps beside the reader is a type parameter, so that a caller knows what became of the
+/// reader once the iterator is gone. A caller who has to know what became of the reader where a
 /// cache can't be opened calls `PivotCursor::open`.
 ///
 /// # Examples
 ///
 /// ```
-/// let rows = PivotCacheIter::open(alloc, package, definitions, records)?;
+/// let rows = PivotCacheIter::open(&mut xml, definitions, records)?;
 /// let rows: Vec<Result<Vec<Data>, XlsxError>> = rows.collect(alloc)?;
 /// ```
 pub struct PivotCacheIter<'a, P: Package, C: Drop = PivotCursor> {
-    package: &'a mut P,
+    xml: &'a mut XlReader<P>,
     rows: C,
 }
 
 impl<P: Package, C: Drop> Drop for PivotCacheIter<'_, P, C> {
     fn drop(self)
-        ensures { self.exit.0.now ≡ self.entry.package.now }
+        ensures { self.exit.0.now ≡ self.entry.xml.now }
     {
-        let PivotCacheIter {
-            package: _,
-            rows: _,
-        } = self;
+        let PivotCacheIter { xml: _, rows: _ } = self;
     }
 }
 
@@ -46,21 +42,26 @@ impl<'a, P: Package> PivotCacheIter<'a, P> {
     /// Reads the fields of a cache, whose definitions are the part at the first path, and opens the
     /// part of its records at the second one, as `PivotCursor::open` does, and fails as that does.
     pub fn open(
-        alloc: Global,
-        package: &'a mut P,
+        xml: &'a mut XlReader<P>,
         definitions: &str,
         records: &str,
     ) -> Result<PivotCacheIter<'a, P>, XlsxError>
-        ensures same_reference { IfOk result (λ rows.
-            rows_reference rows ≡ «package».entry.ghost_name) }
-        ensures opens { IfOk result (λ rows. OpensRows definitions.now records.now
-            xml.old.source (rows_by P.state rows)) }
+        ensures same_reference { IfOk result
+            (λ rows. rows_reference rows ≡ xml.entry.ghost_name) }
+        ensures opens { IfOk result (λ rows.
+            OpensRows definitions.now records.now xml.old.source (rows_by rows)) }
         ensures err { IfErr result (OpenCacheFails definitions.now records.now xml.old.source) }
         ensures fault { IfErr result (LentFails Io P.state xml.old.source) }
         ensures kind { IfErr result IsCacheFieldsError }
     {
-        let rows = PivotCursor::open(xml, definitions, records)?;
-        Ok(PivotCacheIter { package, rows })
+        match PivotCursor::open(xml, definitions, records) {
+            Ok(rows) => Ok(PivotCacheIter { xml, rows }),
+            Err(error) => {
+                // Where it is a fault, this package is the one that met it.
+                xml.holds_package();
+                Err(error)
+            }
+        }
     }
 }
 
@@ -70,14 +71,14 @@ impl<'a, P: Package> Iterator for PivotCacheIter<'a, P> {
 
     type Item = Result<Vec<Data>, XlsxError>;
 
-    ghost can_next = { λ s. IsAtRecords (rows_by P.state s) };
+    ghost can_next = { λ s. IsAtRecords (rows_by s) };
 
     ghost next_gives = { λ s result t. (rows_reference t ≡ rows_reference s)
-        × GivesRow result (rows_by P.state s) (rows_by P.state t) };
+        × GivesRow result (rows_by s) (rows_by t) };
 
-    ghost remaining = { λ s. rows_count (rows_by P.state s) };
+    ghost remaining = { λ s. rows_count (rows_by s) };
 
     fn next(&mut self) -> Option<Result<Vec<Data>, XlsxError>> {
-        self.rows.next(self.package)
+        self.rows.next(self.xml)
     }
 }

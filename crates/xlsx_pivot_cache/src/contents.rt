@@ -199,7 +199,7 @@ pub(crate) fn contents_in<P: Package>(
     let alloc = xml.alloc();
     let mut contents = FieldContents::new(alloc);
     'events: while let Some(_at) = next_event_in(xml, base, "cacheField")? {
-        contents.take_event(xml.event(), xml.depth())?;
+        contents.take_event(alloc, xml.event(), xml.depth())?;
     }
     Ok(contents)
 }

@@ -1,8 +1,7 @@
-ghost use Rattle.std.specs.Prelude.{◌≡◌, ℕ, suc, List, length, true, Ok, option_map, string_bytes};
+ghost use Rattle.std.specs.Prelude.{◌≡◌, suc, List, length, true, Ok, option_map, string_bytes};
 ghost use Rattle.std.specs.Prelude.{codes, IfOk, IfErr, MatchOption};
 ghost use Rattle.part_events.specs.Event.{Event, Tag, start, tag_of};
-ghost use Rattle.part_events.specs.Reading.{ahead, IsReadingElement};
-ghost use Rattle.part_events.specs.Reading.{ReadsElement};
+ghost use Rattle.part_events.specs.Reading.{ahead, IsReadingElement, ReadsElement};
 ghost use Rattle.part_events.specs.Section.{content};
 ghost use Rattle.xlsx_error.specs.declared.error.XlsxError.TheVariants.{Io};
 ghost use Rattle.xlsx_sections.specs.Elements.{ElementReadFails};
@@ -52,7 +51,7 @@ fn field_name(alloc: Global, tag: StartTag<'_>, at: u64) -> Result<Option<String
     Ok(Some(name))
 }
 
-/// Reads the `cacheField` at whose start the package stands, to its end (ECMA-376 part 1, section
+/// Reads the `cacheField` at whose start the reader stands, to its end (ECMA-376 part 1, section
 /// 18.10.1.3). The start is event number `at` of its part, counted from 0. None where the element
 /// is no field: it has no name, or a formula, or it groups items of others.
 #[tactic(auto, using(crate::proofs::CacheErrors::name_error, crate::proofs::CacheErrors::end_error))]
@@ -70,8 +69,7 @@ pub(crate) fn read_field<P: Package>(
         ElementReadFails (always (codes "cacheField")) (field_said tag) xml.old xml.new error) }
     ensures kind { IfErr result IsFieldsError }
 {
-    let alloc = xml.alloc();
-    let Some(name) = field_name(alloc, start_tag(xml), at)? else {
+    let Some(name) = field_name(xml.alloc(), start_tag(xml), at)? else {
         skip_element_in(xml, Some("cacheField"))?;
         return Ok(None);
     };

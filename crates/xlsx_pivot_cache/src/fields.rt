@@ -10,7 +10,7 @@ ghost use Rattle.xlsx_pivot_cache.specs.CacheFields.{FieldsCause, fields_at, Fie
 
 use crate::field::{CacheField, read_field};
 use part_events::{Package, XlReader};
-use std::alloc::{AllocError, Global};
+use std::alloc::AllocError;
 use xlsx_error::XlsxError;
 use xlsx_parts::{next_element_of_part, open_part};
 
@@ -39,8 +39,7 @@ fn fields_in<P: Package>(xml: &mut XlReader<P>) -> Result<Vec<CacheField>, XlsxE
         (FailsBy (FieldsCause (events_of xml.old)) xml.old.source xml.new.source) }
     ensures kind { IfErr result IsFieldsError }
 {
-    let alloc = xml.alloc();
-    let mut fields = Vec::new(alloc);
+    let mut fields = Vec::new(xml.alloc());
     'fields: while let Some(at) = next_element_of_part(xml, "cacheField")? {
         let field = read_field(xml, at)?;
         push_field(&mut fields, field)?;
@@ -64,8 +63,8 @@ pub fn read_fields<P: Package>(
     xml: &mut XlReader<P>,
     path: &str,
 ) -> Result<Vec<CacheField>, XlsxError>
-    ensures uses { Uses (event_count xml.old.source.parts path.now) Io result xml.old.source
-        xml.new.source }
+    ensures uses { Uses (event_count xml.old.source.parts path.now) Io result
+        xml.old.source xml.new.source }
     ensures to_end { let old = xml.old.source in
         old.is_told ≡ true →
         OnOk result (CountsUp (event_count old.parts path.now) old.taken xml.new.source.taken) }
@@ -75,9 +74,8 @@ pub fn read_fields<P: Package>(
         (FailsBy (FieldsAtCause xml.old.source.parts path.now) xml.old.source xml.new.source) }
     ensures kind { IfErr result IsCacheFieldsError }
 {
-    let alloc = xml.alloc();
     if !open_part(xml, path)? {
-        return Err(XlsxError::FileNotFound(String::from_str(alloc, path)?));
+        return Err(XlsxError::FileNotFound(String::from_str(xml.alloc(), path)?));
     }
     fields_in(xml)
 }

@@ -16,7 +16,7 @@
 //! and for the iterator (`GivesRow`). Of a refusal the cause is one of the whole part of the
 //! records, since what is left of a section is tied to it (`IsLeftOf`); the lemmas
 //! `CacheRead` hand it on to the two parts of the cache (`CacheCause`). `PivotCacheIter` holds the
-//! package beside such a cursor; its bound is the events that its package still gives
+//! reader beside such a cursor; its bound is the events that its package still gives
 //! (`rows_count`).
 #![tactic(auto)]
 

@@ -37,8 +37,8 @@ pub enum RecordsPlace {
 /// A line of each row:
 ///
 /// ```
-/// let mut cursor = PivotCursor::open(alloc, &mut package, definitions, records)?;
-/// 'rows: while let Some(next) = cursor.next(&mut package) {
+/// let mut rows = PivotCursor::open(&mut xml, definitions, records)?;
+/// 'rows: while let Some(next) = rows.next(&mut xml) {
 ///     let row = next?;
 ///     push_row_line(&mut out, &row)?;
 /// }
@@ -47,7 +47,6 @@ pub enum RecordsPlace {
 pub struct PivotCursor {
     fields: Vec<CacheField>,
     place: RecordsPlace,
-    cursor: Cursor,
 }
 
 impl PivotCursor {
@@ -62,45 +61,41 @@ impl PivotCursor {
         records: &str,
     ) -> Result<PivotCursor, XlsxError>
         ensures opens { IfOk result (λ rows.
-            OpensRows definitions.now records.now xml.old.source (pivot_rows xml.new.source rows)) }
+            OpensRows definitions.now records.now xml.old.source (pivot_rows xml.new rows)) }
         ensures leaves { IfErr result
-            (LeavesPackage (event_count xml.old.source.parts definitions.now) Io xml.old.source
-            xml.new.source) }
+            (LeavesPackage (event_count xml.old.source.parts definitions.now) Io
+            xml.old.source xml.new.source) }
         ensures err { let cause = OpenRowsCause xml.old.source.parts definitions.now records.now in
             IfErr result (FailsBy cause xml.old.source xml.new.source) }
         ensures kind { IfErr result IsCacheFieldsError }
     {
-        let alloc = xml.alloc();
         let fields = read_fields(xml, definitions)?;
-        let Some(cursor) = open_part(xml, records)? else {
-            return Err(XlsxError::FileNotFound(String::from_str(alloc, records)?));
-        };
+        if !open_part(xml, records)? {
+            return Err(XlsxError::FileNotFound(String::from_str(xml.alloc(), records)?));
+        }
         Ok(PivotCursor {
             fields,
             place: RecordsPlace::Before,
-            cursor,
         })
     }
 
     /// Reads on behind the start of the records, and gives the row of the names.
     fn take_names<P: Package>(&mut self, xml: &mut XlReader<P>) -> Result<Vec<Data>, XlsxError>
-        requires at { IsAtRecords (pivot_rows xml.old.source self.old) }
+        requires at { IsAtRecords (pivot_rows xml.old self.old) }
         requires place { self.old.place ≡ Before }
-        ensures at { IsAtRecords (pivot_rows xml.new.source self.new) }
+        ensures at { IsAtRecords (pivot_rows xml.new self.new) }
         ensures fields { self.new.fields ≡ self.old.fields }
-        ensures reads { let old = pivot_rows xml.old.source self.old in
-            let new = pivot_rows xml.new.source self.new in
-            ReadsPart Io result old.reading new.reading }
-        ensures gives { GivesRow (Some result) (pivot_rows xml.old.source self.old)
-            (pivot_rows xml.new.source self.new) }
+        ensures reads { ReadsPart Io result xml.old xml.new }
+        ensures gives { GivesRow (Some result) (pivot_rows xml.old self.old)
+            (pivot_rows xml.new self.new) }
     {
         // Each refusal leaves it so.
         self.place = RecordsPlace::Done;
-        let names = names_row(self.xml.alloc(), &self.fields)?;
-        let Some(_at) = find_element(xml, &mut self.cursor, "pivotCacheRecords")? else {
+        let names = names_row(xml.alloc(), &self.fields)?;
+        let Some(_at) = find_element(xml, "pivotCacheRecords")? else {
             return Err(XlsxError::XmlEof("pivotCacheRecords"));
         };
-        self.place = RecordsPlace::Within(self.xml.depth());
+        self.place = RecordsPlace::Within(xml.depth());
         Ok(names)
     }
 
@@ -111,20 +106,16 @@ impl PivotCursor {
         xml: &mut XlReader<P>,
         base: usize,
     ) -> Result<Option<Vec<Data>>, XlsxError>
-        requires at { IsAtRecords (pivot_rows xml.old.source self.old) }
+        requires at { IsAtRecords (pivot_rows xml.old self.old) }
         requires place { self.old.place ≡ Within base }
-        ensures at { IsAtRecords (pivot_rows xml.new.source self.new) }
+        ensures at { IsAtRecords (pivot_rows xml.new self.new) }
         ensures fields { self.new.fields ≡ self.old.fields }
-        ensures reads { let old = pivot_rows xml.old.source self.old in
-            let new = pivot_rows xml.new.source self.new in
-            ReadsPart Io result old.reading new.reading }
-        ensures gives { GivesRow (answer_of result) (pivot_rows xml.old.source self.old)
-            (pivot_rows xml.new.source self.new) }
+        ensures reads { ReadsPart Io result xml.old xml.new }
+        ensures gives { GivesRow (answer_of result) (pivot_rows xml.old self.old)
+            (pivot_rows xml.new self.new) }
     {
         self.place = RecordsPlace::Done;
-        let alloc = self.xml.alloc();
-        let next = next_record(xml, &mut self.cursor, base, &self.fields)?;
-        let Some(row) = next else {
+        let Some(row) = next_record(xml, base, &self.fields)? else {
             return Ok(None);
         };
         self.place = RecordsPlace::Within(base);
@@ -146,11 +137,11 @@ impl PivotCursor {
         &mut self,
         xml: &mut XlReader<P>,
     ) -> Option<Result<Vec<Data>, XlsxError>>
-        requires { IsAtRecords (pivot_rows xml.old.source self.old) }
-        ensures at { IsAtRecords (pivot_rows xml.new.source self.new) }
+        requires { IsAtRecords (pivot_rows xml.old self.old) }
+        ensures at { IsAtRecords (pivot_rows xml.new self.new) }
         ensures fields { self.new.fields ≡ self.old.fields }
-        ensures gives { GivesRow result (pivot_rows xml.old.source self.old)
-            (pivot_rows xml.new.source self.new) }
+        ensures gives { GivesRow result (pivot_rows xml.old self.old)
+            (pivot_rows xml.new self.new) }
     {
         match self.place {
             RecordsPlace::Before => Some(self.take_names(xml)),

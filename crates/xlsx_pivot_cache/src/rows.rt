@@ -47,8 +47,8 @@ pub(crate) fn next_record<P: Package>(
         (λ row. TakesRecord said base (row_kept row.items) xml.old xml.new)) }
     ensures step { IfOk result (λ found. IfSome found (λ row. IsFewer xml.old xml.new)) }
     ensures err { IfErr result
-        (FailsBy (NextRecordCause (fields_kept fields.now) base xml.old) xml.old.source
-        xml.new.source) }
+        (FailsBy (NextRecordCause (fields_kept fields.now) base xml.old)
+        xml.old.source xml.new.source) }
     ensures kind { IfErr result IsRowError }
 {
     let Some(_at) = next_element_in(xml, base, &["r"], "pivotCacheRecords")? else {

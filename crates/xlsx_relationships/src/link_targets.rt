@@ -154,8 +154,8 @@ pub fn read_sheet_hyperlink_rels<P: Package>(
         IsSomeAnd (link_targets xml.old.source.parts sheet_path.now) (λ targets.
         HoldsTargets targets kept)) }
     ensures err { IfErr result
-        (FailsBy (LinkTargetsCause xml.old.source.parts sheet_path.now) xml.old.source
-        xml.new.source) }
+        (FailsBy (LinkTargetsCause xml.old.source.parts sheet_path.now)
+        xml.old.source xml.new.source) }
     ensures kind { IfErr result IsRelatedError }
 {
     let alloc = xml.alloc();

@@ -109,7 +109,8 @@ pub fn related_parts<P: Package>(
     typ: &str,
 ) -> Result<Vec<String>, XlsxError>
     ensures answers { let ask = related_ask typ.now path.now in
-        Answers ask (λ paths. map string_bytes paths.items) result xml.old.source xml.new.source }
+        Answers ask (λ paths. map string_bytes paths.items) result
+        xml.old.source xml.new.source }
 {
     let alloc = xml.alloc();
     let part = relationships_beside(alloc, path)?;

@@ -30,7 +30,8 @@ pub trait ReadsRelated {
     ) -> Result<(), XlsxError>
         ensures answers { let before = map (kept self.now) items.old.items in
             let after = map (kept self.now) items.new.items in
-            Appends (ask self.now path.now) before after result xml.old.source xml.new.source }
+            Appends (ask self.now path.now) before after result
+            xml.old.source xml.new.source }
         ensures kept { (more : List Self.Item) × (items.new.items ≡ items.old.items ++ more) };
 
     ghost kinds: { (by : Self) (path : List ℕ) (error : XlsxError) → (ask by path).kind error → Kind error };

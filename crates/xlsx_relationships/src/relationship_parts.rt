@@ -23,17 +23,17 @@ use xlsx_sections::{enter_part, keep_last, keep_starts};
 /// `Xml(Entity)` with the number of its start, counted from 0.
 #[tactic(auto, using(crate::proofs::RelationshipErrors::relationships_step))]
 pub fn read_path<P: Package>(xml: &mut XlReader<P>, part: &str) -> Result<String, XlsxError>
-    ensures uses { Uses (event_count xml.old.source.parts part.now) Io result xml.old.source
-        xml.new.source }
-    ensures to_end { ReadsToEnd (codes "Relationships") part.now result xml.old.source
-        xml.new.source }
-    ensures path { let inside = closed_section_of (codes "Relationships") part.now
-        xml.old.source.parts in
-        xml.old.source.is_told ≡ true → IfOk result (λ path.
+    ensures uses { Uses (event_count xml.old.source.parts part.now) Io result
+        xml.old.source xml.new.source }
+    ensures to_end { ReadsToEnd (codes "Relationships") part.now result
+        xml.old.source xml.new.source }
+    ensures path { let old = xml.old.source in
+        let inside = closed_section_of (codes "Relationships") part.now old.parts in
+        old.is_told ≡ true → IfOk result (λ path.
         IsSomeAnd inside (λ inside. path_in inside ≡ Ok (Some (string_bytes path)))) }
     ensures err { let name = codes "Relationships" in
-        IfErr result (PartFails name (always name) IsPathRefused part.now xml.old.source
-        xml.new.source) }
+        IfErr result (PartFails name (always name) IsPathRefused part.now
+        xml.old.source xml.new.source) }
     ensures kind { IfErr result IsRelationshipsError }
 {
     let alloc = xml.alloc();
@@ -57,18 +57,17 @@ pub fn read_relationships<P: Package>(
     xml: &mut XlReader<P>,
     part: &str,
 ) -> Result<BTreeMap<String, Relationship>, XlsxError>
-    ensures uses { Uses (event_count xml.old.source.parts part.now) Io result xml.old.source
-        xml.new.source }
-    ensures to_end { ReadsToEnd (codes "Relationships") part.now result xml.old.source
-        xml.new.source }
-    ensures related { let inside = closed_section_of (codes "Relationships") part.now
-        xml.old.source.parts in
-        xml.old.source.is_told ≡ true →
-        IfOk result (λ map. IsSomeAnd inside (λ inside. (id : List ℕ) →
+    ensures uses { Uses (event_count xml.old.source.parts part.now) Io result
+        xml.old.source xml.new.source }
+    ensures to_end { ReadsToEnd (codes "Relationships") part.now result
+        xml.old.source xml.new.source }
+    ensures related { let old = xml.old.source in
+        let inside = closed_section_of (codes "Relationships") part.now old.parts in
+        old.is_told ≡ true → IfOk result (λ map. IsSomeAnd inside (λ inside. (id : List ℕ) →
         related_in inside id ≡ Ok (related_by_id map id))) }
     ensures err { let name = codes "Relationships" in
-        IfErr result (PartFails name (always name) AreRelationshipsRefused part.now xml.old.source
-        xml.new.source) }
+        IfErr result (PartFails name (always name) AreRelationshipsRefused part.now
+        xml.old.source xml.new.source) }
     ensures kind { IfErr result IsRelationshipsError }
 {
     let alloc = xml.alloc();

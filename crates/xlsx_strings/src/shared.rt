@@ -63,19 +63,17 @@ pub fn read_shared_strings<P: Package>(
     xml: &mut XlReader<P>,
     path: &str,
 ) -> Result<Vec<String>, XlsxError>
-    ensures uses { Uses (event_count xml.old.source.parts path.now) Io result xml.old.source
-        xml.new.source }
+    ensures uses { Uses (event_count xml.old.source.parts path.now) Io result xml.old.source xml.new.source }
     ensures to_end { ReadsToEnd (codes "sst") path.now result xml.old.source xml.new.source }
     ensures strings { xml.old.source.is_told ≡ true → IfOk result (λ strings.
         HasStrings xml.old.source.parts path.now (map string_bytes strings.items)) }
     ensures err { let refused = IsInsideRefused strings_in in
-        IfErr result (OptionalPartFails (codes "sst") end_in_strings refused path.now xml.old.source
-        xml.new.source) }
+        IfErr result (OptionalPartFails (codes "sst") end_in_strings refused path.now
+        xml.old.source xml.new.source) }
     ensures kind { IfErr result AreStringsError }
 {
-    let alloc = xml.alloc();
     if !enter_part(xml, path, "sst")? {
-        return Ok(Vec::new(alloc));
+        return Ok(Vec::new(xml.alloc()));
     }
     let base = xml.depth();
     strings_in(xml, base)

@@ -1,5 +1,5 @@
 ghost use Rattle.std.specs.Prelude.{◌≡◌, ◌++◌, List, ℕ, true, Ok};
-ghost use Rattle.std.specs.Prelude.{string_bytes, IfOk, OnOk, OnErr, IfErr};
+ghost use Rattle.std.specs.Prelude.{string_bytes, OnOk, OnErr, IfErr};
 ghost use Rattle.attr_text.specs.Text.{unescaped};
 ghost use Rattle.part_events.specs.Event.{Tag, start, tag_of};
 ghost use Rattle.part_events.specs.JoinedText.{IsFrontOf};
@@ -41,7 +41,7 @@ fn push_spaced(alloc: Global, out: &mut String, written: &str, kept: bool) -> Re
     }
 }
 
-/// Appends what the element at whose start the package stands adds to its string, and reads to its
+/// Appends what the element at whose start the reader stands adds to its string, and reads to its
 /// end: a text is read, and what is said of the pronunciation is passed.
 fn read_piece<P: Package>(
     xml: &mut XlReader<P>,
@@ -59,18 +59,17 @@ fn read_piece<P: Package>(
         ElementReadFails (end_in_piece tag) (piece_of tag) xml.old xml.new error) }
     ensures kind { IfErr result IsStringError }
 {
-    let alloc = xml.alloc();
     if start_tag(xml).local_name() != "t" {
         return skip_element_in(xml, Some(""));
     }
     let kept = keeps_blanks(start_tag(xml))?;
     scratch.clear();
     read_element_text(xml, scratch, true, "t")?;
-    push_spaced(alloc, out, scratch.as_str(), kept)?;
+    push_spaced(xml.alloc(), out, scratch.as_str(), kept)?;
     Ok(())
 }
 
-/// Appends the text of the string element, an `si` or an `is`, at whose start the package stands,
+/// Appends the text of the string element, an `si` or an `is`, at whose start the reader stands,
 /// and reads to its end. The texts of its elements `t` are joined, those of its pronunciation left
 /// aside. `scratch` is overwritten: a caller that reads many strings lends one text to all.
 /// (ECMA-376 part 1, section 18.4.8.)

@@ -14,12 +14,11 @@ invariant-events g l =
     let now = l.xml in
     record {
       keeps : KeepsSection l.base old now;
-      within : LiesWithin l.contents.place (length (open_elements l.cursor));
+      within : LiesWithin l.contents.place (length now.names);
       items :
           old.source.is_told ≡ true →
           prepended (map value_of_data l.contents.items.items)
-          (items_from_place l.contents.place (length (open_elements l.cursor))
-          (section_ahead l.base now))
+          (items_from_place l.contents.place (length now.names) (section_ahead l.base now))
           ≡ items_in (section_ahead l.base old);
       groups :
           old.source.is_told ≡ true →

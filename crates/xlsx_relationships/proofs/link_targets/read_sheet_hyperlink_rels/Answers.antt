@@ -12,8 +12,8 @@ use Rattle.xlsx_relationships.proofs.link_targets.read_sheet_hyperlink_rels.Goal
 
 pub returns-clause-targets : goal.returns-clause-targets
 returns-clause-targets g c = λ told.
-    let mid = reading c.enter_part.new.xml.source c.in-Some.cursor in
-    let enters = rw c.in-Some.is at c.in_ok-cursor.ensures.enters in
+    let mid = c.enter_part.new.xml in
+    let enters = c.in_ok-enter_part.ensures.enters c.if-not-branch.false in
     let none : (id : List ℕ) → target_held c.new-targets.result id ≡ None = λ id. search rules in
     let held = targets_held (section_ahead c.depth-base.result mid) c.new-targets.result
     c.keep_starts.new.keeper.targets none
@@ -23,7 +23,7 @@ returns-clause-targets g c = λ told.
 pub returns-in_err-keep_starts-clause-err : goal.returns-in_err-keep_starts-clause-err
 returns-in_err-keep_starts-clause-err g c =
     let ending = always (codes "Relationships") in
-    let mid = reading c.enter_part.new.xml.source c.in-Some.cursor in
+    let mid = c.enter_part.new.xml in
     let new = c.keep_starts.new.xml in
     let base = c.depth-base.result in
     let e = c.in_err-keep_starts.field-0.0 in

@@ -13,10 +13,10 @@ unfolding IsPathRefused IsTargetRefused
 returns-in_err-path-clause-err g c =
     let name = codes "Relationships" in
     let old = c.args.xml.now.source in
-    let mid = reading c.enter_part.new.xml.source c.in-Some.cursor in
+    let mid = c.enter_part.new.xml in
     let new = c.keep_last.new.xml in
     let e = c.in_err-path.field-0.0 in
-    let enters = rw c.in-Some.is at c.in_ok-cursor.ensures.enters in
+    let enters = c.in_ok-enter_part.ensures.enters c.if-not-branch.false in
     let here : SectionFails (always name) IsTargetRefused (length mid.names) mid new e =
     subst (λ (n : ℕ). SectionFails (always name) IsTargetRefused n mid new e) c.depth-base.ensures
     c.in_err-path.ensures.err in
@@ -28,14 +28,14 @@ returns-in_err-path-clause-err g c =
     (refused_as (length mid.names) mid (always name) IsTargetRefused IsPathRefused new e
     (λ refusal refuses. inl refuses) here)))
 
-pub returns-clause-err : goal.returns-clause-err
+pub returns-in-None-clause-err : goal.returns-in-None-clause-err
 unfolding IsPathRefused
-returns-clause-err g c =
+returns-in-None-clause-err g c =
     let name = codes "Relationships" in
     let old = c.args.xml.now.source in
-    let mid = reading c.enter_part.new.xml.source c.in-Some.cursor in
+    let mid = c.enter_part.new.xml in
     let new = c.keep_last.new.xml in
-    let enters = rw c.in-Some.is at c.in_ok-cursor.ensures.enters in
+    let enters = c.in_ok-enter_part.ensures.enters c.if-not-branch.false in
     let here : SectionFails (always name) IsPathRefused (length mid.names) mid new
     RelationshipNotFound = λ told.
     inr (

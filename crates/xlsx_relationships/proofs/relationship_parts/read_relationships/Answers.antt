@@ -19,11 +19,11 @@ returns-in_err-keep_starts-clause-err g c =
     let ending = always name in
     let wanted = is_named (codes "Relationship" ∷ []) in
     let old = c.args.xml.now.source in
-    let mid = reading c.enter_part.new.xml.source c.in-Some.cursor in
+    let mid = c.enter_part.new.xml in
     let new = c.keep_starts.new.xml in
     let part = c.args.part.now in
     let base = c.depth-base.result in
-    let enters = rw c.in-Some.is at c.in_ok-cursor.ensures.enters in
+    let enters = c.in_ok-enter_part.ensures.enters c.if-not-branch.false in
     let e = c.in_err-keep_starts.field-0.0 in
     let meaning = λ (id : List ℕ) (events : List Event).
     changed_in wanted (or_before (related_of id)) (related_by_id c.new-map.result id) events in
@@ -47,8 +47,8 @@ returns-in_err-keep_starts-clause-err g c =
 pub returns-clause-related : goal.returns-clause-related
 returns-clause-related g c = λ told.
     let wanted = is_named (codes "Relationship" ∷ []) in
-    let mid = reading c.enter_part.new.xml.source c.in-Some.cursor in
-    let enters = rw c.in-Some.is at c.in_ok-cursor.ensures.enters in
+    let mid = c.enter_part.new.xml in
+    let enters = c.in_ok-enter_part.ensures.enters c.if-not-branch.false in
     let inside = section_ahead c.depth-base.result mid in
     let held : (id : List ℕ) → related_in inside id
     ≡ Ok (related_by_id c.keep_starts.new.keeper.map id) = λ id.

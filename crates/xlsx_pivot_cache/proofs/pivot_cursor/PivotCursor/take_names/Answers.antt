@@ -13,7 +13,7 @@ use Rattle.xlsx_pivot_cache.proofs.pivot_cursor.PivotCursor.take_names.Goals as 
 pub returns-in_err-_at-clause-gives : goal.returns-in_err-_at-clause-gives
 returns-in_err-_at-clause-gives g c =
     let fields = fields_kept c.args.self.now.fields.items in
-    let old = c.args.self.now.cursor in
+    let old = c.args.xml.now in
     let new = c.find_element.new.xml in
     let fails = find_fails fields old new c.in_err-_at.field-0.0 c.in_err-_at.ensures.err in
     record {
@@ -39,7 +39,7 @@ returns-in_err-_at-clause-gives g c =
 
 pub returns-in_default-clause-gives : goal.returns-in_default-clause-gives
 returns-in_default-clause-gives g c =
-    let old = c.args.self.now.cursor in
+    let old = c.args.xml.now in
     record {
       fields = search rules;
       reads = search rules;
@@ -62,7 +62,7 @@ returns-in_default-clause-gives g c =
 
 pub returns-clause-at : goal.returns-clause-at
 returns-clause-at g c =
-    let old = c.args.self.now.cursor in
+    let old = c.args.xml.now in
     let new = c.find_element.new.xml in
     let reads = c.in_ok-_at.ensures.reads in
     rw c.depth.ensures
@@ -75,7 +75,7 @@ returns-clause-at g c =
 
 pub returns-clause-gives : goal.returns-clause-gives
 returns-clause-gives g c =
-    let old = c.args.self.now.cursor in
+    let old = c.args.xml.now in
     let new = c.find_element.new.xml in
     let fields = fields_kept c.args.self.now.fields.items in
     let same : row_kept c.in_ok-names.names.items ≡ names_row fields =
