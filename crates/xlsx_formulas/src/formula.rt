@@ -64,7 +64,7 @@ pub fn share_of(tag: StartTag<'_>) -> Result<Share, XlsxError>
     }
 }
 
-/// Reads the `f` at whose start the package stands, to its end: the sharing that its start says,
+/// Reads the `f` at whose start the reader stands, to its end: the sharing that its start says,
 /// and then its text, which is each Text, with its line ends as LF, and the character of each
 /// reference.
 ///
@@ -80,9 +80,8 @@ pub fn read_formula<P: Package>(xml: &mut XlReader<P>) -> Result<Formula, XlsxEr
         ElementReadFails (always (codes "f")) (formula_text tag) xml.old xml.new error) }
     ensures kind { IfErr result IsFormulaError }
 {
-    let alloc = xml.alloc();
     let share = share_of(start_tag(xml))?;
-    let mut text = String::new(alloc);
+    let mut text = String::new(xml.alloc());
     read_element_text(xml, &mut text, false, "f")?;
     Ok(Formula { share, text })
 }

@@ -19,7 +19,7 @@ use xlsx_error::XlsxError;
 use xlsx_sections::{read_element_text, read_to_end, skip_element_in};
 use xlsx_strings::read_string;
 
-/// The value of the `v` at whose start the package stands, by its first event. Reads to its end.
+/// The value of the `v` at whose start the reader stands, by its first event. Reads to its end.
 #[tactic(auto, using(crate::proofs::ValuesRead::value_errors))]
 fn read_first<P: Package>(
     xml: &mut XlReader<P>,
@@ -29,27 +29,26 @@ fn read_first<P: Package>(
 ) -> Result<DataRef, XlsxError>
     requires element { IsReadingElement xml.old }
     ensures reads { ReadsElement Io result xml.old xml.new }
-    ensures value { let answer = first_event_value (grounds_of book.entry) format (kind_of typ.now)
-        in
+    ensures value {
+        let answer = first_event_value (grounds_of book.entry) format (kind_of typ.now) in
         xml.old.source.is_told ≡ true → IfOk result (λ own.
         answer (content 0 (ahead xml.old)) ≡ Ok (value_of_data_ref own)) }
     ensures err { let answer = first_event_value (grounds_of book.entry) format (kind_of typ.now) in
         IfErr result (ElementReadFails end_in_first answer xml.old xml.new) }
     ensures kind { IfErr result IsValueError }
 {
-    let alloc = xml.alloc();
     let depth = xml.depth();
     match xml.next_inside(depth)? {
         Step::Found => {}
         Step::Closed => return Ok(DataRef::Empty),
         Step::Ended => return Err(XlsxError::XmlEof("v")),
     }
-    let value = value_of_event(alloc, book, format, typ, xml.event())?;
+    let value = value_of_event(xml.alloc(), book, format, typ, xml.event())?;
     read_to_end(xml, depth, None)?;
     Ok(value)
 }
 
-/// The value of the `v` at whose start the package stands, by its joined text. Reads to its end.
+/// The value of the `v` at whose start the reader stands, by its joined text. Reads to its end.
 #[tactic(auto, using(crate::proofs::ValuesRead::value_errors))]
 fn read_joined<P: Package>(xml: &mut XlReader<P>, typ: &CellType) -> Result<DataRef, XlsxError>
     requires element { IsReadingElement xml.old }
@@ -57,8 +56,7 @@ fn read_joined<P: Package>(xml: &mut XlReader<P>, typ: &CellType) -> Result<Data
     ensures value { xml.old.source.is_told ≡ true → IfOk result (λ own.
         joined_value (kind_of typ.now) (content 0 (ahead xml.old)) ≡ Ok (value_of_data_ref own)) }
     ensures err { IfErr result
-        (ElementReadFails (always (codes "v")) (joined_value (kind_of typ.now))
-        xml.old xml.new) }
+        (ElementReadFails (always (codes "v")) (joined_value (kind_of typ.now)) xml.old xml.new) }
     ensures kind { IfErr result IsValueError }
 {
     let alloc = xml.alloc();
@@ -67,7 +65,7 @@ fn read_joined<P: Package>(xml: &mut XlReader<P>, typ: &CellType) -> Result<Data
     value_of_joined(alloc, typ, text)
 }
 
-/// The value of the `v` at whose start the package stands, in a cell of this type, whose style has
+/// The value of the `v` at whose start the reader stands, in a cell of this type, whose style has
 /// this format (ECMA-376 part 1, section 18.3.1.96). There is none under an inline type. Reads to
 /// its end.
 ///
@@ -110,7 +108,7 @@ pub fn read_value<P: Package>(
     }
 }
 
-/// The value of the `is` at whose start the package stands, which is its text (ECMA-376 part 1,
+/// The value of the `is` at whose start the reader stands, which is its text (ECMA-376 part 1,
 /// section 18.3.1.53). Reads to its end.
 ///
 /// # Errors
