@@ -7,7 +7,7 @@ ghost use Rattle.xlsx_commands.specs.Outputs.{CallFails};
 
 use crate::error::ToolError;
 use list_lines::{push_pair_line, push_sheet_line};
-use part_events::MemoryPackage;
+use part_events::{MemoryPackage, XlReader};
 use std::alloc::{AllocError, Global};
 use xlsx_open::{Metadata, Opened, Sheet, SheetType, SheetVisible, open};
 
@@ -63,15 +63,16 @@ fn metadata_of(alloc: Global, package: MemoryPackage) -> Result<Metadata, ToolEr
     ensures ok { IfOk result (HasMetadata «package».parts) }
     ensures err { IfErr result (CallFails (OpeningCause «package».parts)) }
 {
-    let mut package = package;
-    let opened = open(alloc, &mut package)?;
+    let mut xml = XlReader::new(alloc, package);
+    let opened = open(&mut xml);
+    drop(xml.into_package());
     let Opened {
         metadata,
         paths: _,
         folder: _,
         shared: _,
         is_1904: _,
-    } = opened;
+    } = opened?;
     Ok(metadata)
 }
 

@@ -22,7 +22,9 @@ fn comments_of(
     ensures err { IfErr result (CallFails (NamedCommentsCause «package».parts name.now)) }
 {
     let mut xlsx = Xlsx::new(alloc, package)?;
-    Ok(xlsx.comments_by_sheet_name(name)?)
+    let all = xlsx.comments_by_sheet_name(name);
+    drop(xlsx.into_package());
+    Ok(all?)
 }
 
 /// Appends the line of a comment of a part.

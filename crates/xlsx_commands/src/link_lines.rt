@@ -19,7 +19,9 @@ fn links_of(alloc: Global, package: MemoryPackage, name: &str) -> Result<Vec<Hyp
     ensures err { IfErr result (CallFails (NamedLinksCause «package».parts name.now)) }
 {
     let mut xlsx = Xlsx::new(alloc, package)?;
-    Ok(xlsx.hyperlinks_by_sheet_name(name)?)
+    let links = xlsx.hyperlinks_by_sheet_name(name);
+    drop(xlsx.into_package());
+    Ok(links?)
 }
 
 fn text_of(text: &Option<String>) -> Option<&str>

@@ -21,7 +21,9 @@ fn merges_of(
     ensures err { IfErr result (CallFails (NamedMergesCause «package».parts name.now)) }
 {
     let mut xlsx = Xlsx::new(alloc, package)?;
-    Ok(xlsx.merge_cells_by_sheet_name(name)?)
+    let areas = xlsx.merge_cells_by_sheet_name(name);
+    drop(xlsx.into_package());
+    Ok(areas?)
 }
 
 fn lines_of_areas(alloc: Global, areas: &[Dimensions]) -> Result<String, AllocError>

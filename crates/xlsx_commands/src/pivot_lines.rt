@@ -33,8 +33,9 @@ pub fn find_pivots(
     ensures err { IfErr result (ListingFails PivotsCause «package».parts) }
 {
     let mut xlsx = Xlsx::new(alloc, package)?;
-    let pivots = xlsx.pivot_tables()?;
-    Ok((pivots, xlsx.into_package()))
+    let pivots = xlsx.pivot_tables();
+    let package = xlsx.into_package();
+    Ok((pivots?, package))
 }
 
 /// A line for each pivot table of the workbook.

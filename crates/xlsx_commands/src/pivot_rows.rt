@@ -7,7 +7,7 @@ ghost use Rattle.xlsx_commands.specs.SheetsRefused.{CacheFails};
 
 use crate::error::ToolError;
 use crate::pivot_lines::find_pivots;
-use part_events::MemoryPackage;
+use part_events::{MemoryPackage, XlReader};
 use sheet_listing::push_row_line;
 use std::alloc::Global;
 use xlsx_core::XlsxError;
@@ -25,10 +25,10 @@ fn lines_of_cache(
         × (string_bytes out ≡ row_lines rows)) }
     ensures err { IfErr result (CacheFails «package».parts definitions.now records.now) }
 {
-    let mut package = package;
-    let mut cursor = PivotCursor::open(alloc, &mut package, definitions, records)?;
+    let mut xml = XlReader::new(alloc, package);
+    let mut cursor = PivotCursor::open(&mut xml, definitions, records)?;
     let mut out = String::new(alloc);
-    'rows: while let Some(next) = cursor.next(&mut package) {
+    'rows: while let Some(next) = cursor.next(&mut xml) {
         let row = next?;
         push_row_line(&mut out, &row)?;
     }

@@ -20,7 +20,9 @@ fn properties_of(alloc: Global, package: MemoryPackage) -> Result<WorkbookProper
     ensures err { IfErr result (CallFails (ListedPropertiesCause «package».parts)) }
 {
     let mut xlsx = Xlsx::new(alloc, package)?;
-    Ok(xlsx.workbook_properties()?)
+    let properties = xlsx.workbook_properties();
+    drop(xlsx.into_package());
+    Ok(properties?)
 }
 
 /// Appends the line of a property, by the name of its field, where its text is said.

@@ -24,8 +24,13 @@ fn with_tables(alloc: Global, package: MemoryPackage) -> Result<Xlsx<MemoryPacka
     ensures err { IfErr result (ListingFails TablesCause «package».parts) }
 {
     let mut xlsx = Xlsx::new(alloc, package)?;
-    xlsx.load_tables()?;
-    Ok(xlsx)
+    match xlsx.load_tables() {
+        Ok(()) => Ok(xlsx),
+        Err(error) => {
+            drop(xlsx.into_package());
+            Err(ToolError::from(error))
+        }
+    }
 }
 
 /// Appends the line of the table at this index, by its name.
@@ -74,7 +79,9 @@ pub fn table_of(alloc: Global, package: MemoryPackage, name: &str) -> Result<Tab
     ensures err { IfErr result (CallFails (NamedTableCause «package».parts name.now)) }
 {
     let mut xlsx = with_tables(alloc, package)?;
-    Ok(xlsx.table_by_name(name)?)
+    let table = xlsx.table_by_name(name);
+    drop(xlsx.into_package());
+    Ok(table?)
 }
 
 /// A line for each value in the first table of this name.

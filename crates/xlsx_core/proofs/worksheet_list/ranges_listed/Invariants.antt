@@ -9,8 +9,8 @@ use Rattle.xlsx_core.proofs.worksheet_list.ranges_listed.Given as goal
 
 abbrev pub invariant-sheets : goal.invariant-sheets
 invariant-sheets g l =
-    let old = g.P.Package.state l.fn.«package» in
-    let now = g.P.Package.state l.«package» in
+    let old = l.fn.xml.source in
+    let now = l.xml.source in
     let place = λ (name : List ℕ). path_listed name l.fn.sheets l.fn.paths in
     record {
       keeps : SameParts old now;
