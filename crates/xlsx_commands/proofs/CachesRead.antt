@@ -5,8 +5,7 @@ use Rattle.std.proofs.lemmas.Grind.{flat_map-append}
 use Rattle.std.specs.Prelude.{option_map, unwrap_or}
 use Rattle.cell_data.specs.CellValue.{CellValue}
 use Rattle.part_events.specs.Event.{Event}
-use Rattle.part_events.specs.Memory.{Contents, state_of}
-use Rattle.part_events.specs.Package.{Part, part_of}
+use Rattle.part_events.specs.Package.{Part, PackageState, part_of}
 use Rattle.sheet_listing.specs.SheetListing.{row_line}
 use Rattle.xlsx_error.specs.declared.error.XlsxError.{XlsxError}
 use Rattle.xlsx_error.specs.declared.error.XlsxError.TheVariants as workbook
@@ -27,7 +26,7 @@ use Rattle.xlsx_commands.specs.SheetsRefused.{ListingFails, CacheFails}
 use Rattle.xlsx_commands.specs.Status.{of_workbook}
 use Rattle.xlsx_commands.specs.declared.error.ToolError.{ToolError}
 use Rattle.xlsx_commands.specs.declared.error.ToolError.TheVariants.{Workbook}
-use Rattle.xlsx_commands.proofs.MemoryCalls.{memory_fails}
+use Rattle.xlsx_commands.proofs.MemoryCalls.{IsInMemory, memory_fails}
 use Rattle.xlsx_commands.proofs.NamedSheets.{OpeningsNever}
 use Rattle.xlsx_commands.proofs.PivotsListed.{PivotsNever, pivots_never}
 use Rattle.xlsx_commands.proofs.SheetsOpened.{IsNotMissing, same_sheets}
@@ -70,25 +69,28 @@ cache_fails parts definitions records (workbook.PivotTableNotFound asked) there 
 cache_fails parts definitions records error there fails = fails
 
 -- its fields can't be read, or the part of its records isn't there
-pub opening_rows_fails : (definitions records : List ℕ) (old new : Contents) (error : XlsxError)
-    → IsCacheFieldsError error
-    → FailsBy (OpenRowsCause old.parts definitions records) (state_of old) (state_of new) error
+pub opening_rows_fails : (definitions records : List ℕ) (old new : PackageState)
+    (error : XlsxError) → IsInMemory new → old.is_told ≡ true → IsCacheFieldsError error
+    → FailsBy (OpenRowsCause old.parts definitions records) old new error
     → CacheFails old.parts definitions records (of_workbook error)
-opening_rows_fails definitions records old new error is fails =
+opening_rows_fails definitions records old new error memory told is fails =
     cache_fails old.parts definitions records error (fields_there error is)
     (memory_fails (CacheCause old.parts definitions records)
-    (OpenRowsCause old.parts definitions records) old new error (λ cause. inl cause) fails)
+    (OpenRowsCause old.parts definitions records) old new error memory told
+    (λ cause. inl cause) fails)
 
 -- a row can't be read of the records
 pub next_row_fails : (parts : List Part) (definitions records : List ℕ)
-    (fields : List FieldSaid) (events : List Event) (old new : Contents) (error : XlsxError)
+    (fields : List FieldSaid) (events : List Event) (old new : PackageState)
+    (error : XlsxError) → IsInMemory new → old.is_told ≡ true
     → fields_at parts definitions ≡ Some fields → part_of parts records ≡ Some events
-    → IsRowError error → FailsBy (RowsCause fields events) (state_of old) (state_of new) error
+    → IsRowError error → FailsBy (RowsCause fields events) old new error
     → CacheFails parts definitions records (of_workbook error)
-next_row_fails parts definitions records fields events old new error said there is fails =
+next_row_fails parts definitions records fields events old new error memory told said there is
+    fails =
     cache_fails parts definitions records error (row_there error is)
     (memory_fails (CacheCause parts definitions records) (RowsCause fields events) old new error
-    (λ cause. inr (rw (said, there) cause)) fails)
+    memory told (λ cause. inr (rw (said, there) cause)) fails)
 
 -- ---- the lines
 

@@ -5,7 +5,7 @@ use Rattle.std.specs.Prelude.{IsSomeAnd, option_and_then}
 use Rattle.cell_refs.specs.declared.dimensions.Dimensions.{Dimensions}
 use Rattle.part_events.specs.Event.{Event}
 use Rattle.part_events.specs.Memory.{Contents, state_of}
-use Rattle.part_events.specs.Package.{Part}
+use Rattle.part_events.specs.Package.{Part, PackageState, SameParts}
 use Rattle.xlsx_error.specs.declared.error.XlsxError.{XlsxError}
 use Rattle.xlsx_error.specs.declared.error.XlsxError.TheVariants.{WorksheetNotFound}
 use Rattle.xlsx_sections.specs.Failing.{FailsBy}
@@ -26,7 +26,7 @@ use Rattle.xlsx_commands.specs.Outputs.{CallFails}
 use Rattle.xlsx_commands.specs.SheetLists.{OpensAt, PathCause, HasNamedCause, NamedCause}
 use Rattle.xlsx_commands.specs.SheetLists.{MergesPathCause}
 use Rattle.xlsx_commands.specs.Status.{of_workbook}
-use Rattle.xlsx_commands.proofs.MemoryCalls.{memory_fails}
+use Rattle.xlsx_commands.proofs.MemoryCalls.{IsInMemory, memory_fails}
 
 -- a workbook that opened, by its lists
 pub opens_at : {metadata : Metadata} {paths : List KeptPath} {shared : SharedParts}
@@ -54,19 +54,18 @@ pub opening_fails_named : (cause : PathCause) (name : List ℕ) (old new : Conte
     → OpeningFails (state_of old) (state_of new) error
     → CallFails (NamedCause cause old.parts name) (of_workbook error)
 opening_fails_named cause name old new error is fails =
-    memory_fails (NamedCause cause old.parts name) (OpeningCause old.parts) old new error
-    (opening_is_named cause old.parts name error is) fails
+    memory_fails (NamedCause cause old.parts name) (OpeningCause old.parts) (state_of old)
+    (state_of new) error (new, refl) refl (opening_is_named cause old.parts name error is) fails
 
 -- and so does its sheet, where it opens
 pub sheet_fails_named : (cause : PathCause) (name : List ℕ) (path : Option (List ℕ))
-    (old mid new : Contents) (error : XlsxError) → mid.parts ≡ old.parts
-    → OpensAt old.parts name path
-    → FailsBy (cause path mid.parts) (state_of mid) (state_of new) error
+    (old : Contents) (mid new : PackageState) (error : XlsxError) → SameParts (state_of old) mid
+    → IsInMemory new → OpensAt old.parts name path → FailsBy (cause path mid.parts) mid new error
     → CallFails (NamedCause cause old.parts name) (of_workbook error)
-sheet_fails_named cause name path old mid new error same opens fails =
-    memory_fails (NamedCause cause old.parts name) (cause path mid.parts) mid new error
-    (λ has. path_is_named cause old.parts name path error opens
-    (subst (λ (own : List Part). cause path own error) same has)) fails
+sheet_fails_named cause name path old mid new error same memory opens fails =
+    memory_fails (NamedCause cause old.parts name) (cause path mid.parts) mid new error memory
+    same.is_told (λ has. path_is_named cause old.parts name path error opens
+    (subst (λ (own : List Part). cause path own error) same.parts has)) fails
 
 -- ---- what is had isn't refused
 

@@ -23,8 +23,8 @@ use Rattle.xlsx_commands.proofs.SheetsOpened.{sheets_listed, sheets_never, IsNot
 pub has_pivots : (parts : List Part) (opening : Opening) (xlsx : Xlsx Contents)
     (pivots : List PivotSaid) → OpensAs parts opening
     → HoldsOpening xlsx.metadata xlsx.paths.items xlsx.shared xlsx.is_1904 opening
-    → LiesIn parts (arc_str_bytes xlsx.folder) → xlsx.package.parts ≡ parts
-    → pivots_of xlsx.package.parts (arc_str_bytes xlsx.folder) (sheets_of_book xlsx) ≡ Some pivots
+    → LiesIn parts (arc_str_bytes xlsx.folder) → xlsx.xml.source.parts ≡ parts
+    → pivots_of xlsx.xml.source.parts (arc_str_bytes xlsx.folder) (sheets_of_book xlsx) ≡ Some pivots
     → HasPivots parts pivots
 has_pivots parts opening xlsx pivots opens holds lies same found =
     let folder : arc_str_bytes xlsx.folder ≡ folder_of opens.path =

@@ -2,7 +2,7 @@
 use Rattle.std.proofs.Common.{◌≡◌, ◌∙◌, inl, inr, ap, subst, refl, ℕ, List, [], ◌∷◌, map}
 use Rattle.std.proofs.Common.{Bool, string_bytes}
 use Rattle.part_events.specs.Memory.{Contents, state_of}
-use Rattle.part_events.specs.Package.{Part}
+use Rattle.part_events.specs.Package.{Part, PackageState, SameParts}
 use Rattle.xlsx_error.specs.declared.error.XlsxError.{XlsxError}
 use Rattle.xlsx_error.specs.declared.error.XlsxError.TheVariants as workbook
 use Rattle.xlsx_sections.specs.Failing.{FailsBy}
@@ -23,7 +23,7 @@ use Rattle.xlsx_commands.specs.SheetsRefused.{ListingFails}
 use Rattle.xlsx_commands.specs.Status.{of_workbook}
 use Rattle.xlsx_commands.specs.declared.error.ToolError.{ToolError}
 use Rattle.xlsx_commands.specs.declared.error.ToolError.TheVariants.{Workbook}
-use Rattle.xlsx_commands.proofs.MemoryCalls.{memory_fails}
+use Rattle.xlsx_commands.proofs.MemoryCalls.{IsInMemory, memory_fails}
 use Rattle.xlsx_commands.proofs.NamedSheets.{OpeningsNever}
 
 -- the lists of a workbook that opened are the sheets of the opening
@@ -80,29 +80,29 @@ pub opening_unlisted : (cause_of : List Part → List SheetPath → XlsxError �
     → ListingFails cause_of old.parts (of_workbook error)
 opening_unlisted cause_of old new error is fails =
     listing_fails cause_of old.parts error (opening_there error is)
-    (memory_fails (ListedCause cause_of old.parts) (OpeningCause old.parts) old new error
-    (λ cause. inl cause) fails)
+    (memory_fails (ListedCause cause_of old.parts) (OpeningCause old.parts) (state_of old)
+    (state_of new) error (new, refl) refl (λ cause. inl cause) fails)
 
 -- what is asked of all sheets is refused
 pub sheets_unlisted : {metadata : Metadata} {paths : List KeptPath}
     {shared : SharedParts} {is_1904 : Bool}
     (cause_of : List Part → List SheetPath → XlsxError → Type 0) (opening : Opening)
-    (old mid new : Contents) (error : XlsxError)
+    (old : Contents) (mid new : PackageState) (error : XlsxError)
     → HoldsOpening metadata paths shared is_1904 opening → OpensAs old.parts opening
-    → mid.parts ≡ old.parts → IsNotMissing error
-    → FailsBy (cause_of mid.parts (sheet_paths metadata.sheets.items paths)) (state_of mid)
-    (state_of new) error → ListingFails cause_of old.parts (of_workbook error)
+    → SameParts (state_of old) mid → IsInMemory new → IsNotMissing error
+    → FailsBy (cause_of mid.parts (sheet_paths metadata.sheets.items paths)) mid new error
+    → ListingFails cause_of old.parts (of_workbook error)
 sheets_unlisted {metadata = metadata} {paths = paths} cause_of opening old mid new error holds
-    opens same there fails =
+    opens same memory there fails =
     let sheets = sheet_paths metadata.sheets.items paths in
     listing_fails cause_of old.parts error there
-    (memory_fails (ListedCause cause_of old.parts) (cause_of mid.parts sheets) mid new error
-    (λ cause. inr (record {
+    (memory_fails (ListedCause cause_of old.parts) (cause_of mid.parts sheets) mid new error memory
+    same.is_told (λ cause. inr (record {
       opening = opening;
       opens = opens;
       cause = subst (λ (own : List SheetPath). cause_of old.parts own error)
           (sheets_listed metadata.sheets.items paths opening.sheets holds.sheets holds.paths)
-          (subst (λ (own : List Part). cause_of own sheets error) same cause);
+          (subst (λ (own : List Part). cause_of own sheets error) same.parts cause);
     })) fails)
 
 -- the sheets of a workbook are had once

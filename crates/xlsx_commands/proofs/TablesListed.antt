@@ -51,11 +51,11 @@ holds_kept opening old new keeps holds = record {
 pub opened_with : (parts : List Part) (opening : Opening) (old new : Xlsx Contents)
     → OpensAs parts opening
     → HoldsOpening old.metadata old.paths.items old.shared old.is_1904 opening
-    → old.package.parts ≡ parts → old.header_row ≡ FirstNonEmptyRow → KeepsBook old new
-    → new.package.parts ≡ old.package.parts
-    → tables_of old.package.parts (sheets_of_book old) ≡ Some (loaded_tables new)
+    → old.xml.source.is_told ≡ true → old.xml.source.parts ≡ parts → old.header_row ≡ FirstNonEmptyRow → KeepsBook old new
+    → SameParts old.xml.source new.xml.source
+    → tables_of old.xml.source.parts (sheets_of_book old) ≡ Some (loaded_tables new)
     → OpensWithTables parts new
-opened_with parts opening old new opens holds same header keeps parts_kept taken = record {
+opened_with parts opening old new opens holds told same header keeps parts_kept taken = record {
   opening = opening;
   opens = opens;
   holds = holds_kept opening old new keeps holds;
@@ -64,7 +64,8 @@ opened_with parts opening old new opens holds same header keeps parts_kept taken
       holds.paths))
       ∙ ap (λ (own : List Part). tables_of own (sheets_of_book old)) (sym same) ∙ taken;
   header_row = keeps.header_row ∙ header;
-  same = parts_kept ∙ same;
+  told = parts_kept.is_told ∙ told;
+  same = parts_kept.parts ∙ same;
 }
 
 -- ---- their lines

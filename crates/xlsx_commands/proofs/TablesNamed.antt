@@ -87,7 +87,7 @@ module _ (parts : List Part) (name : List ℕ) (xlsx : Xlsx Contents)
   own_cause : (own : SheetTable) (error : XlsxError) → table_of_book xlsx name ≡ Some own
       → IsSome own.table.area
       → RangeCause own.sheet values_alone (grounds_of_book xlsx) (path_of xlsx own.sheet)
-      xlsx.package.parts error → HasTableCause parts name error
+      xlsx.xml.source.parts error → HasTableCause parts name error
   own_cause own error is area cause = record {
     own = own;
     has = record { tables = loaded_tables xlsx; has = has_tables; named = is };
@@ -100,44 +100,44 @@ module _ (parts : List Part) (name : List ℕ) (xlsx : Xlsx Contents)
         (path_of xlsx own.sheet) held error) opened.same cause));
   }
 
-  area_fails : (own : SheetTable) (new : Contents) (error : XlsxError)
-      → table_of_book xlsx name ≡ Some own → IsOther error
-      → AreaFails xlsx own.sheet own.table.area (state_of xlsx.package) (state_of new) error
+  area_fails : (own : SheetTable) (new : PackageState) (error : XlsxError)
+      → IsInMemory new → table_of_book xlsx name ≡ Some own → IsOther error
+      → AreaFails xlsx own.sheet own.table.area xlsx.xml.source new error
       → CallFails (NamedTableCause parts name) (of_workbook error)
-  area_fails own new workbook.OutOfMemory is other fails = tt
-  area_fails own new (workbook.NotAWorksheet kind) is other fails = absurd fails.1
-  area_fails own new error is other fails =
+  area_fails own new workbook.OutOfMemory memory is other fails = tt
+  area_fails own new (workbook.NotAWorksheet kind) memory is other fails = absurd fails.1
+  area_fails own new error memory is other fails =
       memory_fails (NamedTableCause parts name)
       (RangeCause own.sheet values_alone (grounds_of_book xlsx) (path_of xlsx own.sheet)
-      xlsx.package.parts) xlsx.package new error
+      xlsx.xml.source.parts) xlsx.xml.source new error memory opened.told
       (λ cause. cause_is_named parts name error other (own_cause own error is fails.0 cause))
       fails.1
 
-  pub data_fails : (new : Contents) (error : XlsxError)
-      → TableDataFails xlsx name (state_of xlsx.package) (state_of new) error
+  pub data_fails : (new : PackageState) (error : XlsxError) → IsInMemory new
+      → TableDataFails xlsx name xlsx.xml.source new error
       → CallFails (NamedTableCause parts name) (of_workbook error)
-  data_fails new workbook.OutOfMemory fails = tt
-  data_fails new (workbook.TableNotFound asked) fails = (
+  data_fails new workbook.OutOfMemory memory fails = tt
+  data_fails new (workbook.TableNotFound asked) memory fails = (
     fails.0,
     record { tables = loaded_tables xlsx; has = has_tables; none = fails.1 },
   )
-  data_fails new error fails =
+  data_fails new error memory fails =
       let (own, is, area, again) = both_of (table_of_book xlsx name)
-      (λ own. AreaFails xlsx own.sheet own.table.area (state_of xlsx.package) (state_of new) error)
-      (λ own. AreaFails xlsx own.sheet own.table.area (state_of xlsx.package) (state_of new) error)
+      (λ own. AreaFails xlsx own.sheet own.table.area xlsx.xml.source new error)
+      (λ own. AreaFails xlsx own.sheet own.table.area xlsx.xml.source new error)
       fails fails in
-      area_fails own new error is tt area
+      area_fails own new error memory is tt area
 
   pub has_table : (table : Table Data)
       → IsSomeAnd (table_of_book xlsx name) (λ own. IsOfTable own table)
       → IsSomeAnd (table_of_book xlsx name) (λ own. ReadsValuesIn (grounds_of_book xlsx)
-      xlsx.header_row own.table.area (path_of xlsx own.sheet) xlsx.package.parts
+      xlsx.header_row own.table.area (path_of xlsx own.sheet) xlsx.xml.source.parts
       (table_data table)) → HasTable parts name table
   has_table table named reads =
       let (own, is, of_own, from) = both_of (table_of_book xlsx name)
       (λ own. IsOfTable own table)
       (λ own. ReadsValuesIn (grounds_of_book xlsx) xlsx.header_row own.table.area
-      (path_of xlsx own.sheet) xlsx.package.parts (table_data table)) named reads in
+      (path_of xlsx own.sheet) xlsx.xml.source.parts (table_data table)) named reads in
       let area = own.table.area in
       let there = path_named own.sheet opened.opening.sheets in
       record {

@@ -16,4 +16,5 @@ pub record OpensWithTables (parts : List Part) (xlsx : Xlsx Contents) : Type 0 w
   pub holds : HoldsOpening xlsx.metadata xlsx.paths.items xlsx.shared xlsx.is_1904 opening
   pub taken : tables_of parts (sheets_opened opening.sheets) ≡ Some (loaded_tables xlsx)
   pub header_row : xlsx.header_row ≡ FirstNonEmptyRow
-  pub same : xlsx.package.parts ≡ parts
+  pub told : xlsx.xml.source.is_told ≡ true
+  pub same : xlsx.xml.source.parts ≡ parts

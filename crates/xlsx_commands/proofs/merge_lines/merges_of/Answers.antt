@@ -16,30 +16,30 @@ returns-in_err-xlsx-clause-err c =
     (opening_fails_named (MergesPathCause name) name c.args.package failure.package failure.error
     c.in_err-xlsx.ensures.kind c.in_err-xlsx.ensures.err)
 
-pub returns-in_err-merge_cells_by_sheet_name-clause-err :
-    goal.returns-in_err-merge_cells_by_sheet_name-clause-err
-returns-in_err-merge_cells_by_sheet_name-clause-err c =
+pub returns-in_err-areas-clause-err :
+    goal.returns-in_err-areas-clause-err
+returns-in_err-areas-clause-err c =
     let name = c.args.name.now in
     let xlsx = c.in_ok-xlsx.xlsx in
     let opened = c.in_ok-xlsx.ensures.opens refl in
-    let handed = err_from_is_err_and c.from_residual-in_err-merge_cells_by_sheet_name.result
-    c.from_residual-in_err-merge_cells_by_sheet_name.ensures.1 in
+    let handed = err_from_is_err_and c.from_residual-in_err-areas.result
+    c.from_residual-in_err-areas.ensures.1 in
     rw (handed.1, handed.2)
-    (sheet_fails_named (MergesPathCause name) name (path_of xlsx name) c.args.package xlsx.package
-    c.merge_cells_by_sheet_name.new.self.package
-    c.in_err-merge_cells_by_sheet_name.field-0.0 c.in_ok-xlsx.ensures.uses.parts.parts
-    (opens_at name opened.0 opened.1 opened.2)
-    c.in_err-merge_cells_by_sheet_name.ensures.err)
+    (sheet_fails_named (MergesPathCause name) name (path_of xlsx name) c.args.package xlsx.xml.source
+    c.merge_cells_by_sheet_name.new.self.xml.source
+    c.in_err-areas.field-0.0 c.in_ok-xlsx.ensures.uses.parts
+    (c.into_package.result, c.into_package.ensures) (opens_at name opened.0 opened.1 opened.2)
+    c.in_err-areas.ensures.err)
 
 pub returns-clause-ok : goal.returns-clause-ok
 returns-clause-ok c =
     let name = c.args.name.now in
     let path = path_of c.in_ok-xlsx.xlsx name in
     let opened = c.in_ok-xlsx.ensures.opens refl in
-    let found = c.in_ok-merge_cells_by_sheet_name.field-0.items in (
+    let found = c.in_ok-areas.field-0.items in (
       path,
       opens_at name opened.0 opened.1 opened.2,
       subst (λ (own : List Part). merges_placed path own ≡ Some found)
           c.in_ok-xlsx.ensures.uses.parts.parts
-          (c.in_ok-merge_cells_by_sheet_name.ensures.merges refl),
+          (c.in_ok-areas.ensures.merges c.in_ok-xlsx.ensures.uses.parts.is_told),
     )

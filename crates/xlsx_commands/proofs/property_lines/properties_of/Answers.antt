@@ -13,24 +13,24 @@ returns-in_err-xlsx-clause-err c =
     let failure = c.in_err-xlsx.field-0.0 in
     let handed = err_from_is_err_and c.from_residual.result c.from_residual.ensures.1 in
     rw (handed.1, handed.2)
-    (memory_fails (ListedPropertiesCause parts) (OpeningCause parts) c.args.package
-    failure.package failure.error (λ cause. inl cause) c.in_err-xlsx.ensures.err)
+    (memory_fails (ListedPropertiesCause parts) (OpeningCause parts) (state_of c.args.package)
+    (state_of failure.package) failure.error (failure.package, refl) refl (λ cause. inl cause) c.in_err-xlsx.ensures.err)
 
-pub returns-in_err-workbook_properties-clause-err :
-    goal.returns-in_err-workbook_properties-clause-err
-returns-in_err-workbook_properties-clause-err c =
+pub returns-in_err-properties-clause-err :
+    goal.returns-in_err-properties-clause-err
+returns-in_err-properties-clause-err c =
     let parts = c.args.package.parts in
     let xlsx = c.in_ok-xlsx.xlsx in
-    let error = c.in_err-workbook_properties.field-0.0 in
+    let error = c.in_err-properties.field-0.0 in
     let opened = c.in_ok-xlsx.ensures.opens refl in
     let same = c.in_ok-xlsx.ensures.uses.parts.parts in
-    let handed = err_from_is_err_and c.from_residual-in_err-workbook_properties.result
-    c.from_residual-in_err-workbook_properties.ensures.1 in
+    let handed = err_from_is_err_and c.from_residual-in_err-properties.result
+    c.from_residual-in_err-properties.ensures.1 in
     rw (handed.1, handed.2)
-    (memory_fails (ListedPropertiesCause parts) (PropertiesCause xlsx.package.parts) xlsx.package
-    c.workbook_properties.new.self.package error
-    (λ cause. inr (
+    (memory_fails (ListedPropertiesCause parts) (PropertiesCause xlsx.xml.source.parts) xlsx.xml.source
+    c.workbook_properties.new.self.xml.source error
+    (c.into_package.result, c.into_package.ensures) c.in_ok-xlsx.ensures.uses.parts.is_told (λ cause. inr (
       (opened.0, opened.2),
       subst (λ (own : List Part). PropertiesCause own error)
           same cause,
-    )) c.in_err-workbook_properties.ensures.err)
+    )) c.in_err-properties.ensures.err)

@@ -10,17 +10,17 @@ returns-in_err-xlsx-clause-err c =
     (loading_is_named c.args.package.parts c.args.name.now c.in_err-xlsx.field-0.0
     c.in_err-xlsx.ensures.err)
 
-pub returns-in_err-table_by_name-clause-err : goal.returns-in_err-table_by_name-clause-err
-returns-in_err-table_by_name-clause-err c =
-    let handed = err_from_is_err_and c.from_residual-in_err-table_by_name.result
-    c.from_residual-in_err-table_by_name.ensures.1 in
+pub returns-in_err-table-clause-err : goal.returns-in_err-table-clause-err
+returns-in_err-table-clause-err c =
+    let handed = err_from_is_err_and c.from_residual-in_err-table.result
+    c.from_residual-in_err-table.ensures.1 in
     rw (handed.1, handed.2)
     (data_fails c.args.package.parts c.args.name.now c.in_ok-xlsx.xlsx c.in_ok-xlsx.ensures.ok
-    c.table_by_name.new.self.package c.in_err-table_by_name.field-0.0
-    c.in_err-table_by_name.ensures.err)
+    c.table_by_name.new.self.xml.source c.in_err-table.field-0.0
+    (c.into_package.result, c.into_package.ensures)     c.in_err-table.ensures.err)
 
 pub returns-clause-ok : goal.returns-clause-ok
 returns-clause-ok c =
     has_table c.args.package.parts c.args.name.now c.in_ok-xlsx.xlsx c.in_ok-xlsx.ensures.ok
-    c.in_ok-table_by_name.field-0 c.in_ok-table_by_name.ensures.table
-    (c.in_ok-table_by_name.ensures.data refl)
+    c.in_ok-table.field-0 c.in_ok-table.ensures.table
+    (c.in_ok-table.ensures.data c.in_ok-xlsx.ensures.ok.told)

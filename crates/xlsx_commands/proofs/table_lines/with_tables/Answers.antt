@@ -20,16 +20,16 @@ returns-in_err-load_tables-clause-err c =
     let handed = err_from_is_err_and c.from_residual-in_err-load_tables.result
     c.from_residual-in_err-load_tables.ensures.1 in
     rw (handed.1, handed.2)
-    (sheets_unlisted TablesCause opened.0 c.args.package xlsx.package
-    c.load_tables.new.self.package c.in_err-load_tables.field-0.0 opened.1 opened.2
-    c.in_ok-xlsx.ensures.uses.parts.parts
-    (tables_there c.in_err-load_tables.field-0.0 c.in_err-load_tables.ensures.answers.kind)
+    (sheets_unlisted TablesCause opened.0 c.args.package xlsx.xml.source
+    c.load_tables.new.self.xml.source c.in_err-load_tables.field-0.0 opened.1 opened.2
+    c.in_ok-xlsx.ensures.uses.parts
+    (c.into_package.result, c.into_package.ensures) (tables_there c.in_err-load_tables.field-0.0 c.in_err-load_tables.ensures.answers.kind)
     c.in_err-load_tables.ensures.answers.err)
 
 pub returns-clause-ok : goal.returns-clause-ok
 returns-clause-ok c =
     let opened = c.in_ok-xlsx.ensures.opens refl in
     opened_with c.args.package.parts opened.0 c.in_ok-xlsx.xlsx c.load_tables.new.self opened.2
-    opened.1 c.in_ok-xlsx.ensures.uses.parts.parts c.in_ok-xlsx.ensures.header_row
-    c.load_tables.ensures.book c.in_ok-load_tables.ensures.answers.uses.parts.parts
-    (c.in_ok-load_tables.ensures.answers.said refl)
+    opened.1 c.in_ok-xlsx.ensures.uses.parts.is_told c.in_ok-xlsx.ensures.uses.parts.parts c.in_ok-xlsx.ensures.header_row
+    c.load_tables.ensures.book c.in_ok-load_tables.ensures.answers.uses.parts
+    (c.in_ok-load_tables.ensures.answers.said c.in_ok-xlsx.ensures.uses.parts.is_told)
