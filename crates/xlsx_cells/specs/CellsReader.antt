@@ -6,7 +6,6 @@ use Rattle.std.specs.Borrow.{GName}
 use Rattle.std.specs.declared.alloc.Global.{Global}
 use Rattle.cell_refs.specs.declared.dimensions.Dimensions.{Dimensions}
 use Rattle.part_events.specs.Nesting.{whole}
-use Rattle.part_events.specs.Package.{PackageState}
 use Rattle.part_events.specs.Reading.{Reading, ReadsOn, events_of}
 use Rattle.part_events.specs.Section.{Element}
 use Rattle.cell_data.specs.CellValue.{value_of_data_ref}
@@ -30,13 +29,13 @@ use Rattle.xlsx_cells.specs.declared.cells_reader.XlsxCellReader.{XlsxCellReader
 use Rattle.xlsx_cells.specs.declared.children.Wants.{Wants}
 use Rattle.xlsx_cells.specs.declared.sheet_cursor.SheetCursor.{SheetCursor}
 
--- where a reader stands, and by which reference it holds its package
-abbrev pub stream_by : {P : Type 0} → (P → PackageState) → XlsxCellReader P SheetCursor → Stream
-stream_by state reader = stream (state reader.package.now) reader.sheet
+-- where a reader of cells stands
+abbrev pub stream_by : {P : Type 0} → XlsxCellReader P SheetCursor → Stream
+stream_by reader = stream reader.xml.now reader.sheet
 
--- the name of the reference to the package that a reader holds
+-- the name of the reference by which it holds the reader of its part
 abbrev pub reference_of : {P : Type 0} → XlsxCellReader P SheetCursor → GName
-reference_of reader = reader.package.ghost_name
+reference_of reader = reader.xml.ghost_name
 
 -- the area that the sheet tells of its data
 abbrev pub area_held : {P : Type 0} → XlsxCellReader P SheetCursor → Dimensions
@@ -72,7 +71,7 @@ pub record EntersCells (area : Dimensions) (old : Reading) (new : Stream) : Type
       ≡ Some (section_left new.base new.reading)
   pub dimensions : old.source.is_told ≡ true → AreDimensions (whole (events_of old)) area
 
--- when they can't be entered: nothing is said of the package then, which nobody holds
+-- when they can't be entered: nothing is said of the reader then, which nobody holds
 abbrev pub EnterCellsFails : Reading → XlsxError → Type 0
 EnterCellsFails old Io = ⊤
 EnterCellsFails old OutOfMemory = ⊤

@@ -4,8 +4,7 @@ use Rattle.std.specs.Prelude.{true, false, Option, Some, None, Ok, Err, string_b
 use Rattle.std.specs.List.{last_or}
 use Rattle.cell_refs.specs.declared.TheConstants.{MAX_ROWS, MAX_COLUMNS}
 use Rattle.part_events.specs.Event.{Tag, Event}
-use Rattle.part_events.specs.Package.{PackageState}
-use Rattle.part_events.specs.Reading.{Reading, reading, IsReading, ahead}
+use Rattle.part_events.specs.Reading.{Reading, IsReading, ahead}
 use Rattle.part_events.specs.Section.{Element}
 use Rattle.part_events.specs.Walk.{section_ahead, is_closed_ahead, behind_section, section_end}
 use Rattle.cell_data.specs.CellValue.{value_of_data_ref}
@@ -47,10 +46,10 @@ pub record Stream : Type 0 where
   pub is_done : Bool
   pub is_failed : Bool
 
--- a package and a cursor over its sheet as one stream of cells
-abbrev pub stream : PackageState → SheetCursor → Stream
-stream source sheet = record {
-  reading = reading source sheet.cursor;
+-- a reader and what is kept of its sheet as one stream of cells
+abbrev pub stream : Reading → SheetCursor → Stream
+stream reading sheet = record {
+  reading = reading;
   base = sheet.base;
   counters = sheet.counters;
   masters = sheet.masters;

@@ -130,7 +130,7 @@ fn start_of(
     })
 }
 
-/// Reads the cell at this position, at whose start the package stands, to its end.
+/// Reads the cell at this position, at whose start the reader stands, to its end.
 pub fn read_cell<P: Package>(
     xml: &mut XlReader<P>,
     asked: Asked<'_>,
@@ -140,13 +140,13 @@ pub fn read_cell<P: Package>(
     requires element { IsReadingElement xml.old }
     ensures reads { ReadsElement Io result xml.old xml.new }
     ensures cell { IfOk result (ReadsCell asked.entry pos xml.old masters.old masters.new) }
-    ensures err { IfErr result (λ error. (element : Element) → StandsAtElement element xml.old →
-        CellFails asked.entry.wants (grounds_of asked.entry.book) element.tag xml.old xml.new error) }
+    ensures err { let grounds = grounds_of asked.entry.book in
+        IfErr result (λ error. (element : Element) → StandsAtElement element xml.old →
+        CellFails asked.entry.wants grounds element.tag xml.old xml.new error) }
     ensures kind { IfErr result IsCellError }
     ensures plain { reads_children asked.entry.wants ≡ false → IfErr result IsStyledError }
 {
-    let alloc = xml.alloc();
-    let start = start_of(alloc, start_tag(xml), asked, pos)?;
+    let start = start_of(xml.alloc(), start_tag(xml), asked, pos)?;
     if !asked.wants.values && !asked.wants.formulas {
         skip_element_in(xml, Some("c"))?;
         return Ok(CellRead {

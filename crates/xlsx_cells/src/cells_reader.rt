@@ -1,7 +1,6 @@
 ghost use Rattle.std.specs.Prelude.{◌≡◌, map, string_bytes, true, false, IfOk, IfErr, IfSome};
 ghost use Rattle.std.specs.Prelude.{length, option_map, slice_get};
 ghost use Rattle.part_events.specs.Lending.{LentFails};
-ghost use Rattle.part_events.specs.Reader as xml_reader;
 ghost use Rattle.part_events.specs.Reading.{IsReading};
 ghost use Rattle.cell_styles.specs.StyleMap.{is_explicit};
 ghost use Rattle.xlsx_error.specs.declared.error.XlsxError.TheVariants.{Io};
@@ -22,7 +21,6 @@ use cell_data::{Cell, CellFormat, DataRef};
 use cell_refs::Dimensions;
 use cell_styles::Style;
 use part_events::{Package, XlReader};
-use std::alloc::Global;
 use xlsx_error::XlsxError;
 use xlsx_formulas::metadata_of;
 use xlsx_values::Book;
@@ -40,7 +38,7 @@ fn written_text(text: String) -> Option<String>
 /// Reads the cells of a sheet, in the order of its data (ECMA-376 part 1, 18.3.1.80).
 ///
 /// What it keeps beside what it borrows is a type parameter, so that a caller knows what became of
-/// the package once the reader is gone.
+/// the reader of the part once the reader of its cells is gone.
 ///
 /// # Examples
 ///
@@ -53,7 +51,7 @@ fn written_text(text: String) -> Option<String>
 /// }
 /// ```
 pub struct XlsxCellReader<'a, P: Package, S: Drop = SheetCursor> {
-    package: &'a mut P,
+    xml: &'a mut XlReader<P>,
     strings: &'a [String],
     formats: &'a [CellFormat],
     styles: &'a [Style],
@@ -64,10 +62,10 @@ pub struct XlsxCellReader<'a, P: Package, S: Drop = SheetCursor> {
 
 impl<P: Package, S: Drop> Drop for XlsxCellReader<'_, P, S> {
     fn drop(self)
-        ensures { self.exit.0.now ≡ self.entry.package.now }
+        ensures { self.exit.0.now ≡ self.entry.xml.now }
     {
         let XlsxCellReader {
-            package: _,
+            xml: _,
             strings: _,
             formats: _,
             styles: _,
@@ -99,34 +97,39 @@ impl<'a, P: Package> XlsxCellReader<'a, P> {
     /// with the local name of the part's first start that is no `dimension`, and XmlEof where there
     /// is none; where the nesting breaks before, it is Xml with the number of the end.
     pub fn new(
-        alloc: Global,
-        xml: XlReader<'a, P>,
+        xml: &'a mut XlReader<P>,
         strings: &'a [String],
         formats: &'a [CellFormat],
         styles: &'a [Style],
         is_1904: bool,
     ) -> Result<XlsxCellReader<'a, P>, XlsxError>
-        requires reading { IsReading (xml_reader.reading_by P.state xml) }
-        requires first { (xml_reader.reading_by P.state xml).at ≡ 0 }
+        requires reading { IsReading xml.old }
+        requires first { xml.old.at ≡ 0 }
         ensures same_reference { IfOk result (λ reader.
-            reference_of reader ≡ xml_reader.held_package xml.entry) }
+            reference_of reader ≡ xml.entry.ghost_name) }
         ensures grounds { IfOk result (λ reader. grounds_by reader ≡ (record {
           strings = map string_bytes strings.now;
           formats = formats.now;
           is_1904 = is_1904;
         })) }
         ensures styles { IfOk result (λ reader. styles_held reader ≡ styles.now) }
-        ensures enters { IfOk result (λ reader. EntersCells (area_held reader)
-            (xml_reader.reading_by P.state xml.entry) (stream_by P.state reader)) }
-        ensures err { IfErr result (EnterCellsFails (xml_reader.reading_by P.state xml.entry)) }
-        ensures fault { IfErr result (LentFails Io P.state (P.state xml.entry.package.now)) }
+        ensures enters { IfOk result (λ reader.
+            EntersCells (area_held reader) xml.old (stream_by reader)) }
+        ensures err { IfErr result (EnterCellsFails xml.old) }
+        ensures fault { IfErr result (LentFails Io P.state xml.old.source) }
         ensures kind { IfErr result IsHeadError }
     {
-        let (package, mut cursor) = xml.into_parts();
-        let dimensions = enter_data(alloc, package, &mut cursor)?;
-        let sheet = SheetCursor::new(alloc, cursor);
+        let dimensions = match enter_data(xml) {
+            Ok(dimensions) => dimensions,
+            Err(error) => {
+                // Where it is a fault, this package is the one that met it.
+                xml.holds_package();
+                return Err(error);
+            }
+        };
+        let sheet = SheetCursor::new(xml);
         Ok(XlsxCellReader {
-            package,
+            xml,
             strings,
             formats,
             styles,
@@ -138,7 +141,7 @@ impl<'a, P: Package> XlsxCellReader<'a, P> {
 
     /// A reader of the cells of a sheet with these dimensions, that goes on where reading stands.
     pub fn resume(
-        package: &'a mut P,
+        xml: &'a mut XlReader<P>,
         strings: &'a [String],
         formats: &'a [CellFormat],
         styles: &'a [Style],
@@ -146,9 +149,9 @@ impl<'a, P: Package> XlsxCellReader<'a, P> {
         sheet: SheetCursor,
         dimensions: Dimensions,
     ) -> XlsxCellReader<'a, P>
-        requires { IsStreaming (stream xml.old.source sheet) }
-        ensures same_reference { reference_of result ≡ «package».entry.ghost_name }
-        ensures same { result.package.now ≡ «package».old }
+        requires { IsStreaming (stream xml.old sheet) }
+        ensures same_reference { reference_of result ≡ xml.entry.ghost_name }
+        ensures same { result.xml.now ≡ xml.old }
         ensures grounds { grounds_by result ≡ (record {
           strings = map string_bytes strings.now;
           formats = formats.now;
@@ -156,10 +159,10 @@ impl<'a, P: Package> XlsxCellReader<'a, P> {
         }) }
         ensures styles { styles_held result ≡ styles.now }
         ensures dimensions { area_held result ≡ dimensions }
-        ensures stream { stream_by P.state result ≡ stream (P.state «package».old) sheet }
+        ensures stream { stream_by result ≡ stream xml.old sheet }
     {
         XlsxCellReader {
-            package,
+            xml,
             strings,
             formats,
             styles,
@@ -219,9 +222,9 @@ impl<'a, P: Package> XlsxCellReader<'a, P> {
 
     /// How often a call of the package failed.
     pub fn faults(&self) -> u64
-        ensures { result ≡ (stream_by P.state self.now).reading.source.faults }
+        ensures { result ≡ (stream_by self.now).reading.source.faults }
     {
-        self.package.faults()
+        self.xml.faults()
     }
 
     /// Takes the next cell (18.3.1.4), and answers its position, counted from 0, and its value. A
@@ -234,19 +237,17 @@ impl<'a, P: Package> XlsxCellReader<'a, P> {
     /// Unrecognized or Unexpected, by its type. Where the part ends before the data do, the refusal
     /// is XmlEof with the name of an open element, or Xml. After a refusal it is Failed.
     pub fn next_cell(&mut self) -> Result<Option<Cell<DataRef>>, XlsxError>
-        requires { IsStreaming (stream_by P.state self.old) }
+        requires { IsStreaming (stream_by self.old) }
         ensures hold { KeepsHold self.old self.new }
-        ensures step { TakesStep (λ own. own.pos) result (stream_by P.state self.old)
-            (stream_by P.state self.new) }
+        ensures step { TakesStep (λ own. own.pos) result (stream_by self.old) (stream_by self.new) }
         ensures takes { TakesNext NoCell (λ earlier. IsValued (grounds_by self.old)) result
-            (stream_by P.state self.old) (stream_by P.state self.new) }
-        ensures err { let old = stream_by P.state self.old in
-            let new = stream_by P.state self.new in
-            IfErr result (NextCellFails values_alone (grounds_by self.old) old new.reading) }
+            (stream_by self.old) (stream_by self.new) }
+        ensures err { IfErr result (NextCellFails values_alone (grounds_by self.old)
+            (stream_by self.old) (stream_by self.new).reading) }
         ensures kind { IfErr result IsStreamError }
     {
         let asked = self.asked(Wants::VALUES, false);
-        let Some(read) = self.sheet.next(self.package, asked)? else {
+        let Some(read) = self.sheet.next(self.xml, asked)? else {
             return Ok(None);
         };
         let CellRead { pos, value, .. } = read;
@@ -261,19 +262,17 @@ impl<'a, P: Package> XlsxCellReader<'a, P> {
     /// read. An `si` that is missing or no number is refused as Unexpected, the `ref` of a master
     /// by the fault of its text. After a refusal the refusal is Failed.
     pub fn next_formula(&mut self) -> Result<Option<Cell<String>>, XlsxError>
-        requires { IsStreaming (stream_by P.state self.old) }
+        requires { IsStreaming (stream_by self.old) }
         ensures hold { KeepsHold self.old self.new }
-        ensures step { TakesStep (λ own. own.pos) result (stream_by P.state self.old)
-            (stream_by P.state self.new) }
+        ensures step { TakesStep (λ own. own.pos) result (stream_by self.old) (stream_by self.new) }
         ensures takes { TakesNext NoCell IsFormula result
-            (stream_by P.state self.old) (stream_by P.state self.new) }
-        ensures err { let old = stream_by P.state self.old in
-            let new = stream_by P.state self.new in
-            IfErr result (NextCellFails formulas_alone (grounds_by self.old) old new.reading) }
+            (stream_by self.old) (stream_by self.new) }
+        ensures err { IfErr result (NextCellFails formulas_alone (grounds_by self.old)
+            (stream_by self.old) (stream_by self.new).reading) }
         ensures kind { IfErr result IsStreamError }
     {
         let asked = self.asked(Wants::FORMULAS, true);
-        let Some(found) = self.sheet.next_text(self.package, asked)? else {
+        let Some(found) = self.sheet.next_text(self.xml, asked)? else {
             return Ok(None);
         };
         let CellText { pos, text, .. } = found;
@@ -285,19 +284,18 @@ impl<'a, P: Package> XlsxCellReader<'a, P> {
     ///
     /// It is refused as `next_cell` is.
     pub fn next_cell_with_style_id(&mut self) -> Result<Option<(Cell<DataRef>, usize)>, XlsxError>
-        requires { IsStreaming (stream_by P.state self.old) }
+        requires { IsStreaming (stream_by self.old) }
         ensures hold { KeepsHold self.old self.new }
-        ensures step { TakesStep (λ own. own.0.pos) result (stream_by P.state self.old)
-            (stream_by P.state self.new) }
+        ensures step { TakesStep (λ own. own.0.pos) result (stream_by self.old)
+            (stream_by self.new) }
         ensures takes { TakesNext NoCell (λ earlier. IsValuedStyle (grounds_by self.old)) result
-            (stream_by P.state self.old) (stream_by P.state self.new) }
-        ensures err { let old = stream_by P.state self.old in
-            let new = stream_by P.state self.new in
-            IfErr result (NextCellFails values_and_styles (grounds_by self.old) old new.reading) }
+            (stream_by self.old) (stream_by self.new) }
+        ensures err { IfErr result (NextCellFails values_and_styles (grounds_by self.old)
+            (stream_by self.old) (stream_by self.new).reading) }
         ensures kind { IfErr result IsStreamError }
     {
         let asked = self.asked(Wants::VALUES_AND_STYLES, false);
-        let Some(read) = self.sheet.next(self.package, asked)? else {
+        let Some(read) = self.sheet.next(self.xml, asked)? else {
             return Ok(None);
         };
         let CellRead {
@@ -314,19 +312,17 @@ impl<'a, P: Package> XlsxCellReader<'a, P> {
     ///
     /// It is refused as `next_cell` and `next_formula` are.
     pub fn next_cell_with_formula(&mut self) -> Result<Option<XlsxCellFormula>, XlsxError>
-        requires { IsStreaming (stream_by P.state self.old) }
+        requires { IsStreaming (stream_by self.old) }
         ensures hold { KeepsHold self.old self.new }
-        ensures step { TakesStep (λ own. own.pos) result (stream_by P.state self.old)
-            (stream_by P.state self.new) }
+        ensures step { TakesStep (λ own. own.pos) result (stream_by self.old) (stream_by self.new) }
         ensures takes { TakesNext NoCell (IsValuedFormula (grounds_by self.old)) result
-            (stream_by P.state self.old) (stream_by P.state self.new) }
-        ensures err { let old = stream_by P.state self.old in
-            let new = stream_by P.state self.new in
-            IfErr result (NextCellFails values_and_formulas (grounds_by self.old) old new.reading) }
+            (stream_by self.old) (stream_by self.new) }
+        ensures err { IfErr result (NextCellFails values_and_formulas (grounds_by self.old)
+            (stream_by self.old) (stream_by self.new).reading) }
         ensures kind { IfErr result IsStreamError }
     {
         let asked = self.asked(Wants::VALUES_AND_FORMULAS, true);
-        let Some(found) = self.sheet.next_text(self.package, asked)? else {
+        let Some(found) = self.sheet.next_text(self.xml, asked)? else {
             return Ok(None);
         };
         let CellText {
@@ -350,19 +346,17 @@ impl<'a, P: Package> XlsxCellReader<'a, P> {
     pub fn next_cell_with_formula_metadata(
         &mut self,
     ) -> Result<Option<XlsxCellFormulaMetadataRecord>, XlsxError>
-        requires { IsStreaming (stream_by P.state self.old) }
+        requires { IsStreaming (stream_by self.old) }
         ensures hold { KeepsHold self.old self.new }
-        ensures step { TakesStep (λ own. own.pos) result (stream_by P.state self.old)
-            (stream_by P.state self.new) }
+        ensures step { TakesStep (λ own. own.pos) result (stream_by self.old) (stream_by self.new) }
         ensures takes { TakesNext NoCell (λ earlier. IsValuedMetadata (grounds_by self.old)) result
-            (stream_by P.state self.old) (stream_by P.state self.new) }
-        ensures err { let old = stream_by P.state self.old in
-            let new = stream_by P.state self.new in
-            IfErr result (NextCellFails values_and_formulas (grounds_by self.old) old new.reading) }
+            (stream_by self.old) (stream_by self.new) }
+        ensures err { IfErr result (NextCellFails values_and_formulas (grounds_by self.old)
+            (stream_by self.old) (stream_by self.new).reading) }
         ensures kind { IfErr result IsStreamError }
     {
         let asked = self.asked(Wants::VALUES_AND_FORMULAS, false);
-        let Some(read) = self.sheet.next(self.package, asked)? else {
+        let Some(read) = self.sheet.next(self.xml, asked)? else {
             return Ok(None);
         };
         let CellRead {
@@ -388,22 +382,19 @@ impl<'a, P: Package> XlsxCellReader<'a, P> {
     /// refused in it too, and a part that ends there as XmlEof. After a refusal the refusal is
     /// Failed.
     pub fn next_style_id(&mut self) -> Result<Option<(u32, u32, usize)>, XlsxError>
-        requires { IsStreaming (stream_by P.state self.old) }
+        requires { IsStreaming (stream_by self.old) }
         ensures hold { KeepsHold self.old self.new }
-        ensures step { TakesStep styled_position result (stream_by P.state self.old)
-            (stream_by P.state self.new) }
+        ensures step { TakesStep styled_position result (stream_by self.old) (stream_by self.new) }
         ensures counts { let count = length (styles_held self.old) in
             IfOk result (λ found. IfSome found (λ own. is_explicit count own ≡ true)) }
         ensures takes { let count = length (styles_held self.old) in
             TakesNext (IsUnstyled count) (λ earlier. IsStyled) result
-            (stream_by P.state self.old) (stream_by P.state self.new) }
-        ensures err { let old = stream_by P.state self.old in
-            let new = stream_by P.state self.new in
-            IfErr result (StyledFails (length (styles_held self.old)) old new.reading) }
+            (stream_by self.old) (stream_by self.new) }
+        ensures err { IfErr result (StyledFails (length (styles_held self.old))
+            (stream_by self.old) (stream_by self.new).reading) }
         ensures kind { IfErr result IsStyledStreamError }
     {
         let book = self.book();
-        self.sheet
-            .next_styled(self.package, book, self.styles.len())
+        self.sheet.next_styled(self.xml, book, self.styles.len())
     }
 }

@@ -126,7 +126,7 @@ fn child_name(tag: StartTag<'_>) -> ChildName
     }
 }
 
-/// Reads the `f` at whose start the package stands, to its end, and keeps its formula where it is
+/// Reads the `f` at whose start the reader stands, to its end, and keeps its formula where it is
 /// wanted.
 fn keep_formula<P: Package>(
     xml: &mut XlReader<P>,
@@ -136,11 +136,10 @@ fn keep_formula<P: Package>(
 ) -> Result<(), XlsxError>
     requires element { IsReadingElement xml.old }
     ensures reads { ReadsElement Io result xml.old xml.new }
-    ensures formula { let before : LastStep = record
-        { masters = masters.old; last = last_seen last.old } in
+    ensures formula { xml.old.source.is_told ≡ true → asked.entry.wants.formulas ≡ true →
+        let before : LastStep = record { masters = masters.old; last = last_seen last.old } in
         let after : LastStep = record { masters = masters.new; last = last_seen last.new } in
-        xml.old.source.is_told ≡ true → asked.entry.wants.formulas ≡ true → (element : Element) →
-        StandsAtElement element xml.old → IsNamedAs Formula element.tag →
+        (element : Element) → StandsAtElement element xml.old → IsNamedAs Formula element.tag →
         OnOk result (ReadsFormula asked.entry.keeps_masters element.tag element.inside before
         after) }
     ensures same { asked.entry.wants.formulas ≡ false → OnOk result (masters.new ≡ masters.old) }
@@ -161,7 +160,7 @@ fn keep_formula<P: Package>(
     Ok(())
 }
 
-/// Reads the `v` or the `is` at whose start the package stands, to its end, and keeps its value
+/// Reads the `v` or the `is` at whose start the reader stands, to its end, and keeps its value
 /// where it is wanted and counts.
 fn keep_value<P: Package>(
     xml: &mut XlReader<P>,
@@ -173,9 +172,9 @@ fn keep_value<P: Package>(
     requires element { IsReadingElement xml.old }
     ensures reads { ReadsElement Io result xml.old xml.new }
     ensures value { xml.old.source.is_told ≡ true → asked.entry.wants.values ≡ true →
-        (element : Element) →
-        StandsAtElement element xml.old → IsNamedAs (value_name is_inline) element.tag → OnOk result
-        (or_earlier (value_kept value.old) (child_said asked.entry start.now element)
+        (element : Element) → StandsAtElement element xml.old →
+        IsNamedAs (value_name is_inline) element.tag →
+        OnOk result (or_earlier (value_kept value.old) (child_said asked.entry start.now element)
         ≡ Ok (value_kept value.new)) }
     ensures unvalued { asked.entry.wants.values ≡ false → OnOk result (value.new ≡ value.old) }
     ensures err { IfErr result (λ error. (element : Element) → StandsAtElement element xml.old →
@@ -197,7 +196,7 @@ fn keep_value<P: Package>(
     Ok(())
 }
 
-/// Reads the child of a cell at whose start the package stands, to its end.
+/// Reads the child of a cell at whose start the reader stands, to its end.
 fn read_child<P: Package>(
     xml: &mut XlReader<P>,
     asked: Asked<'_>,
@@ -231,7 +230,7 @@ fn read_child<P: Package>(
     }
 }
 
-/// Reads what stands in the cell at whose start the package stands, to its end.
+/// Reads what stands in the cell at whose start the reader stands, to its end.
 #[tactic(auto, using(crate::proofs::ChildrenRead::written_none))]
 pub fn read_children<P: Package>(
     xml: &mut XlReader<P>,

@@ -2,7 +2,7 @@
 //!
 //! Rooms: `head` (what stands before a sheet's data), `counters` (rows and columns), `finding` (the
 //! next cell), `children` (what stands in a cell), `cell_read` (a cell, whole), `sheet_cursor`
-//! (where reading stands in the data), `sheet_cells` (all cells).
+//! (what is kept of the data), `sheet_cells` (all cells).
 //!
 //! **Marks.** Of a sheet's data only cells count, and the starts and ends of rows outside them.
 //! `marks` cuts the events of the data into these, and what a sheet says is said over marks: which
@@ -15,10 +15,10 @@
 //! the limits of a sheet.
 //!
 //! **What is said of a step holds behind anything.** `SheetCursor::next` is told for every list of
-//! marks and every list of formulas behind which the cursor stands (`StandsBehind`), in place of
+//! marks and every list of formulas behind which reading stands (`StandsBehind`), in place of
 //! keeping these lists as ghosts. At the start of the data both are empty, and each step says
-//! behind which lists it leaves the cursor. So a step is a fact by itself, and a loop over steps
-//! gives the whole by one induction.
+//! behind which lists it leaves reading. So a step is a fact by itself, and a loop over steps gives
+//! the whole by one induction.
 //!
 //! **One pass for what is wanted.** `Wants` says which of values, formulas and style ids are read.
 //! What isn't wanted is skipped, refuses nothing, and its clauses have as premise that it was
@@ -32,7 +32,7 @@
 //! none written out needs no masters. What any of the ten calls does, whatever it takes, is one
 //! record (`TakesStep`), and what it takes of a cell one definition with the call's fact as its
 //! argument (`TakesNext`), so that mixing calls is said by each call's clause alone: where one
-//! leaves the cursor is what the next asks for.
+//! leaves reading is what the next asks for.
 //!
 //! **Style ids.** `SheetCursor::next_styled` is a loop over `next` with style ids alone, up to the
 //! next id that counts; what it passes are rows and unstyled cells (`IsUnstyled`). `collect` keeps
@@ -50,9 +50,9 @@
 //!
 //! The lemmas `SoundSheet` says that a sound sheet has no cause of either.
 //!
-//! - A cursor knows whether the data have ended and whether a call was refused. `cells_reader` is
-//! `XlsxCellReader`, which holds one beside a package that it is lent: the public way to take cells
-//! one by one. `cell_records` has what its calls answer.
+//! - A `SheetCursor` knows whether the data have ended and whether a call was refused.
+//! `cells_reader` is `XlsxCellReader`, which holds one beside the reader of the part that it is
+//! lent: the public way to take cells one by one. `cell_records` has what its calls answer.
 #![tactic(auto)]
 
 mod cell_read;

@@ -126,25 +126,19 @@ pub fn collect<P: Package>(
     sheet: &mut SheetCursor,
     asked: Asked<'_>,
 ) -> Result<SheetCells, XlsxError>
-    requires going { IsGoing (stream xml.old.source sheet.old) }
-    requires fresh { StandsBehind [] [] (stream xml.old.source sheet.old) }
-    ensures reads { let old = stream xml.old.source sheet.old in
-        let new = stream xml.new.source sheet.new in
-        ReadsPart Io result old.reading new.reading }
-    ensures ends { let old = stream xml.old.source sheet.old in
-        let new = stream xml.new.source sheet.new in
-        old.reading.source.is_told ≡ true →
-        OnOk result (ReachesEnd old.base old.reading new.reading) }
-    ensures cells { let old = stream xml.old.source sheet.old in
-        IfOk result (CollectsCells asked.entry old) }
-    ensures err { let old = stream xml.old.source sheet.old in
-        let new = stream xml.new.source sheet.new in
-        IfErr result (DataFails asked.entry.wants (grounds_of asked.entry.book) old new) }
+    requires going { IsGoing (stream xml.old sheet.old) }
+    requires fresh { StandsBehind [] [] (stream xml.old sheet.old) }
+    ensures reads { ReadsPart Io result xml.old xml.new }
+    ensures ends { let base = (stream xml.old sheet.old).base in
+        xml.old.source.is_told ≡ true → OnOk result (ReachesEnd base xml.old xml.new) }
+    ensures cells { IfOk result (CollectsCells asked.entry (stream xml.old sheet.old)) }
+    ensures err { let grounds = grounds_of asked.entry.book in
+        IfErr result (DataFails asked.entry.wants grounds
+        (stream xml.old sheet.old) (stream xml.new sheet.new)) }
     ensures kind { IfErr result IsCellError }
     ensures plain { reads_children asked.entry.wants ≡ false → IfErr result IsStyledError }
 {
-    let alloc = xml.alloc();
-    let mut cells = SheetCells::new(alloc);
+    let mut cells = SheetCells::new(xml.alloc());
     'cells: while let Some(found) = sheet.next_with_formula(xml, asked)? {
         let CellWithFormula {
             pos,

@@ -1,11 +1,10 @@
-ghost use Rattle.std.specs.Prelude.{◌≡◌, [], length, true, false, None, IfOk, IfErr};
-ghost use Rattle.std.specs.Prelude.{IfSome, IfNone};
-ghost use Rattle.part_events.specs.Package.{UsesPackage, LeavesPackage, part_of, event_count};
-ghost use Rattle.part_events.specs.Package.{CountsUp};
+ghost use Rattle.std.specs.Prelude.{◌≡◌, [], length, true, false, IfOk, IfErr, IfSome, IfNone};
+ghost use Rattle.part_events.specs.Package.{LeavesPackage, CountsUp, event_count};
 ghost use Rattle.xlsx_cells.specs.Head.{IsHeadError, IfNoWorksheet};
 ghost use Rattle.xlsx_cells.specs.SheetPart.{EntersData, OpenDataFails};
 ghost use Rattle.cell_styles.specs.StyleMap.{is_explicit};
 ghost use Rattle.xlsx_error.specs.declared.error.XlsxError.TheVariants.{Io};
+ghost use Rattle.xlsx_sections.specs.PartSection.{HasNoPart};
 ghost use Rattle.xlsx_values.specs.Book.{grounds_of};
 ghost use Rattle.xlsx_formulas.specs.Kept.{AreMasters};
 ghost use Rattle.xlsx_cells.specs.Counting.{AreKept};
@@ -25,31 +24,30 @@ use crate::finding::find_cell;
 use crate::head::enter_data;
 use cell_refs::Dimensions;
 use part_events::{Package, XlReader};
-use std::alloc::Global;
 use xlsx_error::XlsxError;
 use xlsx_formulas::Masters;
 use xlsx_values::Book;
 
-/// Where reading stands in a sheet's data: behind the cells that were taken. After the end of the
-/// data each call answers None, and after a refusal `Failed`.
+/// What reading keeps of a sheet's data beside the reader that stands in them: what counts of the
+/// cells that were taken. After the end of the data each call answers None, and after a refusal
+/// `Failed`.
 ///
 /// # Examples
 ///
 /// How many cells the part at a path has:
 ///
 /// ```
-/// let Some((sheet, _)) = open_data(alloc, package, path)? else {
+/// let Some((sheet, _)) = open_data(xml, path)? else {
 ///     return Ok(0);
 /// };
 /// let mut sheet = sheet;
 /// let mut count = 0u64;
-/// 'cells: while let Some(_) = sheet.next(package, asked)? {
+/// 'cells: while let Some(_) = sheet.next(xml, asked)? {
 ///     count = count.saturating_add(1);
 /// }
 /// ```
 #[derive(Drop)]
 pub struct SheetCursor {
-    cursor: Cursor,
     base: usize,
     counters: Counters,
     masters: Masters,
@@ -59,21 +57,18 @@ pub struct SheetCursor {
 }
 
 impl SheetCursor {
-    /// Reading that stands behind the start of a sheet's data.
-    pub(crate) fn new(alloc: Global, cursor: Cursor) -> SheetCursor
-        ensures cursor { result.cursor ≡ cursor }
-        ensures base { result.base ≡ length (open_elements cursor) }
+    /// What is kept where the reader stands behind the start of a sheet's data.
+    pub(crate) fn new<P: Package>(xml: &XlReader<P>) -> SheetCursor
+        ensures base { result.base ≡ length xml.now.names }
         ensures counters { AreKept [] result.counters }
         ensures masters { AreMasters [] result.masters }
         ensures done { result.done ≡ false }
         ensures failed { result.failed ≡ false }
     {
-        let base = cursor.depth();
         SheetCursor {
-            cursor,
-            base,
+            base: xml.depth(),
             counters: Counters::new(),
-            masters: Masters::new(alloc),
+            masters: Masters::new(xml.alloc()),
             done: false,
             failed: false,
         }
@@ -96,16 +91,16 @@ impl SheetCursor {
         xml: &mut XlReader<P>,
         asked: Asked<'_>,
     ) -> Result<Option<CellRead>, XlsxError>
-        requires { IsStreaming (stream xml.old.source self.old) }
+        requires { IsStreaming (stream xml.old self.old) }
         ensures step { TakesStep (λ read. read.pos) result
-            (stream xml.old.source self.old) (stream xml.new.source self.new) }
+            (stream xml.old self.old) (stream xml.new self.new) }
         ensures takes { let wants = asked.entry.wants in
             let fact = IsRead wants asked.entry.keeps_masters (grounds_of asked.entry.book) in
             TakesNext NoCell (λ earlier. fact) result
-            (stream xml.old.source self.old) (stream xml.new.source self.new) }
+            (stream xml.old self.old) (stream xml.new self.new) }
         ensures unwanted { IfOk result (λ found. IfSome found (LacksUnwanted asked.entry.wants)) }
         ensures err { IfErr result (AskedStepFails asked.entry
-            (stream xml.old.source self.old) (stream xml.new.source self.new)) }
+            (stream xml.old self.old) (stream xml.new self.new)) }
         ensures kind { IfErr result IsStreamError }
         ensures plain { reads_children asked.entry.wants ≡ false →
             IfErr result IsStyledStreamError }
@@ -117,15 +112,13 @@ impl SheetCursor {
             return Ok(None);
         }
         self.failed = true;
-        let alloc = self.xml.alloc();
-        let found = find_cell(xml, &mut self.cursor, self.base, &mut self.counters)?;
+        let found = find_cell(xml, self.base, &mut self.counters)?;
         let Some(pos) = found else {
             self.done = true;
             self.failed = false;
             return Ok(None);
         };
-        let masters = &mut self.masters;
-        let read = read_cell(xml, &mut self.cursor, asked, pos, masters)?;
+        let read = read_cell(xml, asked, pos, &mut self.masters)?;
         self.failed = false;
         Ok(Some(read))
     }
@@ -137,16 +130,16 @@ impl SheetCursor {
         xml: &mut XlReader<P>,
         asked: Asked<'_>,
     ) -> Result<Option<CellWithFormula>, XlsxError>
-        requires { IsStreaming (stream xml.old.source self.old) }
+        requires { IsStreaming (stream xml.old self.old) }
         ensures step { TakesStep (λ own. own.pos) result
-            (stream xml.old.source self.old) (stream xml.new.source self.new) }
+            (stream xml.old self.old) (stream xml.new self.new) }
         ensures takes { let fact = IsWritten asked.entry.wants (grounds_of asked.entry.book) in
             TakesNext NoCell (λ earlier own. fact earlier (seen_with_formula own)) result
-            (stream xml.old.source self.old) (stream xml.new.source self.new) }
+            (stream xml.old self.old) (stream xml.new self.new) }
         ensures unwanted { IfOk result (λ found.
             IfSome found (λ own. LacksUnwantedText asked.entry.wants (seen_with_formula own))) }
         ensures err { IfErr result (AskedStepFails asked.entry
-            (stream xml.old.source self.old) (stream xml.new.source self.new)) }
+            (stream xml.old self.old) (stream xml.new self.new)) }
         ensures kind { IfErr result IsStreamError }
         ensures plain { reads_children asked.entry.wants ≡ false →
             IfErr result IsStyledStreamError }
@@ -163,8 +156,7 @@ impl SheetCursor {
             style_id,
         } = read;
         self.failed = true;
-        let alloc = self.xml.alloc();
-        let formula = self.masters.cell_formula(alloc, formula, pos)?;
+        let formula = self.masters.cell_formula(xml.alloc(), formula, pos)?;
         self.failed = false;
         Ok(Some(CellWithFormula {
             pos,
@@ -180,16 +172,16 @@ impl SheetCursor {
         xml: &mut XlReader<P>,
         asked: Asked<'_>,
     ) -> Result<Option<CellText>, XlsxError>
-        requires { IsStreaming (stream xml.old.source self.old) }
+        requires { IsStreaming (stream xml.old self.old) }
         ensures step { TakesStep (λ own. own.pos) result
-            (stream xml.old.source self.old) (stream xml.new.source self.new) }
+            (stream xml.old self.old) (stream xml.new self.new) }
         ensures takes { let fact = IsWritten asked.entry.wants (grounds_of asked.entry.book) in
             TakesNext NoCell (λ earlier own. fact earlier (seen_with_text own)) result
-            (stream xml.old.source self.old) (stream xml.new.source self.new) }
+            (stream xml.old self.old) (stream xml.new self.new) }
         ensures unwanted { IfOk result (λ found.
             IfSome found (λ own. LacksUnwantedText asked.entry.wants (seen_with_text own))) }
         ensures err { IfErr result (AskedStepFails asked.entry
-            (stream xml.old.source self.old) (stream xml.new.source self.new)) }
+            (stream xml.old self.old) (stream xml.new self.new)) }
         ensures kind { IfErr result IsStreamError }
         ensures plain { reads_children asked.entry.wants ≡ false →
             IfErr result IsStyledStreamError }
@@ -204,7 +196,7 @@ impl SheetCursor {
             style_id,
         } = found;
         self.failed = true;
-        let text = formula.into_text(self.xml.alloc())?;
+        let text = formula.into_text(xml.alloc())?;
         self.failed = false;
         Ok(Some(CellText {
             pos,
@@ -229,16 +221,14 @@ impl SheetCursor {
         book: Book<'_>,
         style_count: usize,
     ) -> Result<Option<(u32, u32, usize)>, XlsxError>
-        requires { IsStreaming (stream xml.old.source self.old) }
+        requires { IsStreaming (stream xml.old self.old) }
         ensures step { TakesStep styled_position result
-            (stream xml.old.source self.old) (stream xml.new.source self.new) }
+            (stream xml.old self.old) (stream xml.new self.new) }
         ensures counts { IfOk result (λ found.
             IfSome found (λ own. is_explicit style_count own ≡ true)) }
         ensures takes { TakesNext (IsUnstyled style_count) (λ earlier. IsStyled) result
-            (stream xml.old.source self.old) (stream xml.new.source self.new) }
-        ensures err { let old = stream xml.old.source self.old in
-            let new = stream xml.new.source self.new in
-            IfErr result (StyledFails style_count old new.reading) }
+            (stream xml.old self.old) (stream xml.new self.new) }
+        ensures err { IfErr result (StyledFails style_count (stream xml.old self.old) xml.new) }
         ensures kind { IfErr result IsStyledStreamError }
     {
         if self.failed {
@@ -263,21 +253,19 @@ impl SheetCursor {
     }
 }
 
-/// Opens the part of a sheet at this path, and reads on behind the start of its data. Answers where
-/// reading stands then, and the sheet's dimensions; None where there is no such part. The head of
+/// Opens the part of a sheet at this path, and reads on behind the start of its data. Answers what
+/// is kept of them there, and the sheet's dimensions; None where there is no such part. The head of
 /// the part is refused as by `enter_data`.
 pub fn open_data<P: Package>(
     xml: &mut XlReader<P>,
     path: &str,
 ) -> Result<Option<(SheetCursor, Dimensions)>, XlsxError>
-    ensures absent { let old = xml.old.source in
-        IfOk result (λ found. IfNone found (
-        UsesPackage 0 old xml.new.source × (old.is_told ≡ true →
-        part_of old.parts path.now ≡ None))) }
+    ensures absent { IfOk result (λ found. IfNone found
+        (HasNoPart path.now xml.old.source xml.new.source)) }
     ensures enters { IfOk result (λ found. IfSome found (λ entered.
-        EntersData path.now entered.1 xml.old.source (stream xml.new.source entered.0))) }
-    ensures leaves { IfErr result
-        (LeavesPackage (event_count xml.old.source.parts path.now) Io xml.old.source xml.new.source) }
+        EntersData path.now entered.1 xml.old.source (stream xml.new entered.0))) }
+    ensures leaves { let count = event_count xml.old.source.parts path.now in
+        IfErr result (LeavesPackage count Io xml.old.source xml.new.source) }
     ensures err { IfErr result (OpenDataFails path.now xml.old.source xml.new.source) }
     ensures lacks { let old = xml.old.source in
         let all = event_count old.parts path.now in
@@ -285,12 +273,10 @@ pub fn open_data<P: Package>(
         IfErr result (IfNoWorksheet (CountsUp all old.taken xml.new.source.taken)) }
     ensures kind { IfErr result IsHeadError }
 {
-    let alloc = xml.alloc();
     if !xml.open(path)? {
         return Ok(None);
     }
-    let mut cursor = Cursor::new(xml);
     let dimensions = enter_data(xml)?;
-    let sheet = SheetCursor::new(alloc, cursor);
+    let sheet = SheetCursor::new(xml);
     Ok(Some((sheet, dimensions)))
 }

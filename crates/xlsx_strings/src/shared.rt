@@ -63,7 +63,8 @@ pub fn read_shared_strings<P: Package>(
     xml: &mut XlReader<P>,
     path: &str,
 ) -> Result<Vec<String>, XlsxError>
-    ensures uses { Uses (event_count xml.old.source.parts path.now) Io result xml.old.source xml.new.source }
+    ensures uses { Uses (event_count xml.old.source.parts path.now) Io result
+        xml.old.source xml.new.source }
     ensures to_end { ReadsToEnd (codes "sst") path.now result xml.old.source xml.new.source }
     ensures strings { xml.old.source.is_told ≡ true → IfOk result (λ strings.
         HasStrings xml.old.source.parts path.now (map string_bytes strings.items)) }

@@ -29,8 +29,8 @@ fn read_first<P: Package>(
 ) -> Result<DataRef, XlsxError>
     requires element { IsReadingElement xml.old }
     ensures reads { ReadsElement Io result xml.old xml.new }
-    ensures value {
-        let answer = first_event_value (grounds_of book.entry) format (kind_of typ.now) in
+    ensures value { let grounds = grounds_of book.entry in
+        let answer = first_event_value grounds format (kind_of typ.now) in
         xml.old.source.is_told ≡ true → IfOk result (λ own.
         answer (content 0 (ahead xml.old)) ≡ Ok (value_of_data_ref own)) }
     ensures err { let answer = first_event_value (grounds_of book.entry) format (kind_of typ.now) in

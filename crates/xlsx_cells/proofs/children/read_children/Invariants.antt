@@ -1,5 +1,4 @@
 use Rattle.std.proofs.Common.{◌≡◌, true, false, length, None}
-use Rattle.part_events.specs.Reading.{reading, open_elements}
 use Rattle.part_events.specs.Section.{children, is_any}
 use Rattle.part_events.specs.Walk.{section_ahead}
 use Rattle.xlsx_sections.specs.Answers.{or_earlier, last_answer}
@@ -14,12 +13,12 @@ use Rattle.xlsx_cells.proofs.children.read_children.Given as goal
 
 abbrev pub invariant-children : goal.invariant-children
 invariant-children g l =
-    let old = reading (g.P.Package.state l.fn.«package») l.fn.cursor in
-    let now = reading (g.P.Package.state l.«package») l.cursor in
+    let old = l.fn.xml in
+    let now = l.xml in
     let grounds = grounds_of l.asked.book in
     let kind = kind_of l.start.typ in
     record {
-      base : l.base ≡ length (open_elements l.fn.cursor);
+      base : l.base ≡ length l.fn.xml.names;
       keeps : KeepsElements is_any l.base old now;
       value : old.source.is_told ≡ true → l.asked.wants.values ≡ true →
           or_earlier (value_kept l.latest.value)
@@ -37,4 +36,4 @@ invariant-children g l =
     }
 
 abbrev pub decreases-children : goal.decreases-children
-decreases-children g l = (g.P.Package.state l.«package»).left
+decreases-children g l = l.xml.source.left

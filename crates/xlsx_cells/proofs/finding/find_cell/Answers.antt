@@ -2,10 +2,10 @@ use Rattle.std.proofs.Common.{◌≡◌, ◌∷◌, ◌++◌, ◌∙◌, List, N
 use Rattle.std.proofs.Common.{codes}
 use Rattle.std.proofs.lemmas.Result.{err_from_is_err_and}
 use Rattle.std.specs.Prelude.{option_map}
-use Rattle.part_events.specs.Event.{Event, event_of, tag_of, start}
-use Rattle.part_events.specs.Reading.{reading}
+use Rattle.part_events.specs.Event.{Event, IsStartAnd, event_of, tag_of, start}
 use Rattle.part_events.specs.Section.{unclosed}
-use Rattle.part_events.specs.Walk.{StandsInside, StepsInside, section_ahead, element_at}
+use Rattle.part_events.specs.Walk.{IsNextElement, StandsInside, StepsInside, section_ahead}
+use Rattle.part_events.specs.Walk.{element_at}
 use Rattle.part_events.specs.declared.walk.Step.TheVariants.{Found, Ended}
 use Rattle.part_events.proofs.Onward.{whole_at_end, reads_further}
 use Rattle.part_events.proofs.Walking.{next_element, element_later}
@@ -26,7 +26,7 @@ use Rattle.xlsx_cells.proofs.finding.find_cell.Goals as goal
 
 pub events-init : goal.events-init
 events-init g c =
-    let old = reading (g.P.Package.state c.args.«package».now) c.args.cursor.now in
+    let old = c.args.xml.now in
     let base = c.args.base in
     record {
       section = (keeps_none is_cell base old c.requires.reading c.requires.within).section;
@@ -36,9 +36,9 @@ events-init g c =
 
 pub returns-in-Ended-clause-err : goal.returns-in-Ended-clause-err
 returns-in-Ended-clause-err g c = λ inner told.
-    let old = reading (g.P.Package.state c.args.«package».now) c.args.cursor.now in
-    let mid = reading (g.P.Package.state c.events.«package») c.events.cursor in
-    let new = reading (g.P.Package.state c.next_inside.new.«package») c.next_inside.new.self in
+    let old = c.args.xml.now in
+    let mid = c.events.xml in
+    let new = c.next_inside.new.self in
     let now = c.events.invariant in
     let ends : StepsInside c.args.base Ended mid new =
     rw c.in-Ended.is at (c.in_ok-next_inside.ensures.inside
@@ -55,9 +55,9 @@ returns-in-Ended-clause-err g c = λ inner told.
 
 pub events-preserved : goal.events-preserved
 events-preserved g c =
-    let old = reading (g.P.Package.state c.args.«package».now) c.args.cursor.now in
-    let mid = reading (g.P.Package.state c.events.«package») c.events.cursor in
-    let new = reading (g.P.Package.state c.next_inside.new.«package») c.next_inside.new.self in
+    let old = c.args.xml.now in
+    let mid = c.events.xml in
+    let new = c.next_inside.new.self in
     let event = event_of c.event-event.result in
     let now = c.events.invariant in
     let still : old.source.is_told ≡ true → mid.source.is_told ≡ true =
@@ -82,9 +82,9 @@ events-preserved g c =
 
 pub returns-in_err-pass-clause-err : goal.returns-in_err-pass-clause-err
 returns-in_err-pass-clause-err g c =
-    let old = reading (g.P.Package.state c.args.«package».now) c.args.cursor.now in
-    let mid = reading (g.P.Package.state c.events.«package») c.events.cursor in
-    let new = reading (g.P.Package.state c.next_inside.new.«package») c.next_inside.new.self in
+    let old = c.args.xml.now in
+    let mid = c.events.xml in
+    let new = c.next_inside.new.self in
     let base = c.args.base in
     let event = event_of c.event-event.result in
     let now = c.events.invariant in
@@ -115,9 +115,9 @@ returns-in_err-pass-clause-err g c =
 
 pub returns-in_err-place-clause-err : goal.returns-in_err-place-clause-err
 returns-in_err-place-clause-err g c =
-    let old = reading (g.P.Package.state c.args.«package».now) c.args.cursor.now in
-    let mid = reading (g.P.Package.state c.events.«package») c.events.cursor in
-    let new = reading (g.P.Package.state c.next_inside.new.«package») c.next_inside.new.self in
+    let old = c.args.xml.now in
+    let mid = c.events.xml in
+    let new = c.next_inside.new.self in
     let base = c.args.base in
     let tag = tag_of c.in-Some.tag in
     let now = c.events.invariant in
@@ -149,9 +149,9 @@ returns-in_err-place-clause-err g c =
 
 pub returns-in-Some-clause-element : goal.returns-in-Some-clause-element
 returns-in-Some-clause-element g c = λ told.
-    let old = reading (g.P.Package.state c.args.«package».now) c.args.cursor.now in
-    let mid = reading (g.P.Package.state c.events.«package») c.events.cursor in
-    let new = reading (g.P.Package.state c.next_inside.new.«package») c.next_inside.new.self in
+    let old = c.args.xml.now in
+    let mid = c.events.xml in
+    let new = c.next_inside.new.self in
     let base = c.args.base in
     let tag = tag_of c.in-Some.tag in
     let now = c.events.invariant in
@@ -163,15 +163,16 @@ returns-in-Some-clause-element g c = λ told.
     rw c.in-Found.is at (c.in_ok-next_inside.ensures.inside
     (now.section.reads.moves.parts.is_told ∙ told)) in
     let current : start tag ≡ new.source.current = sym first.0 ∙ c.event-event.ensures in
-    rw (← current)
+    subst (λ (event : Event). IsStartAnd event (λ tag. IsNextElement is_cell base tag old new))
+    current
     (element_later is_cell base tag old mid new (now.same told)
     (next_element is_cell base tag mid new stands.0 steps.steps current now.section.within
     steps.ends first.1))
 
 pub returns-in-Some-clause-finds : goal.returns-in-Some-clause-finds
 returns-in-Some-clause-finds g c = λ told before kept.
-    let mid = reading (g.P.Package.state c.events.«package») c.events.cursor in
-    let new = reading (g.P.Package.state c.next_inside.new.«package») c.next_inside.new.self in
+    let mid = c.events.xml in
+    let new = c.next_inside.new.self in
     let base = c.args.base in
     let tag = tag_of c.in-Some.tag in
     let now = c.events.invariant in

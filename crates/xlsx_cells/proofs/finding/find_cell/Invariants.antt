@@ -1,5 +1,4 @@
 use Rattle.std.proofs.Common.{◌≡◌, List, true}
-use Rattle.part_events.specs.Reading.{reading}
 use Rattle.part_events.specs.Walk.{SameAhead}
 use Rattle.xlsx_sections.specs.PartSection.{KeepsSection}
 use Rattle.xlsx_cells.specs.Counting.{AreKept}
@@ -9,8 +8,8 @@ use Rattle.xlsx_cells.proofs.finding.find_cell.Given as goal
 
 abbrev pub invariant-events : goal.invariant-events
 invariant-events g l =
-    let old = reading (g.P.Package.state l.fn.«package») l.fn.cursor in
-    let now = reading (g.P.Package.state l.«package») l.cursor in
+    let old = l.fn.xml in
+    let now = l.xml in
     record {
       section : KeepsSection l.base old now;
       same : old.source.is_told ≡ true → SameAhead is_cell l.base old now;
@@ -19,4 +18,4 @@ invariant-events g l =
     }
 
 abbrev pub decreases-events : goal.decreases-events
-decreases-events g l = (g.P.Package.state l.«package»).left
+decreases-events g l = l.xml.source.left

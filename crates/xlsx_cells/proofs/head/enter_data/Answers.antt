@@ -1,7 +1,7 @@
 use Rattle.std.proofs.Common.{◌≡◌, ◌∷◌, ◌∙◌, false, true, sym, ap, length}
 use Rattle.std.proofs.lemmas.Result.{err_from_is_err_and}
 use Rattle.part_events.specs.Event.{Event, event_of}
-use Rattle.part_events.specs.Reading.{reading, StepsAhead, ahead, events_of}
+use Rattle.part_events.specs.Reading.{StepsAhead, ahead, events_of}
 use Rattle.part_events.proofs.Onward.{whole_at_end, reads_further}
 use Rattle.xlsx_sections.proofs.ElementsRead.{at_end}
 use Rattle.xlsx_cells.specs.Head.{dimensions_at, starts_data, other_name}
@@ -11,9 +11,9 @@ use Rattle.xlsx_cells.proofs.head.enter_data.Goals as goal
 
 pub returns-in_err-take-clause-err : goal.returns-in_err-take-clause-err
 returns-in_err-take-clause-err g c =
-    let old = reading (g.P.Package.state c.args.«package».now) c.args.cursor.now in
-    let mid = reading (g.P.Package.state c.events.«package») c.events.cursor in
-    let new = reading (g.P.Package.state c.next.new.«package») c.next.new.self in
+    let old = c.args.xml.now in
+    let mid = c.events.xml in
+    let new = c.next.new.self in
     let event = event_of c.event-event.result in
     let now = c.events.invariant in
     let none : starts_data event ≡ false = sym c.starts_data.ensures ∙ c.if-starts_data.false in
@@ -29,9 +29,9 @@ returns-in_err-take-clause-err g c =
 
 pub returns-clause-err : goal.returns-clause-err
 returns-clause-err g c =
-    let old = reading (g.P.Package.state c.args.«package».now) c.args.cursor.now in
-    let mid = reading (g.P.Package.state c.events.«package») c.events.cursor in
-    let new = reading (g.P.Package.state c.next.new.«package») c.next.new.self in
+    let old = c.args.xml.now in
+    let mid = c.events.xml in
+    let new = c.next.new.self in
     let now = c.events.invariant in
     head_ends old new (other_name c.events.head) c.lacks_data.result c.lacks_data.ensures
     (λ told.
@@ -46,8 +46,8 @@ returns-clause-err g c =
 
 pub returns-in_err-take-clause-lacks : goal.returns-in_err-take-clause-lacks
 returns-in_err-take-clause-lacks g c = λ told.
-    let old = reading (g.P.Package.state c.args.«package».now) c.args.cursor.now in
-    let new = reading (g.P.Package.state c.next.new.«package») c.next.new.self in
+    let old = c.args.xml.now in
+    let new = c.next.new.self in
     let p = err_from_is_err_and c.from_residual-in_err-take.result
     c.from_residual-in_err-take.ensures.1 in
     rw (p.1, p.2)
@@ -56,8 +56,8 @@ returns-in_err-take-clause-lacks g c = λ told.
 
 pub returns-clause-lacks : goal.returns-clause-lacks
 returns-clause-lacks g c = λ told.
-    let mid = reading (g.P.Package.state c.events.«package») c.events.cursor in
-    let new = reading (g.P.Package.state c.next.new.«package») c.next.new.self in
+    let mid = c.events.xml in
+    let new = c.next.new.self in
     let now = c.events.invariant in
     let steps : StepsAhead false mid new =
     rw c.if-branch.false at (c.in_ok-next.ensures.ahead (now.reads.moves.parts.is_told ∙ told)) in

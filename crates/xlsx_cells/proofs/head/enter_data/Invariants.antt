@@ -1,16 +1,16 @@
 use Rattle.std.proofs.Common.{◌≡◌, true}
-use Rattle.part_events.specs.Reading.{reading, ReadsOn, ahead}
+use Rattle.part_events.specs.Reading.{ReadsOn, ahead}
 use Rattle.xlsx_cells.proofs.HeadRead.{KeepsHead}
 use Rattle.xlsx_cells.proofs.head.enter_data.Given as goal
 
 abbrev pub invariant-events : goal.invariant-events
 invariant-events g l =
-    let old = reading (g.P.Package.state l.fn.«package») l.fn.cursor in
-    let now = reading (g.P.Package.state l.«package») l.cursor in
+    let old = l.fn.xml in
+    let now = l.xml in
     record {
       reads : ReadsOn old now;
       keeps : old.source.is_told ≡ true → KeepsHead (ahead old) l.head (ahead now);
     }
 
 abbrev pub decreases-events : goal.decreases-events
-decreases-events g l = (g.P.Package.state l.«package»).left
+decreases-events g l = l.xml.source.left

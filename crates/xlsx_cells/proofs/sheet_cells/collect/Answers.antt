@@ -16,9 +16,9 @@ use Rattle.xlsx_cells.proofs.sheet_cells.collect.Goals as goal
 
 pub returns-in_err-found-clause-err : goal.returns-in_err-found-clause-err
 returns-in_err-found-clause-err g c =
-    let old = stream c.args.xml.now.source c.args.sheet.now in
-    let mid = stream c.cells.xml.source c.cells.sheet in
-    let new = stream c.next_with_formula.new.xml.source
+    let old = stream c.args.xml.now c.args.sheet.now in
+    let mid = stream c.cells.xml c.cells.sheet in
+    let new = stream c.next_with_formula.new.xml
     c.next_with_formula.new.self in
     let wants = c.args.asked.wants in
     let grounds = grounds_of c.args.asked.book in
@@ -34,9 +34,9 @@ returns-in_err-found-clause-err g c =
 
 pub cells-preserved : goal.cells-preserved
 cells-preserved g c =
-    let old = stream c.args.xml.now.source c.args.sheet.now in
-    let mid = stream c.cells.xml.source c.cells.sheet in
-    let new = stream c.next_with_formula.new.xml.source
+    let old = stream c.args.xml.now c.args.sheet.now in
+    let mid = stream c.cells.xml c.cells.sheet in
+    let new = stream c.next_with_formula.new.xml
     c.next_with_formula.new.self in
     let wants = c.args.asked.wants in
     let grounds = grounds_of c.args.asked.book in
@@ -79,11 +79,11 @@ cells-preserved g c =
 
 pub returns-clause-ends : goal.returns-clause-ends
 returns-clause-ends g c = λ told.
-    let old = stream c.args.xml.now.source c.args.sheet.now in
-    let mid = stream c.cells.xml.source c.cells.sheet in
+    let old = stream c.args.xml.now c.args.sheet.now in
+    let mid = stream c.cells.xml c.cells.sheet in
     let now = c.cells.invariant in
     let been = now.collected told in
-    let new = stream c.next_with_formula.new.xml.source
+    let new = stream c.next_with_formula.new.xml
     c.next_with_formula.new.self in
     let ends : EndsData NoCell been.before mid new = rw c.in_default.is at
     (c.in_ok-found.ensures.takes (now.keeps.section.reads.moves.parts.is_told ∙ told) been.before
@@ -98,9 +98,9 @@ returns-clause-ends g c = λ told.
 
 pub returns-clause-cells : goal.returns-clause-cells
 returns-clause-cells g c =
-    let old = stream c.args.xml.now.source c.args.sheet.now in
-    let mid = stream c.cells.xml.source c.cells.sheet in
-    let new = stream c.next_with_formula.new.xml.source
+    let old = stream c.args.xml.now c.args.sheet.now in
+    let mid = stream c.cells.xml c.cells.sheet in
+    let new = stream c.next_with_formula.new.xml
     c.next_with_formula.new.self in
     let wants = c.args.asked.wants in
     let grounds = grounds_of c.args.asked.book in
@@ -132,8 +132,8 @@ returns-clause-cells g c =
 
 pub returns-in_err-found-clause-kind : goal.returns-in_err-found-clause-kind
 returns-in_err-found-clause-kind g c =
-    let mid = stream c.cells.xml.source c.cells.sheet in
-    let new = stream c.next_with_formula.new.xml.source
+    let mid = stream c.cells.xml c.cells.sheet in
+    let new = stream c.next_with_formula.new.xml
     c.next_with_formula.new.self in
     let p = err_from_is_err_and c.from_residual.result c.from_residual.ensures.1 in
     rw (p.1, p.2) (step_error c.args.asked.wants (grounds_of c.args.asked.book) mid new
@@ -142,8 +142,8 @@ returns-in_err-found-clause-kind g c =
 
 pub returns-in_err-found-clause-plain : goal.returns-in_err-found-clause-plain
 returns-in_err-found-clause-plain g c = λ skips.
-    let mid = stream c.cells.xml.source c.cells.sheet in
-    let new = stream c.next_with_formula.new.xml.source
+    let mid = stream c.cells.xml c.cells.sheet in
+    let new = stream c.next_with_formula.new.xml
     c.next_with_formula.new.self in
     let p = err_from_is_err_and c.from_residual.result c.from_residual.ensures.1 in
     rw (p.1, p.2) (styled_error c.args.asked.wants (grounds_of c.args.asked.book) mid new

@@ -13,8 +13,8 @@ use Rattle.xlsx_cells.proofs.sheet_cells.collect.Given as goal
 
 abbrev pub invariant-cells : goal.invariant-cells
 invariant-cells g l =
-    let old = stream (g.P.Package.state l.fn.«package») l.fn.sheet in
-    let now = stream (g.P.Package.state l.«package») l.sheet in
+    let old = stream l.fn.xml l.fn.sheet in
+    let now = stream l.xml l.sheet in
     record {
       base : now.base ≡ old.base;
       keeps : KeepsElements is_cell old.base old.reading now.reading;
@@ -31,4 +31,4 @@ invariant-cells g l =
     }
 
 abbrev pub decreases-cells : goal.decreases-cells
-decreases-cells g l = (g.P.Package.state l.«package»).left
+decreases-cells g l = l.xml.source.left

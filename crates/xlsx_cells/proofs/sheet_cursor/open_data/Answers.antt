@@ -1,10 +1,8 @@
-use Rattle.std.proofs.Common.{◌≡◌, true, ◌∙◌, sym, subst}
+use Rattle.std.proofs.Common.{◌≡◌, true, ◌∙◌}
 use Rattle.std.proofs.lemmas.Result.{err_from_is_err_and}
 use Rattle.part_events.specs.Package.{Opens}
-use Rattle.part_events.specs.declared.cursor.Cursor.{Cursor}
 use Rattle.xlsx_sections.proofs.SectionsRead.{section_entered}
-use Rattle.xlsx_cells.specs.SheetPart.{EntersData}
-use Rattle.xlsx_cells.specs.Stream.{Stream}
+use Rattle.xlsx_cells.specs.Stream.{stream}
 use Rattle.xlsx_cells.proofs.HeadRead.{tells_weaker}
 use Rattle.xlsx_cells.proofs.SheetEntered.{data_entered, part_taken}
 use Rattle.xlsx_cells.proofs.sheet_cursor.open_data.Goals as goal
@@ -12,32 +10,20 @@ use Rattle.xlsx_cells.proofs.sheet_cursor.open_data.Goals as goal
 pub returns-clause-enters : goal.returns-clause-enters
 returns-clause-enters g c =
     let old = c.args.xml.now.source in
-    let new = c.enter_data.new.xml.source in
-    let opened = reading (g.P.Package.state c.open.new.self) c.new-cursor.result in
-    let sheet = c.new-sheet.result in
-    let placed : Cursor → Stream = λ cursor. record {
-      reading = reading new cursor;
-      base = sheet.base;
-      counters = sheet.counters;
-      masters = sheet.masters;
-      is_done = sheet.done;
-      is_failed = sheet.failed;
-    } in
+    let opened = c.open.new.self in
     let opening : old.is_told ≡ true → Opens c.args.path.now true old opened.source =
     λ told. rw c.if-not-branch.false at (c.in_ok-open.ensures.opens told) in
     let still : old.is_told ≡ true → opened.source.is_told ≡ true =
     λ told. c.open.ensures.keeps.is_told ∙ told in
     let entered = c.in_ok-dimensions in
-    subst (λ (cursor : Cursor). EntersData c.args.path.now entered.dimensions old (placed cursor))
-    (sym c.new-sheet.ensures.cursor)
-    (data_entered opened (placed c.enter_data.new.cursor)
+    data_entered opened (stream c.enter_data.new.xml c.new-sheet.result)
     (section_entered c.if-not-branch.false c.open.ensures.keeps c.in_ok-open.ensures.counts
-    c.in_ok-open.ensures.opens c.new-cursor.ensures.start entered.ensures.reads
+    c.in_ok-open.ensures.opens c.in_ok-open.ensures.reader.at entered.ensures.reads
     entered.ensures.element entered.ensures.found)
     c.new-sheet.ensures.base c.new-sheet.ensures.counters c.new-sheet.ensures.masters
     c.new-sheet.ensures.done c.new-sheet.ensures.failed
     (λ told. (opening told).past) (λ told. entered.ensures.reads.stays.part (still told))
-    (λ told. entered.ensures.dimensions (still told)))
+    (λ told. entered.ensures.dimensions (still told))
 
 pub returns-in_err-dimensions-clause-lacks : goal.returns-in_err-dimensions-clause-lacks
 returns-in_err-dimensions-clause-lacks g c = λ told.
@@ -46,5 +32,5 @@ returns-in_err-dimensions-clause-lacks g c = λ told.
     rw (p.1, p.2)
     (tells_weaker c.in_err-dimensions.field-0.0
     (part_taken c.if-not-branch.false c.in_ok-open.ensures.counts c.in_ok-open.ensures.opens
-    c.new-cursor.ensures.start c.in_err-dimensions.ensures.reads.moves told)
+    c.in_ok-open.ensures.reader.at c.in_err-dimensions.ensures.reads.moves told)
     (c.in_err-dimensions.ensures.lacks (c.open.ensures.keeps.is_told ∙ told)))

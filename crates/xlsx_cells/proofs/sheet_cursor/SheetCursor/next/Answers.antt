@@ -23,7 +23,7 @@ use Rattle.xlsx_cells.proofs.sheet_cursor.SheetCursor.next.Goals as goal
 pub returns-in_err-found-clause-err : goal.returns-in_err-found-clause-err
 returns-in_err-found-clause-err g c =
     let own = c.args.self.now in
-    let old = stream c.args.xml.now.source own in
+    let old = stream c.args.xml.now own in
     let new = c.find_cell.new.xml in
     let wants = c.args.asked.wants in
     let grounds = grounds_of c.args.asked.book in
@@ -43,7 +43,7 @@ pub returns-in_err-read-clause-err : goal.returns-in_err-read-clause-err
 returns-in_err-read-clause-err g c =
     let own = c.args.self.now in
     let base = own.base in
-    let all = stream c.args.xml.now.source own in
+    let all = stream c.args.xml.now own in
     let old = all.reading in
     let mid = c.find_cell.new.xml in
     let new = c.read_cell.new.xml in
@@ -83,7 +83,7 @@ pub returns-clause-takes : goal.returns-clause-takes
 returns-clause-takes g c = λ told before earlier behind.
     let own = c.args.self.now in
     let base = own.base in
-    let old = stream c.args.xml.now.source own in
+    let old = stream c.args.xml.now own in
     let mid = c.find_cell.new.xml in
     let new = c.read_cell.new.xml in
     let wants = c.args.asked.wants in
@@ -115,7 +115,7 @@ pub returns-clause-step : goal.returns-clause-step
 returns-clause-step g c =
     let own = c.args.self.now in
     let base = own.base in
-    let all = stream c.args.xml.now.source own in
+    let all = stream c.args.xml.now own in
     let old = all.reading in
     let mid = c.find_cell.new.xml in
     let pos = c.in-Some.pos in

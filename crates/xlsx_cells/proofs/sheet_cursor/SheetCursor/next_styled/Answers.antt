@@ -17,7 +17,7 @@ use Rattle.xlsx_cells.proofs.sheet_cursor.SheetCursor.next_styled.Goals.{else-st
 
 pub cells-init : goal.cells-init
 cells-init g c =
-    let old = stream c.args.xml.now.source c.args.self.now in
+    let old = stream c.args.xml.now c.args.self.now in
     let going : IsGoing old = is_going old c.requires c.if-self.false c.if-self-2.false in
     record {
       base = refl;
@@ -31,9 +31,9 @@ cells-init g c =
 
 pub returns-in_err-read-clause-err : goal.returns-in_err-read-clause-err
 returns-in_err-read-clause-err g c =
-    let old = stream c.args.xml.now.source c.args.self.now in
-    let mid = stream c.cells.xml.source c.cells.self in
-    let new = stream c.next.new.xml.source c.next.new.self in
+    let old = stream c.args.xml.now c.args.self.now in
+    let mid = stream c.cells.xml c.cells.self in
+    let new = stream c.next.new.xml c.next.new.self in
     let now = c.cells.invariant in
     let p = err_from_is_err_and c.from_residual.result c.from_residual.ensures.1 in
     rw (p.1, p.2)
@@ -44,9 +44,9 @@ returns-in_err-read-clause-err g c =
 pub returns-then-style_id-style_count-clause-takes :
     goal.returns-then-style_id-style_count-clause-takes
 returns-then-style_id-style_count-clause-takes g c = λ told before earlier kept.
-    let old = stream c.args.xml.now.source c.args.self.now in
-    let mid = stream c.cells.xml.source c.cells.self in
-    let new = stream c.next.new.xml.source c.next.new.self in
+    let old = stream c.args.xml.now c.args.self.now in
+    let mid = stream c.cells.xml c.cells.self in
+    let new = stream c.next.new.xml c.next.new.self in
     let now = c.cells.invariant in
     let been = now.skipped told before earlier kept in
     styled_taken c.args.style_count before earlier _ old mid new c.in-Some.read been
@@ -55,9 +55,9 @@ returns-then-style_id-style_count-clause-takes g c = λ told before earlier kept
 
 pub cells-preserved : goal.cells-preserved
 cells-preserved g c =
-    let old = stream c.args.xml.now.source c.args.self.now in
-    let mid = stream c.cells.xml.source c.cells.self in
-    let new = stream c.next.new.xml.source c.next.new.self in
+    let old = stream c.args.xml.now c.args.self.now in
+    let mid = stream c.cells.xml c.cells.self in
+    let new = stream c.next.new.xml c.next.new.self in
     let now = c.cells.invariant in
     let read = c.in-Some.read in
     let stands : PassesCell read.pos mid new =
@@ -88,9 +88,9 @@ cells-preserved g c =
 
 pub returns-clause-takes : goal.returns-clause-takes
 returns-clause-takes g c = λ told before earlier kept going.
-    let old = stream c.args.xml.now.source c.args.self.now in
-    let mid = stream c.cells.xml.source c.cells.self in
-    let new = stream c.next.new.xml.source c.next.new.self in
+    let old = stream c.args.xml.now c.args.self.now in
+    let mid = stream c.cells.xml c.cells.self in
+    let new = stream c.next.new.xml c.next.new.self in
     let now = c.cells.invariant in
     let been = now.skipped told before earlier kept in
     unstyled_ends c.args.style_count before earlier old mid new been

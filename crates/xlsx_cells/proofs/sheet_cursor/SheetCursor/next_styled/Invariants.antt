@@ -8,8 +8,8 @@ use Rattle.xlsx_cells.proofs.sheet_cursor.SheetCursor.next_styled.Given as goal
 
 abbrev pub invariant-cells : goal.invariant-cells
 invariant-cells g l =
-    let old = stream (g.P.Package.state l.fn.«package») l.fn.self in
-    let now = stream (g.P.Package.state l.«package») l.self in
+    let old = stream l.fn.xml l.fn.self in
+    let now = stream l.xml l.self in
     record {
       base : now.base ≡ old.base;
       further : old.reading.at ≤ now.reading.at;
@@ -22,4 +22,4 @@ invariant-cells g l =
     }
 
 abbrev pub decreases-cells : goal.decreases-cells
-decreases-cells g l = (g.P.Package.state l.«package»).left
+decreases-cells g l = l.xml.source.left
