@@ -1,5 +1,5 @@
 ghost use Rattle.std.proofs.Common.{rules};
-ghost use Rattle.std.specs.Prelude.{◌≡◌, ⊤, ℕ, List, Option, Ok, Some, codes, length, true};
+ghost use Rattle.std.specs.Prelude.{◌≡◌, ⊤, ℕ, List, Option, Ok, Some, codes, true};
 ghost use Rattle.std.specs.Prelude.{option_map, string_bytes, IfOk, OnOk, IfErr};
 ghost use Rattle.part_events.specs.Event.{tag_of};
 ghost use Rattle.part_events.specs.Package.{Uses, event_count};
@@ -74,8 +74,8 @@ fn name_in_part<P: Package>(xml: &mut XlReader<P>) -> Result<String, XlsxError>
     ensures reads { ReadsPart Io result xml.old xml.new }
     ensures ends { let count = section_events (codes "pivotTableDefinition") (events_of xml.old) in
         xml.old.source.is_told ≡ true → OnOk result (xml.new.at ≡ count) }
-    ensures name { xml.old.source.is_told ≡ true →
-        IfOk result (λ name. name_in_part (events_of xml.old) ≡ Some (Some (string_bytes name))) }
+    ensures name { xml.old.source.is_told ≡ true → IfOk result (λ name.
+        name_in_part (events_of xml.old) ≡ Some (Some (string_bytes name))) }
     ensures err { IfErr result
         (FailsBy (NameCause (events_of xml.old)) xml.old.source xml.new.source) }
     ensures kind { IfErr result IsPivotsError }
@@ -109,19 +109,18 @@ fn name_in_part<P: Package>(xml: &mut XlReader<P>) -> Result<String, XlsxError>
 /// `Unexpected` of the text that says so. A name with a reference without a character is
 /// `Xml(Entity)` with the number of its start, counted from 0.
 pub fn name_at<P: Package>(xml: &mut XlReader<P>, path: &str) -> Result<String, XlsxError>
-    ensures uses { Uses (event_count xml.old.source.parts path.now) Io result xml.old.source
-        xml.new.source }
+    ensures uses { Uses (event_count xml.old.source.parts path.now) Io result
+        xml.old.source xml.new.source }
     ensures to_end { ReadsToEnd (codes "pivotTableDefinition") path.now result
         xml.old.source xml.new.source }
-    ensures name { xml.old.source.is_told ≡ true →
-        IfOk result (λ name. pivot_name_at xml.old.source.parts path.now ≡ Some (string_bytes name)) }
+    ensures name { xml.old.source.is_told ≡ true → IfOk result (λ name.
+        pivot_name_at xml.old.source.parts path.now ≡ Some (string_bytes name)) }
     ensures err { IfErr result
         (FailsBy (NameAtCause xml.old.source.parts path.now) xml.old.source xml.new.source) }
     ensures kind { IfErr result IsPivotsError }
 {
-    let alloc = xml.alloc();
     if !open_part(xml, path)? {
-        return Err(XlsxError::FileNotFound(String::from_str(alloc, path)?));
+        return Err(XlsxError::FileNotFound(String::from_str(xml.alloc(), path)?));
     }
     name_in_part(xml)
 }

@@ -16,7 +16,6 @@ use crate::pivot_parts::name_at;
 use crate::pivot_tables::{PivotTable, PivotTables};
 use crate::targets::{definitions_at, records_at};
 use part_events::{Package, XlReader};
-use std::alloc::Global;
 use xlsx_error::XlsxError;
 use xlsx_relationships::{ReadsRelated, push_related};
 
@@ -30,8 +29,8 @@ fn pivot_at<P: Package>(
     path: &str,
     folder: &str,
 ) -> Result<PivotTable, XlsxError>
-    ensures uses { Uses (pivot_events xml.old.source.parts path.now) Io result xml.old.source
-        xml.new.source }
+    ensures uses { Uses (pivot_events xml.old.source.parts path.now) Io result
+        xml.old.source xml.new.source }
     ensures to_end { let old = xml.old.source in
         let count = pivot_sections old.parts path.now in
         old.is_told ≡ true → OnOk result (CountsUp count old.taken xml.new.source.taken) }
@@ -41,13 +40,12 @@ fn pivot_at<P: Package>(
         (FailsBy (PivotCause xml.old.source.parts path.now) xml.old.source xml.new.source) }
     ensures kind { IfErr result IsPivotsError }
 {
-    let alloc = xml.alloc();
     let name = name_at(xml, path)?;
     let definitions = definitions_at(xml, path)?;
     let records = records_at(xml, definitions.as_str(), folder)?;
     Ok(PivotTable {
         name,
-        sheet: String::from_str(alloc, sheet)?,
+        sheet: String::from_str(xml.alloc(), sheet)?,
         definitions,
         records,
     })
@@ -56,7 +54,6 @@ fn pivot_at<P: Package>(
 /// Reads the pivot tables of parts, on the sheet of this name in the workbook's folder.
 #[derive(Drop)]
 struct PivotReader<'a> {
-    alloc: Global,
     sheet: &'a str,
     folder: &'a str,
 }
@@ -104,12 +101,7 @@ pub fn read_sheet_pivots<P: Package>(
     ensures kept { (more : List PivotSaid)
         × (pivots_kept found.new ≡ pivots_kept found.old ++ more) }
 {
-    let alloc = xml.alloc();
-    let by = PivotReader {
-        alloc,
-        sheet,
-        folder,
-    };
+    let by = PivotReader { sheet, folder };
     push_related(xml, &mut found.pivots, path, PIVOT_TYPE, &by)
 }
 
@@ -139,8 +131,7 @@ pub fn find_pivot_tables<P: Package>(
     ensures answers { let ask = pivots_ask xl_path.now (map sheet_given sheets.now) in
         Answers ask pivots_kept result xml.old.source xml.new.source }
 {
-    let alloc = xml.alloc();
-    let mut found = PivotTables::new(alloc);
+    let mut found = PivotTables::new(xml.alloc());
     let mut left = sheets;
     'sheets: while let Some((sheet, others)) = left.split_first() {
         let (name, path) = sheet;

@@ -117,12 +117,12 @@ fn target_beside<P: Package>(
     ensures to_end { ReadsToEnd (codes "Relationships") (relationships_beside path.now) result
         xml.old.source xml.new.source }
     ensures target { xml.old.source.is_told ≡ true → IfOk result (λ target.
-        target_beside xml.old.source.parts wanted.now single path.now ≡ Some
-        (Some (string_bytes target))) }
+        target_beside xml.old.source.parts wanted.now single path.now
+        ≡ Some (Some (string_bytes target))) }
     ensures written { IfOk result (λ target. HasText (Some (string_bytes target))) }
     ensures err { IfErr result
-        (FailsBy (TargetCause xml.old.source.parts wanted.now single path.now) xml.old.source
-        xml.new.source) }
+        (FailsBy (TargetCause xml.old.source.parts wanted.now single path.now)
+        xml.old.source xml.new.source) }
     ensures kind { IfErr result IsPivotsError }
 {
     let alloc = xml.alloc();
@@ -161,13 +161,11 @@ pub fn definitions_at<P: Package>(xml: &mut XlReader<P>, path: &str) -> Result<S
         definitions_at xml.old.source.parts path.now ≡ Some (string_bytes there)) }
     ensures err { IfErr result (FailsBy
         (TargetCause xml.old.source.parts definitions_type single.Definitions path.now)
-        xml.old.source
-        xml.new.source) }
+        xml.old.source xml.new.source) }
     ensures kind { IfErr result IsPivotsError }
 {
-    let alloc = xml.alloc();
     let target = target_beside(xml, path, DEFINITIONS_TYPE, Single::Definitions)?;
-    match target_path(alloc, path, target.as_str())? {
+    match target_path(xml.alloc(), path, target.as_str())? {
         Some(there) => Ok(there),
         None => unreachable!(),
     }
@@ -207,11 +205,9 @@ pub fn records_at<P: Package>(
         records_at xml.old.source.parts folder.now path.now ≡ Some (string_bytes there)) }
     ensures err { IfErr result
         (FailsBy (TargetCause xml.old.source.parts records_type single.Records path.now)
-        xml.old.source
-        xml.new.source) }
+        xml.old.source xml.new.source) }
     ensures kind { IfErr result IsPivotsError }
 {
-    let alloc = xml.alloc();
     let target = target_beside(xml, path, RECORDS_TYPE, Single::Records)?;
-    Ok(records_path(alloc, folder, target.as_str())?)
+    Ok(records_path(xml.alloc(), folder, target.as_str())?)
 }

@@ -7,8 +7,7 @@ use Rattle.xlsx_pivots.proofs.pivots.find_pivot_tables.Given as goal
 abbrev pub invariant-sheets : goal.invariant-sheets
 invariant-sheets g l =
     Leads (pivots_ask l.xl_path (map sheet_given l.left)) (pivots_kept l.found)
-    l.xml.source (pivots_ask l.xl_path (map sheet_given l.fn.sheets)) []
-    l.fn.xml.source
+    l.xml.source (pivots_ask l.xl_path (map sheet_given l.fn.sheets)) [] l.fn.xml.source
 
 abbrev pub decreases-sheets : goal.decreases-sheets
 decreases-sheets g l = length l.left

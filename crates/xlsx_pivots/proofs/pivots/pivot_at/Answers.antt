@@ -1,5 +1,5 @@
 use Rattle.std.proofs.Common.{◌≡◌, ◌∙◌, List, arith, codes}
-use Rattle.std.proofs.Common.{subst, string_bytes, Some}
+use Rattle.std.proofs.Common.{subst, string_bytes, Some, rules}
 use Rattle.std.proofs.lemmas.Result.{err_from_is_err_and}
 use Rattle.part_events.specs.Package.{Part, LeavesPackage, CountsUp, event_count}
 use Rattle.part_events.proofs.Uses.{leaves_then}
@@ -37,6 +37,18 @@ returns-in_err-records-clause-uses g c =
     c.in_err-records.field-0.0 old mid there new c.in_ok-name.ensures.uses
     c.in_ok-definitions.ensures.uses c.in_ok-definitions.ensures.path
     (rw c.as_str.ensures.value at c.in_err-records.ensures.uses))
+
+pub returns-in_err-from_str-clause-uses : goal.returns-in_err-from_str-clause-uses
+returns-in_err-from_str-clause-uses g c =
+    let old = c.args.xml.now.source in
+    let mid = c.name_at.new.xml.source in
+    let there = c.definitions_at.new.xml.source in
+    let new = c.records_at.new.xml.source in
+    let used = pivot_uses c.args.path.now (string_bytes c.in_ok-definitions.definitions)
+    old mid there new c.in_ok-name.ensures.uses
+    c.in_ok-definitions.ensures.uses c.in_ok-definitions.ensures.path
+    (rw c.as_str.ensures.value at c.in_ok-records.ensures.uses) in
+    search rules
 
 pub returns-clause-uses : goal.returns-clause-uses
 returns-clause-uses g c =

@@ -8,7 +8,7 @@ use Rattle.xlsx_pivots.proofs.targets.target_beside.Goals as goal
 
 pub returns-in_err-keep_starts-clause-err : goal.returns-in_err-keep_starts-clause-err
 returns-in_err-keep_starts-clause-err g c =
-    let mid = reading c.enter_part.new.xml.source c.in-Some.cursor in
+    let mid = c.enter_part.new.xml in
     let new = c.keep_starts.new.xml in
     let refused = IsInsideRefused (single_target_in c.args.wanted.now c.args.single) in
     let here : SectionFails (always (codes "Relationships")) refused c.depth-base.result mid new
@@ -16,10 +16,10 @@ returns-in_err-keep_starts-clause-err g c =
     given_back _ c.from_residual-in_err-keep_starts.result
     c.from_residual-in_err-keep_starts.ensures.1 (search rules)
 
-pub returns-in-Some-kept-clause-target : goal.returns-in-Some-kept-clause-target
-returns-in-Some-kept-clause-target g c = λ told.
-    let mid = reading c.enter_part.new.xml.source c.in-Some.cursor in
-    let enters = rw c.in-Some.is at c.in_ok-cursor.ensures.enters in
+pub returns-in-Some-clause-target : goal.returns-in-Some-clause-target
+returns-in-Some-clause-target g c = λ told.
+    let mid = c.enter_part.new.xml in
+    let enters = c.in_ok-enter_part.ensures.enters c.if-not-branch.false in
     let inside = section_ahead c.depth-base.result mid in
     let said : single_target_in c.args.wanted.now c.args.single inside
     ≡ Ok (option_map string_bytes c.keep_starts.new.keeper.kept) =
@@ -28,8 +28,8 @@ returns-in-Some-kept-clause-target g c = λ told.
 
 pub returns-clause-err : goal.returns-clause-err
 returns-clause-err g c =
-    let mid = reading c.enter_part.new.xml.source c.in-Some.cursor in
-    let enters = rw c.in-Some.is at c.in_ok-cursor.ensures.enters in
+    let mid = c.enter_part.new.xml in
+    let enters = c.in_ok-enter_part.ensures.enters c.if-not-branch.false in
     let inside = section_ahead c.depth-base.result mid in
     let said = λ (told : c.args.xml.now.source.is_told ≡ true).
     let own : single_target_in c.args.wanted.now c.args.single inside
