@@ -1,6 +1,6 @@
 -- Which refusals of the layers below are refusals of links, and how those of a text are handed on.
 use Rattle.std.proofs.Common.{Result, Ok, Err}
-use Rattle.std.specs.Prelude.{IfOk, OnOk}
+use Rattle.std.specs.Prelude.{IfOk, MatchResult}
 use Rattle.part_events.specs.declared.fault.XmlFault.TheVariants.{EndMismatch, Entity}
 use Rattle.xlsx_error.specs.declared.error.XlsxError.{XlsxError}
 use Rattle.xlsx_error.specs.declared.error.XlsxError.TheVariants.{OutOfMemory, Io, Xml}
@@ -21,6 +21,7 @@ break_links _ is = absurd is
 
 -- an answer of which two things are known
 pub both_known : {T E : Type 0} {P R : T → Type 0} {Q : Type 0} (result : Result T E)
-    → ((own : T) → P own → Q → R own) → IfOk result P → OnOk result Q → IfOk result R
-both_known (Ok own) more first second = more own first second
-both_known (Err error) more first second = tt
+    (F : E → Type 0) → ((own : T) → P own → Q → R own) → IfOk result P
+    → MatchResult result (λ _. Q) F → IfOk result R
+both_known (Ok own) F more first second = more own first second
+both_known (Err error) F more first second = tt

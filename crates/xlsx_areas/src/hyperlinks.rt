@@ -1,19 +1,16 @@
 ghost use Rattle.std.proofs.Common.{rules};
-ghost use Rattle.std.specs.Prelude.{◌≡◌, ◌≤◌, ℕ, map, suc, length, true, Ok, Some};
-ghost use Rattle.std.specs.Prelude.{option_map, option_and_then, IfOk, OnOk, IfErr, codes};
+ghost use Rattle.std.specs.Prelude.{◌≡◌, ℕ, map, true, Ok};
+ghost use Rattle.std.specs.Prelude.{option_map, option_and_then, IfOk, IfErr, codes};
 ghost use Rattle.std.specs.Prelude.{string_bytes};
 ghost use Rattle.std.specs.Option.{option_copied};
 ghost use Rattle.std.specs.Result.{is_err};
 ghost use Rattle.cell_refs.specs.A1.{area};
 ghost use Rattle.part_events.specs.Event.{tag_of};
-ghost use Rattle.part_events.specs.Reader.{reading_by, SamePackage};
-ghost use Rattle.part_events.specs.Reading.{IsReading, ReadsPart};
 ghost use Rattle.part_events.specs.Reading.{IsReadingElement, ReadsElement, ahead};
 ghost use Rattle.part_events.specs.Section.{content};
-ghost use Rattle.part_events.specs.Walk.{section_ahead};
 ghost use Rattle.xlsx_error.specs.declared.error.XlsxError.TheVariants.{Io};
-ghost use Rattle.xlsx_sections.specs.Elements.{ElementReadFails, IsInsideRefused, ReachesEnd};
-ghost use Rattle.xlsx_sections.specs.PartSection.{always, SectionFails};
+ghost use Rattle.xlsx_sections.specs.Elements.{ElementReadFails};
+ghost use Rattle.xlsx_sections.specs.PartSection.{always};
 ghost use Rattle.xlsx_sections.specs.Placed.{placed};
 ghost use Rattle.xlsx_sections.specs.Refusal.{ElementFails, IsDecodeError, placed_at};
 ghost use Rattle.xlsx_relationships.specs.LinkTargets.{target_held};
@@ -160,30 +157,6 @@ impl Reads for LinkReader<'_> {
     }
 }
 
-/// The links in a section of hyperlinks whose element is number `base` of the open ones.
-pub fn links_in<P: Package>(
-    xml: &mut XlReader<P>,
-    base: usize,
-    targets: &BTreeMap<String, String>,
-) -> Result<Vec<Hyperlink>, XlsxError>
-    requires reading { IsReading xml.old }
-    requires within { base ≤ length xml.old.names }
-    ensures reads { ReadsPart Io result xml.old xml.new }
-    ensures depth { OnOk result (suc (length xml.new.names) ≡ base) }
-    ensures reaches { xml.old.source.is_told ≡ true →
-        OnOk result (ReachesEnd base xml.old xml.new) }
-    ensures links { let by = target_held targets.now in
-        xml.old.source.is_told ≡ true → IfOk result (λ links.
-        links_in by (section_ahead base xml.old) ≡ Ok (map link_said links.items)) }
-    ensures err { let refused = IsInsideRefused (links_in (target_held targets.now)) in
-        IfErr result (SectionFails (always (codes "hyperlinks")) refused base xml.old xml.new) }
-    ensures kind { IfErr result IsLinksError }
-{
-    let alloc = xml.alloc();
-    let by = LinkReader { alloc, targets };
-    keep_all(xml, base, &["hyperlink"], "hyperlinks", by)
-}
-
 /// Reads the hyperlinks at whose start the reader stands, to its end (ECMA-376 part 1, section
 /// 18.3.1.48), where these are the targets of the sheet's relationships by their Ids: of each
 /// `hyperlink` in it that has a `ref` its link, in order. Its texts are decoded, and then each
@@ -195,29 +168,28 @@ pub fn links_in<P: Package>(
 /// start with `ref`, one that names no area has the refusal of its text, and a reference without a
 /// character in one of the texts is `Xml(Entity)` with the number of the start.
 pub fn read_hyperlinks<P: Package>(
-    xml: &mut XlReader<'_, P>,
+    xml: &mut XlReader<P>,
     rels: &BTreeMap<String, String>,
 ) -> Result<Vec<Hyperlink>, XlsxError>
-    requires element { IsReadingElement (reading_by P.state xml.old) }
-    ensures same_package { SamePackage xml.old xml.new }
-    ensures reads { let old = reading_by P.state xml.old in
-        ReadsElement Io result old (reading_by P.state xml.new) }
-    ensures links { let old = reading_by P.state xml.old in
-        let by = target_held rels.now in
-        old.source.is_told ≡ true → IfOk result (λ links.
-        links_in by (content 0 (ahead old)) ≡ Ok (map link_said links.items)) }
-    ensures failed { (reading_by P.state xml.new).is_failed ≡ is_err result }
-    ensures err { let old = reading_by P.state xml.old in
-        let new = reading_by P.state xml.new in
-        let meaning = links_in (target_held rels.now) in
-        IfErr result (ElementReadFails (always (codes "hyperlinks")) meaning old new) }
+    requires element { IsReadingElement xml.old }
+    ensures reads { ReadsElement Io result xml.old xml.new }
+    ensures links { let by = target_held rels.now in
+        xml.old.source.is_told ≡ true → IfOk result (λ links.
+        links_in by (content 0 (ahead xml.old)) ≡ Ok (map link_said links.items)) }
+    ensures failed { xml.new.is_failed ≡ is_err result }
+    ensures err { let meaning = links_in (target_held rels.now) in
+        IfErr result (ElementReadFails (always (codes "hyperlinks")) meaning xml.old xml.new) }
     ensures kind { IfErr result IsLinksError }
 {
-    let alloc = xml.cursor.alloc();
-    let base = xml.cursor.depth();
-    let read = links_in(alloc, xml.package, &mut xml.cursor, base, rels);
+    let alloc = xml.alloc();
+    let base = xml.depth();
+    let by = LinkReader {
+        alloc,
+        targets: rels,
+    };
+    let read = keep_all(xml, base, &["hyperlink"], "hyperlinks", by);
     if read.is_err() {
-        xml.cursor.give_up();
+        xml.give_up();
     }
     read
 }

@@ -1,4 +1,4 @@
-ghost use Rattle.std.specs.Prelude.{◌≡◌, List, map, codes, length, true, None, Some, is_some};
+ghost use Rattle.std.specs.Prelude.{◌≡◌, map, codes, true, None, Some, is_some};
 ghost use Rattle.std.specs.Prelude.{option_and_then};
 ghost use Rattle.std.specs.Prelude.{IfOk, OnOk, IfErr, MatchOption};
 ghost use Rattle.part_events.specs.Package.{Uses, CountsUp, part_of, event_count};
@@ -13,7 +13,7 @@ ghost use Rattle.xlsx_areas.specs.LinkErrors.{LinksCause, LinksFail, SheetLinksF
 ghost use Rattle.xlsx_areas.specs.LinkErrors.{IsLinksError, IsSheetLinksError};
 
 use crate::hyperlink::Hyperlink;
-use crate::hyperlinks::links_in;
+use crate::hyperlinks::read_hyperlinks;
 use part_events::{Package, XlReader};
 use std::collections::BTreeMap;
 use xlsx_error::XlsxError;
@@ -42,8 +42,7 @@ fn links_of<P: Package>(
     if !find_section(xml, "hyperlinks")? {
         return Ok(Vec::new(alloc));
     }
-    let base = xml.depth();
-    links_in(xml, base, targets)
+    read_hyperlinks(xml, targets)
 }
 
 /// The links of the sheet whose part is at this path, where these are the targets by their Ids: of
@@ -53,8 +52,8 @@ fn read_links<P: Package>(
     path: &str,
     targets: &BTreeMap<String, String>,
 ) -> Result<Option<Vec<Hyperlink>>, XlsxError>
-    ensures uses { Uses (event_count xml.old.source.parts path.now) Io result xml.old.source
-        xml.new.source }
+    ensures uses { Uses (event_count xml.old.source.parts path.now) Io result
+        xml.old.source xml.new.source }
     ensures to_end { ReadsToEnd (codes "hyperlinks") path.now result xml.old.source xml.new.source }
     ensures links { let old = xml.old.source in
         let by = target_held targets.now in
@@ -95,8 +94,8 @@ pub fn read_sheet_links<P: Package>(
     xml: &mut XlReader<P>,
     path: &str,
 ) -> Result<Option<Vec<Hyperlink>>, XlsxError>
-    ensures uses { Uses (link_events xml.old.source.parts path.now) Io result xml.old.source
-        xml.new.source }
+    ensures uses { Uses (link_events xml.old.source.parts path.now) Io result
+        xml.old.source xml.new.source }
     ensures to_end { let old = xml.old.source in
         old.is_told ≡ true →
         OnOk result (CountsUp (link_sections old.parts path.now) old.taken xml.new.source.taken) }

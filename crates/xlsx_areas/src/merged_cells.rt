@@ -1,19 +1,16 @@
 ghost use Rattle.std.proofs.Common.{rules};
-ghost use Rattle.std.specs.Prelude.{◌≡◌, ◌≤◌, ℕ, [], suc, length, true, Some, Ok};
+ghost use Rattle.std.specs.Prelude.{◌≡◌, ℕ, [], length, true, Some, Ok};
 ghost use Rattle.std.specs.Prelude.{IfOk, OnOk, IfErr};
 ghost use Rattle.std.specs.Result.{is_err};
 ghost use Rattle.cell_refs.specs.declared.dimensions.Dimensions.{Dimensions};
 ghost use Rattle.part_events.specs.Event.{tag_of};
-ghost use Rattle.part_events.specs.Reader.{reading_by, SamePackage};
-ghost use Rattle.part_events.specs.Reading.{IsReading};
-ghost use Rattle.part_events.specs.Reading.{ReadsPart, IsReadingElement, ReadsElement, ahead};
-ghost use Rattle.part_events.specs.Reading.{events_of};
+ghost use Rattle.part_events.specs.Reading.{IsReading, ReadsPart, events_of};
+ghost use Rattle.part_events.specs.Reading.{IsReadingElement, ReadsElement, ahead};
 ghost use Rattle.part_events.specs.Section.{content};
-ghost use Rattle.part_events.specs.Walk.{section_ahead};
 ghost use Rattle.xlsx_error.specs.declared.error.XlsxError.TheVariants.{Io};
-ghost use Rattle.xlsx_sections.specs.Elements.{ElementReadFails, IsInsideRefused, ReachesEnd};
+ghost use Rattle.xlsx_sections.specs.Elements.{ElementReadFails};
 ghost use Rattle.xlsx_sections.specs.Keeping.{put_behind};
-ghost use Rattle.xlsx_sections.specs.PartSection.{always, SectionFails};
+ghost use Rattle.xlsx_sections.specs.PartSection.{always};
 ghost use Rattle.xlsx_sections.specs.Refusal.{ElementFails, placed_at};
 ghost use Rattle.xlsx_parts.specs.WholePart.{IsMeaningRefused, WholePartFails};
 ghost use Rattle.xlsx_areas.specs.MergeErrors.{IsRegionsError, IsMergesError};
@@ -80,52 +77,25 @@ impl Reads for MergeReader {
     }
 }
 
-/// The areas in a section of merged cells whose element is number `base` of the open ones.
-#[tactic(auto, using(xlsx_sections::proofs::StartsKept::own_items))]
-pub fn merges_in<P: Package>(
-    xml: &mut XlReader<P>,
-    base: usize,
-) -> Result<Vec<Dimensions>, XlsxError>
-    requires reading { IsReading xml.old }
-    requires within { base ≤ length xml.old.names }
-    ensures reads { ReadsPart Io result xml.old xml.new }
-    ensures depth { OnOk result (suc (length xml.new.names) ≡ base) }
-    ensures reaches { xml.old.source.is_told ≡ true →
-        OnOk result (ReachesEnd base xml.old xml.new) }
-    ensures merges { xml.old.source.is_told ≡ true → IfOk result (λ areas.
-        merges_in (section_ahead base xml.old) ≡ Ok areas.items) }
-    ensures err { IfErr result
-        (SectionFails (always []) (IsInsideRefused merges_in) base xml.old xml.new) }
-    ensures kind { IfErr result IsMergesError }
-{
-    keep_all(xml, base, &["mergeCell"], "", MergeReader)
-}
-
 /// Reads the merged cells at whose start the reader stands, to its end (ECMA-376 part 1, section
 /// 18.3.1.55): the area of each `mergeCell` in it that has a `ref`, in order.
 ///
 /// A part that ends before is `XmlEof("")`, and an end that breaks the nesting is
 /// `Xml(EndMismatch)` with its number in the part, counted from 0. Attributes that end in a fault
 /// and have no `ref` are `XmlAttr`, and a `ref` that names no area has the refusal of its text.
-pub fn read_merge_cells<P: Package>(xml: &mut XlReader<'_, P>) -> Result<Vec<Dimensions>, XlsxError>
-    requires element { IsReadingElement (reading_by P.state xml.old) }
-    ensures same_package { SamePackage xml.old xml.new }
-    ensures reads { let old = reading_by P.state xml.old in
-        ReadsElement Io result old (reading_by P.state xml.new) }
-    ensures merges { let old = reading_by P.state xml.old in
-        old.source.is_told ≡ true →
-        IfOk result (λ areas. merges_in (content 0 (ahead old)) ≡ Ok areas.items) }
-    ensures failed { (reading_by P.state xml.new).is_failed ≡ is_err result }
-    ensures err { let old = reading_by P.state xml.old in
-        let new = reading_by P.state xml.new in
-        IfErr result (ElementReadFails (always []) merges_in old new) }
+pub fn read_merge_cells<P: Package>(xml: &mut XlReader<P>) -> Result<Vec<Dimensions>, XlsxError>
+    requires element { IsReadingElement xml.old }
+    ensures reads { ReadsElement Io result xml.old xml.new }
+    ensures merges { xml.old.source.is_told ≡ true →
+        IfOk result (λ areas. merges_in (content 0 (ahead xml.old)) ≡ Ok areas.items) }
+    ensures failed { xml.new.is_failed ≡ is_err result }
+    ensures err { IfErr result (ElementReadFails (always []) merges_in xml.old xml.new) }
     ensures kind { IfErr result IsMergesError }
 {
-    let alloc = xml.cursor.alloc();
-    let base = xml.cursor.depth();
-    let read = merges_in(alloc, xml.package, &mut xml.cursor, base);
+    let base = xml.depth();
+    let read = keep_all(xml, base, &["mergeCell"], "", MergeReader);
     if read.is_err() {
-        xml.cursor.give_up();
+        xml.give_up();
     }
     read
 }
@@ -140,7 +110,8 @@ pub fn regions_in<P: Package>(xml: &mut XlReader<P>) -> Result<Vec<Dimensions>, 
         OnOk result (xml.new.at ≡ length (events_of xml.old)) }
     ensures regions { xml.old.source.is_told ≡ true → IfOk result (λ areas.
         regions_of (events_of xml.old) ≡ Some areas.items) }
-    ensures err { IfErr result (WholePartFails (IsMeaningRefused merges_in) xml.old xml.new.source) }
+    ensures err { IfErr result
+        (WholePartFails (IsMeaningRefused merges_in) xml.old xml.new.source) }
     ensures kind { IfErr result IsRegionsError }
 {
     let alloc = xml.alloc();

@@ -1,4 +1,4 @@
-ghost use Rattle.std.specs.Prelude.{◌≡◌, codes, length, true, None, Some, IfOk, OnOk, IfErr};
+ghost use Rattle.std.specs.Prelude.{◌≡◌, codes, true, None, Some, IfOk, OnOk, IfErr};
 ghost use Rattle.std.specs.Prelude.{IsSome, MatchOption};
 ghost use Rattle.part_events.specs.Package.{Uses, CountsUp, part_of, event_count};
 ghost use Rattle.part_events.specs.Reading.{IsReading, ReadsPart, MovesForward, events_of};
@@ -12,7 +12,7 @@ ghost use Rattle.xlsx_areas.specs.MergeErrors.{BreaksBeforeMerges, LeavesFaults}
 ghost use Rattle.xlsx_areas.specs.MergedCells.{merges_of, merges_at, regions_at};
 ghost use Rattle.xlsx_areas.specs.MergedCells.{merges_or_none_of, merges_or_none_at};
 
-use crate::merged_cells::{merges_in, regions_in};
+use crate::merged_cells::{read_merge_cells, regions_in};
 use cell_refs::Dimensions;
 use part_events::{Package, XlReader};
 use xlsx_error::XlsxError;
@@ -36,8 +36,7 @@ fn merges_of<P: Package>(xml: &mut XlReader<P>) -> Result<Vec<Dimensions>, XlsxE
     if !find_section(xml, "mergeCells")? {
         return Ok(Vec::new(alloc));
     }
-    let base = xml.depth();
-    merges_in(xml, base)
+    read_merge_cells(xml)
 }
 
 /// The areas of the merged cells of the sheet whose part is at this path (ECMA-376 part 1, section
@@ -49,8 +48,8 @@ pub fn read_merges<P: Package>(
     xml: &mut XlReader<P>,
     path: &str,
 ) -> Result<Option<Vec<Dimensions>>, XlsxError>
-    ensures uses { Uses (event_count xml.old.source.parts path.now) Io result xml.old.source
-        xml.new.source }
+    ensures uses { Uses (event_count xml.old.source.parts path.now) Io result
+        xml.old.source xml.new.source }
     ensures to_end { ReadsToEnd (codes "mergeCells") path.now result xml.old.source xml.new.source }
     ensures merges { let old = xml.old.source in
         old.is_told ≡ true → IfOk result (λ found. MatchOption found
@@ -73,8 +72,8 @@ pub fn read_regions<P: Package>(
     xml: &mut XlReader<P>,
     path: &str,
 ) -> Result<Option<Vec<Dimensions>>, XlsxError>
-    ensures uses { Uses (event_count xml.old.source.parts path.now) Io result xml.old.source
-        xml.new.source }
+    ensures uses { Uses (event_count xml.old.source.parts path.now) Io result
+        xml.old.source xml.new.source }
     ensures to_end { let old = xml.old.source in
         old.is_told ≡ true →
         OnOk result (CountsUp (event_count old.parts path.now) old.taken xml.new.source.taken) }
@@ -111,8 +110,7 @@ fn merges_or_none<P: Package>(xml: &mut XlReader<P>) -> Result<Vec<Dimensions>, 
     if !find_section(xml, "mergeCells")? {
         return Ok(Vec::new(alloc));
     }
-    let base = xml.depth();
-    match merges_in(xml, base) {
+    match read_merge_cells(xml) {
         Ok(areas) => Ok(areas),
         Err(XlsxError::Io) => Err(XlsxError::Io),
         Err(XlsxError::OutOfMemory) => Err(XlsxError::OutOfMemory),
@@ -131,8 +129,8 @@ pub fn read_merges_or_none<P: Package>(
     xml: &mut XlReader<P>,
     path: &str,
 ) -> Result<Option<Vec<Dimensions>>, XlsxError>
-    ensures uses { Uses (event_count xml.old.source.parts path.now) Io result xml.old.source
-        xml.new.source }
+    ensures uses { Uses (event_count xml.old.source.parts path.now) Io result
+        xml.old.source xml.new.source }
     ensures to_end { IsSome (merges_at xml.old.source.parts path.now) →
         ReadsToEnd (codes "mergeCells") path.now result xml.old.source xml.new.source }
     ensures merges { let old = xml.old.source in

@@ -5,9 +5,7 @@ ghost use Rattle.std.specs.Prelude.{IfOk, OnOk, IfErr, IfSome, MatchOption, opti
 ghost use Rattle.std.specs.Result.{is_err};
 ghost use Rattle.cell_refs.specs.Positions.{are_sheet_bounds};
 ghost use Rattle.part_events.specs.Package.{Uses, event_count, part_of};
-ghost use Rattle.part_events.specs.Reader.{reading_by, SamePackage};
-ghost use Rattle.part_events.specs.Reading.{IsReading, ReadsPart};
-ghost use Rattle.part_events.specs.Reading.{events_of};
+ghost use Rattle.part_events.specs.Reading.{IsReading, ReadsPart, events_of};
 ghost use Rattle.part_events.specs.Walk.{section_ahead};
 ghost use Rattle.xlsx_error.specs.declared.error.XlsxError.TheVariants.{Io};
 ghost use Rattle.xlsx_sections.specs.Elements.{IsInsideRefused, ReachesEnd};
@@ -76,9 +74,8 @@ fn columns_in<P: Package>(xml: &mut XlReader<P>, base: usize) -> Result<Vec<Stri
         OnOk result (ReachesEnd base xml.old xml.new) }
     ensures columns { xml.old.source.is_told ≡ true → IfOk result (λ columns.
         columns_in (section_ahead base xml.old) ≡ Ok (map string_bytes columns.items)) }
-    ensures err { IfErr result
-        (SectionFails (always (codes "Table")) (IsInsideRefused columns_in) base
-        xml.old xml.new) }
+    ensures err { let refused = IsInsideRefused columns_in in
+        IfErr result (SectionFails (always (codes "Table")) refused base xml.old xml.new) }
     ensures kind { IfErr result IsTableError }
 {
     let alloc = xml.alloc();
@@ -127,29 +124,23 @@ fn table_of<P: Package>(xml: &mut XlReader<P>) -> Result<TablePart, XlsxError>
 /// a reference without a character is `Xml(Entity)` with the number of its start. A `ref` that
 /// names no area has the refusal of its text, as an absent one has, and a count that isn't a number
 /// of 32 bits in decimal digits alone is `ParseInt` of its text.
-pub fn read_table_part<P: Package>(xml: &mut XlReader<'_, P>) -> Result<TablePart, XlsxError>
-    requires reading { IsReading (reading_by P.state xml.old) }
-    requires first { (reading_by P.state xml.old).at ≡ 0 }
-    ensures same_package { SamePackage xml.old xml.new }
-    ensures reads { ReadsPart Io result (reading_by P.state xml.old) (reading_by P.state xml.new) }
-    ensures ends { let old = reading_by P.state xml.old in
-        let new = reading_by P.state xml.new in
-        let count = section_events (codes "table") (events_of old) in
-        old.source.is_told ≡ true → OnOk result (new.at ≡ count) }
-    ensures table { let old = reading_by P.state xml.old in
-        old.source.is_told ≡ true →
-        IfOk result (λ part. table_of (events_of old) ≡ Some (table_kept part)) }
+pub fn read_table_part<P: Package>(xml: &mut XlReader<P>) -> Result<TablePart, XlsxError>
+    requires reading { IsReading xml.old }
+    requires first { xml.old.at ≡ 0 }
+    ensures reads { ReadsPart Io result xml.old xml.new }
+    ensures ends { let count = section_events (codes "table") (events_of xml.old) in
+        xml.old.source.is_told ≡ true → OnOk result (xml.new.at ≡ count) }
+    ensures table { xml.old.source.is_told ≡ true →
+        IfOk result (λ part. table_of (events_of xml.old) ≡ Some (table_kept part)) }
     ensures inside { IfOk result (λ part. are_sheet_bounds part.area ≡ true) }
-    ensures failed { (reading_by P.state xml.new).is_failed ≡ is_err result }
-    ensures err { let old = reading_by P.state xml.old in
-        let new = reading_by P.state xml.new in
-        IfErr result (FailsBy (TableCause (events_of old)) old.source new.source) }
+    ensures failed { xml.new.is_failed ≡ is_err result }
+    ensures err { IfErr result
+        (FailsBy (TableCause (events_of xml.old)) xml.old.source xml.new.source) }
     ensures kind { IfErr result IsTableError }
 {
-    let alloc = xml.cursor.alloc();
-    let read = table_of(alloc, xml.package, &mut xml.cursor);
+    let read = table_of(xml);
     if read.is_err() {
-        xml.cursor.give_up();
+        xml.give_up();
     }
     read
 }
@@ -162,8 +153,8 @@ pub fn read_table_at<P: Package>(
     xml: &mut XlReader<P>,
     path: &str,
 ) -> Result<Option<TablePart>, XlsxError>
-    ensures uses { Uses (event_count xml.old.source.parts path.now) Io result xml.old.source
-        xml.new.source }
+    ensures uses { Uses (event_count xml.old.source.parts path.now) Io result
+        xml.old.source xml.new.source }
     ensures to_end { ReadsToEnd (codes "table") path.now result xml.old.source xml.new.source }
     ensures table { let old = xml.old.source in
         old.is_told ≡ true → IfOk result (λ found. MatchOption found
@@ -172,8 +163,8 @@ pub fn read_table_at<P: Package>(
     ensures inside { IfOk result (λ found. IfSome found (λ part.
         are_sheet_bounds part.area ≡ true)) }
     ensures err { IfErr result
-        (FailsBy (IfThere TableCause (part_of xml.old.source.parts path.now)) xml.old.source
-        xml.new.source) }
+        (FailsBy (IfThere TableCause (part_of xml.old.source.parts path.now))
+        xml.old.source xml.new.source) }
     ensures kind { IfErr result IsTableError }
 {
     if !open_part(xml, path)? {

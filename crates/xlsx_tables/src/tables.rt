@@ -11,7 +11,7 @@ ghost use Rattle.xlsx_tables.specs.declared.loaded.LoadedTable.{LoadedTable};
 use crate::loaded::LoadedTable;
 use crate::table_part::{TablePart, read_table_at};
 use part_events::{Package, XlReader};
-use std::alloc::{AllocError, Global};
+use std::alloc::AllocError;
 use xlsx_error::XlsxError;
 use xlsx_relationships::{ReadsRelated, push_related};
 
@@ -38,7 +38,6 @@ fn push_part(
 /// Reads the tables of parts, and keeps them with the number of their sheet.
 #[derive(Drop)]
 struct TableReader {
-    alloc: Global,
     sheet: usize,
 }
 
@@ -88,7 +87,6 @@ pub fn read_sheet_tables<P: Package>(
         xml.old.source xml.new.source }
     ensures kept { (more : List LoadedTable) × (tables.new.items ≡ tables.old.items ++ more) }
 {
-    let alloc = xml.alloc();
-    let by = TableReader { alloc, sheet };
+    let by = TableReader { sheet };
     push_related(xml, tables, path, TABLE_TYPE, &by)
 }

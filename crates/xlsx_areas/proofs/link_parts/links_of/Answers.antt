@@ -1,9 +1,10 @@
-use Rattle.std.proofs.Common.{◌∙◌, ℕ, [], codes, subst}
+use Rattle.std.proofs.Common.{◌∙◌, [], ap, codes, length}
 use Rattle.std.proofs.lemmas.Result.{IfErr-weaker}
 use Rattle.part_events.specs.Reading.{events_of}
 use Rattle.xlsx_sections.specs.Elements.{IsInsideRefused}
 use Rattle.xlsx_sections.specs.Failing.{FailsBy}
 use Rattle.xlsx_sections.specs.PartSection.{always, SectionFails}
+use Rattle.xlsx_sections.proofs.ElementsRead.{own_inside, own_end}
 use Rattle.xlsx_parts.proofs.SaidRead.{said_or_there, section_lacking_refused}
 use Rattle.xlsx_relationships.specs.LinkTargets.{target_held}
 use Rattle.xlsx_areas.specs.Hyperlinks.{links_in}
@@ -15,28 +16,27 @@ pub returns-clause-links : goal.returns-clause-links
 returns-clause-links g c = λ told.
     let name = codes "hyperlinks" in
     let old = c.args.xml.now in
+    let mid = c.find_section.new.xml in
     let meaning = links_in (target_held c.args.targets.now) in
     let still = c.in_ok-find_section.ensures.reads.moves.parts.is_told ∙ told in
     let there = rw c.if-not-branch.false at (c.in_ok-find_section.ensures.found told) in
-    both_known c.links_in.result
-    (λ links is ends. said_or_there [] name (events_of old) meaning there
-    (rw c.depth-base.ensures at ends.closed) (rw c.depth-base.ensures at is))
-    (c.links_in.ensures.links still) (c.links_in.ensures.reaches still)
+    both_known c.read_hyperlinks.result _
+    (λ links is passes. said_or_there [] name (events_of old) meaning there
+    (own_end mid ∙ (passes.skips still).closed) (ap meaning (own_inside mid) ∙ is))
+    (c.read_hyperlinks.ensures.links still) c.read_hyperlinks.ensures.reads
 
 pub returns-clause-err : goal.returns-clause-err
 returns-clause-err g c =
     let name = codes "hyperlinks" in
     let old = c.args.xml.now in
     let mid = c.find_section.new.xml in
-    let new = c.links_in.new.xml in
+    let new = c.read_hyperlinks.new.xml in
     let by = target_held c.args.targets.now in
     let refused = IsInsideRefused (links_in by) in
-    IfErr-weaker c.links_in.result
-    (SectionFails (always name) refused c.depth-base.result mid new)
+    IfErr-weaker c.read_hyperlinks.result
+    (SectionFails (always name) refused (length mid.names) mid new)
     (FailsBy (LinksCause by (events_of old)) old.source new.source)
     (λ error fails. section_lacking_refused name old mid (always name) refused new.source error
     c.in_ok-find_section.ensures.reads.moves.parts
-    (λ told. rw c.if-not-branch.false at (c.in_ok-find_section.ensures.found told))
-    (subst (λ (n : ℕ). SectionFails (always name) refused n mid new error) c.depth-base.ensures
-    fails))
-    c.links_in.ensures.err
+    (λ told. rw c.if-not-branch.false at (c.in_ok-find_section.ensures.found told)) fails)
+    c.read_hyperlinks.ensures.err

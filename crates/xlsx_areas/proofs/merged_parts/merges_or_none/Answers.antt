@@ -9,7 +9,7 @@ pub returns-in-Err : goal.returns-in-Err
 returns-in-Err g c =
     let old = c.args.xml.now in
     let mid = c.find_section.new.xml in
-    let new = c.merges_in.new.xml.source in
+    let new = c.read_merge_cells.new.xml.source in
     let refusal = c.in-Err.refusal in
     let other : refusal ≡ Io → ⊥ = search rules in
     let more : refusal ≡ OutOfMemory → ⊥ = search rules in
@@ -21,7 +21,7 @@ returns-in-Err g c =
           let found : section_in (codes "mergeCells") (events_of old) ≡ Some section = search rules
           in
           absurd (never_refused (events_of old) section mid.source new refusal found there other
-          more (rw c.depth-base.ensures at c.in-Err.ensures.err) (search rules));
+          more c.in-Err.ensures.err (search rules));
       faults = search rules;
       err = search rules;
       kind = search rules;
