@@ -33,7 +33,8 @@ pub fn copies_are_the_same<'a>()
     ensures package_failed { CopiesItself ⟦<PackageFailed as Clone>⟧.is_clone
         ⟦<PackageFailed as Clone>⟧.is_infallible }
     ensures step { CopiesItself ⟦<Step as Clone>⟧.is_clone ⟦<Step as Clone>⟧.is_infallible }
-    ensures wanted { CopiesItself ⟦<Wanted<'a> as Clone>⟧.is_clone ⟦<Wanted<'a> as Clone>⟧.is_infallible }
+    ensures wanted { CopiesItself ⟦<Wanted<'a> as Clone>⟧.is_clone
+        ⟦<Wanted<'a> as Clone>⟧.is_infallible }
     ensures stored_event { CopiesItself ⟦<StoredEvent as Clone>⟧.is_clone
         ⟦<StoredEvent as Clone>⟧.is_infallible }
     ensures place { CopiesItself ⟦<Place as Clone>⟧.is_clone ⟦<Place as Clone>⟧.is_infallible }

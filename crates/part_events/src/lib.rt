@@ -3,10 +3,9 @@
 //! Rooms: `event` (`PartEvent`, `StartTag`), `package` (the trait `Package`), `stored` (how a part
 //! keeps its events), `part_names` (an ordered map from folded names to parts), `memory`
 //! (`MemoryPackage`), `failing` (`FailingPackage`), `quiet` (`QuietPackage`), `open_names` (the
-//! names of the open elements), `cursor` (what a reader keeps beside its package), `text` (an
-//! element's text), `walk` (the step through a section, and the loop to its next wanted start),
-//! `reader` (`XlReader`), `fault` (`XmlFault`, `StreamError`), `equality` (`==` and copies),
-//! `laws`.
+//! names of the open elements), `reader` (`XlReader`), `text` (an element's text), `walk` (the step
+//! through a section, and the loop to its next wanted start), `fault` (`XmlFault`, `StreamError`),
+//! `equality` (`==` and copies), `laws`.
 //!
 //! The trait `Package` has one ghost member, `state`: what the package is to its reader
 //! (`PackageState`). Whether a package tells its content to proofs is its own choice (`is_told`).
@@ -26,17 +25,19 @@
 //! Ok, `StopsReading` where it is refused. What a call means, and when it is refused, are clauses
 //! of their own.
 //!
-//! **An event's way to a kept value.** `Package::advance` and `event` give it; `Cursor::next`
-//! counts it and keeps the names of the open elements; `Cursor::next_inside`, by which every
-//! section is read, tells whether it lies in the section, or closes it; `Cursor::walk` goes by this
-//! step, and passes it or answers it as a wanted start; the element's own function, in a crate
+//! **An event's way to a kept value.** `Package::advance` and `event` give it; `XlReader::next`
+//! counts it and keeps the names of the open elements; `XlReader::next_inside`, by which every
+//! section is read, tells whether it lies in the section, or closes it; `XlReader::walk` goes by
+//! this step, and passes it or answers it as a wanted start; the element's own function, in a crate
 //! above, reads what it keeps. What a reader answers is said of `ahead`: what is to come up to the
 //! first end that breaks the nesting.
 //!
-//! The logic lies in `Cursor`, which holds no package: its calls take one. `XlReader` is a `&mut`
-//! to the package beside a `Cursor` and nothing more, so that a caller knows what became of its
-//! package once the reader is gone. The names of open elements are kept in one text and a list of
-//! lengths, so that opening an element seldom asks for memory. No event is copied.
+//! **A reader owns its package**, and is seen by contracts as where it stands (`Reading`): the state
+//! of the package, the names of the open elements, how many events of the part were taken, and
+//! whether a call was refused. So a clause of what reads speaks of `xml.old` and `xml.new`, and what
+//! became of the package is said by it at a refusal, too; `into_package` gives it back. The names of
+//! open elements are kept in one text and a list of lengths, so that opening an element seldom asks
+//! for memory. No event is copied.
 //!
 //! Its lemma files: `Onward` (how calls follow one another), `Walking` (a walk's way over a
 //! section), `Sections` (how a section and an element in it go together) and `Nested` (wholeness,

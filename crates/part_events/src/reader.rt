@@ -111,7 +111,8 @@ impl<P: Package> XlReader<P> {
         requires { IsReading self.old }
         ensures reads { Reads Io result self.old self.new }
         ensures steps { IfOk result (λ more. Steps more self.old self.new) }
-        ensures ahead { self.old.source.is_told ≡ true → IfOk result (λ more. StepsAhead more self.old self.new) }
+        ensures ahead { self.old.source.is_told ≡ true →
+            IfOk result (λ more. StepsAhead more self.old self.new) }
         ensures err { IfErr result (NextFails self.old self.new) }
     {
         // Each refusal leaves it so.

@@ -69,7 +69,8 @@ impl<P: Package> XlReader<P> {
             self.old.source.is_told ≡ true → IfOk result
             (λ closed. ReadsText char_data closed texts self.old self.new) }
         ensures kept { IsFrontOf (string_bytes out.old) (string_bytes out.new) }
-        ensures front { let texts : List ℕ × List ℕ = (string_bytes out.old, string_bytes out.new) in
+        ensures front { let texts : List ℕ × List ℕ =
+            (string_bytes out.old, string_bytes out.new) in
             self.old.source.is_told ≡ true → OnErr result (PutsFront char_data (content 0
             (ahead self.old)) texts) }
         ensures err { IfErr result (TextFails self.old self.new) }

@@ -66,7 +66,8 @@ impl<P: Package> XlReader<P> {
         requires within { base ≤ length self.old.names }
         ensures reads { Reads Io result self.old self.new }
         ensures stands { IfOk result (λ step. StandsInside base step self.old self.new) }
-        ensures inside { self.old.source.is_told ≡ true → IfOk result (λ step. StepsInside base step self.old self.new) }
+        ensures inside { self.old.source.is_told ≡ true →
+            IfOk result (λ step. StepsInside base step self.old self.new) }
         ensures err { IfErr result (InsideFails base self.old self.new) }
     {
         if !self.next()? {
@@ -84,7 +85,8 @@ impl<P: Package> XlReader<P> {
         requires reading { IsReading self.old }
         requires within { base ≤ length self.old.names }
         ensures reads { Reads Io result self.old self.new }
-        ensures stands { IfOk result (λ step. StandsAt (wants wanted.entry) base step self.old self.new) }
+        ensures stands { IfOk result
+            (λ step. StandsAt (wants wanted.entry) base step self.old self.new) }
         ensures starts { self.old.source.is_told ≡ true →
             IfOk result (λ step. FindsStart (wants wanted.entry) base step self.old self.new) }
         ensures elements { self.old.source.is_told ≡ true →
@@ -118,7 +120,8 @@ impl<P: Package> XlReader<P> {
         ensures stands { let wanted = is_named (map (λ name. name.now) names.now) in
             IfOk result (λ step. StandsAt wanted base step self.old self.new) }
         ensures found { let wanted = is_named (map (λ name. name.now) names.now) in
-            self.old.source.is_told ≡ true → IfOk result (λ step. FindsStart wanted base step self.old self.new) }
+            self.old.source.is_told ≡ true →
+            IfOk result (λ step. FindsStart wanted base step self.old self.new) }
         ensures err { let wanted = is_named (map (λ name. name.now) names.now) in
             IfErr result (WalkFails wanted base self.old self.new) }
     {
