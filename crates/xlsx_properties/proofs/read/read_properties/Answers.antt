@@ -1,7 +1,8 @@
 use Rattle.std.proofs.Common.{◌≡◌, ◌∙◌, ◌+◌, ℕ, List, Option, None, Ok, sym, ap, inl, inr}
 use Rattle.std.proofs.Common.{arith}
 use Rattle.std.proofs.lemmas.Result.{err_from_is_err_and}
-use Rattle.part_events.specs.Package.{UsesPackage, PackageState, Part, SameParts, part_of, event_count}
+use Rattle.part_events.specs.Package.{PackageState, Part, SameParts, UsesPackage, part_of}
+use Rattle.part_events.specs.Package.{event_count}
 use Rattle.part_events.proofs.Uses.{uses_then, leaves_then, same_further}
 use Rattle.xlsx_sections.proofs.Failing.{fails_by_weaker, given_back, same_parts}
 use Rattle.xlsx_properties.specs.CustomProperties.{custom_in}
