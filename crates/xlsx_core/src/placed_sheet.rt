@@ -73,7 +73,7 @@ pub fn open_placed<P: Package>(
     ensures uses { Uses (placed_events (path_lent path.entry) xml.old.source.parts) Io result
         xml.old.source xml.new.source }
     ensures enters { IfOk result (λ entered. IsSomeAnd (path_lent path.entry) (λ there.
-        EntersData there entered.1 xml.old.source (stream xml.new.source entered.0))) }
+        EntersData there entered.1 xml.old.source (stream xml.new entered.0))) }
     ensures err { IfErr result (PlacedHeadFails name.now (path_lent path.entry)
         xml.old.source xml.new.source) }
     ensures lacks { let old = xml.old.source in
