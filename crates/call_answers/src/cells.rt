@@ -9,7 +9,7 @@ use crate::areas::push_area;
 use crate::values::{Told, push_refusal};
 use anyhow::Result;
 use cell_data::{Cell, DataRef};
-use part_events::Package;
+use part_events::{Package, XlReader};
 use std::alloc::Global;
 use xlsx_cells::{XlsxCellFormula, XlsxCellFormulaMetadataRecord, XlsxCellReader, open_data};
 use xlsx_core::XlsxError;
@@ -172,8 +172,8 @@ fn push_given<P: Package>(
     reader: &mut XlsxCellReader<'_, P>,
     call: &str,
 ) -> Result<()>
-    requires { IsStreaming (stream_by P.state reader.old) }
-    ensures { IsStreaming (stream_by P.state reader.new) }
+    requires { IsStreaming (stream_by reader.old) }
+    ensures { IsStreaming (stream_by reader.new) }
 {
     match call {
         "value" => push_cell_value(out, strings, reader.next_cell()),
@@ -196,7 +196,7 @@ pub fn push_calls<P: Package>(
     reader: &mut XlsxCellReader<'_, P>,
     calls: &[&str],
 ) -> Result<()>
-    requires { IsStreaming (stream_by P.state reader.old) }
+    requires { IsStreaming (stream_by reader.old) }
 {
     'calls: for call in calls {
         push_given(out, strings, reader, call)?;
@@ -205,16 +205,14 @@ pub fn push_calls<P: Package>(
 }
 
 /// How many cells the sheet at this path has, as a reader counts them that goes on behind its head.
-pub fn count_cells<P: Package>(alloc: Global, package: &mut P, path: &str) -> Result<u64, XlsxError>
-    ensures keeps { SameParts (P.state «package».old) (P.state «package».new) }
-    ensures faults { let old = P.state «package».old in
-        let new = P.state «package».new in
-        OnOk result (new.faults ≡ old.faults) }
+pub fn count_cells<P: Package>(xml: &mut XlReader<P>, path: &str) -> Result<u64, XlsxError>
+    ensures keeps { SameParts xml.old.source xml.new.source }
+    ensures faults { OnOk result (xml.new.source.faults ≡ xml.old.source.faults) }
 {
-    let Some((sheet, dimensions)) = open_data(alloc, package, path)? else {
+    let Some((sheet, dimensions)) = open_data(xml, path)? else {
         return Ok(0);
     };
-    let mut reader = XlsxCellReader::resume(package, &[], &[], &[], false, sheet, dimensions);
+    let mut reader = XlsxCellReader::resume(xml, &[], &[], &[], false, sheet, dimensions);
     let mut count = 0u64;
     'cells: while let Some(_cell) = reader.next_cell()? {
         count = count.saturating_add(1);

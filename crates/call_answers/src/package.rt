@@ -83,12 +83,8 @@ pub fn push_counts<P: Package + Drop>(
 }
 
 /// The pivot tables of sheets, whose names and paths are the words in turn behind the folder.
-fn push_found(
-    out: &mut String,
-    alloc: Global,
-    package: &mut FailingPackage,
-    words: &[&str],
-) -> Result<()> {
+fn push_found(out: &mut String, xml: &mut XlReader<FailingPackage>, words: &[&str]) -> Result<()> {
+    let alloc = xml.alloc();
     let mut sheets = Vec::new(alloc);
     for pair in words_behind(words, 2) {
         let (name, path) = pair.split_once(':').unwrap_or((pair, ""));
@@ -97,7 +93,7 @@ fn push_found(
             String::from_str(alloc, path)?,
         ))?;
     }
-    match find_pivot_tables(alloc, package, &sheets, word(words, 1)) {
+    match find_pivot_tables(xml, &sheets, word(words, 1)) {
         Ok(pivots) => push_pivots(out, &pivots),
         Err(error) => push_refusal(out, &error),
     }
@@ -120,11 +116,10 @@ fn push_fields(out: &mut String, answer: Result<Vec<CacheField>, XlsxError>) -> 
 /// The rows of a cache, or why they are not opened.
 fn push_cache_rows(
     out: &mut String,
-    alloc: Global,
-    package: &mut FailingPackage,
+    xml: &mut XlReader<FailingPackage>,
     words: &[&str],
 ) -> Result<()> {
-    match PivotCacheIter::open(alloc, package, word(words, 1), word(words, 2)) {
+    match PivotCacheIter::open(xml, word(words, 1), word(words, 2)) {
         Ok(rows) => {
             for row in rows {
                 push_row(out, row)?;
@@ -138,11 +133,10 @@ fn push_cache_rows(
 /// What so many calls of the iterator over the rows of a cache give.
 fn push_next_rows(
     out: &mut String,
-    alloc: Global,
-    package: &mut FailingPackage,
+    xml: &mut XlReader<FailingPackage>,
     words: &[&str],
 ) -> Result<()> {
-    let mut rows = match PivotCacheIter::open(alloc, package, word(words, 1), word(words, 2)) {
+    let mut rows = match PivotCacheIter::open(xml, word(words, 1), word(words, 2)) {
         Ok(rows) => rows,
         Err(error) => return push_refusal(out, &error),
     };
@@ -158,11 +152,11 @@ fn push_next_rows(
 /// How many rows of a cache are collected, those that are refused among them.
 fn push_collected(
     out: &mut String,
-    alloc: Global,
-    package: &mut FailingPackage,
+    xml: &mut XlReader<FailingPackage>,
     words: &[&str],
 ) -> Result<()> {
-    match PivotCacheIter::open(alloc, package, word(words, 1), word(words, 2)) {
+    let alloc = xml.alloc();
+    match PivotCacheIter::open(xml, word(words, 1), word(words, 2)) {
         Ok(rows) => {
             let rows: Vec<Result<Vec<Data>, XlsxError>> = rows.collect(alloc)?;
             Ok(write!(out, "{}", rows.len())?)
@@ -180,12 +174,11 @@ fn push_table_part(out: &mut String, table: &TablePart) -> Result<()> {
 /// The tables of a sheet, or why they are not read.
 fn push_sheet_tables(
     out: &mut String,
-    alloc: Global,
-    package: &mut FailingPackage,
+    xml: &mut XlReader<FailingPackage>,
     path: &str,
 ) -> Result<()> {
-    let mut tables = Vec::new(alloc);
-    if let Err(error) = read_sheet_tables(alloc, package, &mut tables, 0, path) {
+    let mut tables = Vec::new(xml.alloc());
+    if let Err(error) = read_sheet_tables(xml, &mut tables, 0, path) {
         return push_refusal(out, &error);
     }
     for table in &tables {
@@ -196,49 +189,41 @@ fn push_sheet_tables(
 }
 
 /// The table of a part, by a reader that took nothing of it.
-fn table_in(
-    alloc: Global,
-    package: &mut FailingPackage,
-    path: &str,
-) -> Result<TablePart, XlsxError> {
-    match XlReader::open(alloc, package, path)? {
-        Some(mut xml) => read_table_part(&mut xml),
-        None => Err(XlsxError::Failed),
+fn table_in(xml: &mut XlReader<FailingPackage>, path: &str) -> Result<TablePart, XlsxError> {
+    if !xml.open(path)? {
+        return Err(XlsxError::Failed);
     }
+    read_table_part(xml)
 }
 
 /// The links in the section with which a part begins, whose targets are the words behind its path.
 fn links_in(
-    alloc: Global,
-    package: &mut FailingPackage,
+    xml: &mut XlReader<FailingPackage>,
     words: &[&str],
 ) -> Result<Vec<Hyperlink>, XlsxError> {
+    let alloc = xml.alloc();
     let mut targets = BTreeMap::new(alloc);
     let target = String::from_str(alloc, word(words, 3))?;
     targets.insert(String::from_str(alloc, word(words, 2))?, target)?;
-    let Some(mut xml) = XlReader::open(alloc, package, word(words, 1))? else {
+    if !xml.open(word(words, 1))? {
         return Err(XlsxError::Failed);
-    };
+    }
     if xml.next()? {
         if let PartEvent::Start(_) = xml.event() {
-            return read_hyperlinks(&mut xml, &targets);
+            return read_hyperlinks(xml, &targets);
         }
     }
     Err(XlsxError::Failed)
 }
 
 /// The areas in the section with which a part begins.
-fn areas_in(
-    alloc: Global,
-    package: &mut FailingPackage,
-    path: &str,
-) -> Result<Vec<Dimensions>, XlsxError> {
-    let Some(mut xml) = XlReader::open(alloc, package, path)? else {
+fn areas_in(xml: &mut XlReader<FailingPackage>, path: &str) -> Result<Vec<Dimensions>, XlsxError> {
+    if !xml.open(path)? {
         return Err(XlsxError::Failed);
-    };
+    }
     if xml.next()? {
         if let PartEvent::Start(_) = xml.event() {
-            return read_merge_cells(&mut xml);
+            return read_merge_cells(xml);
         }
     }
     Err(XlsxError::Failed)
@@ -248,16 +233,16 @@ fn areas_in(
 /// shared string is `zero`, or why it can't be made.
 fn push_part_cells(
     out: &mut String,
-    alloc: Global,
-    package: &mut FailingPackage,
+    xml: &mut XlReader<FailingPackage>,
     words: &[&str],
 ) -> Result<()> {
+    let alloc = xml.alloc();
     let texts = vec![in alloc; String::from_str(alloc, "zero")?]?;
-    let xml = match XlReader::open(alloc, package, word(words, 1)) {
-        Ok(Some(xml)) => xml,
-        Ok(None) => return Ok(()),
+    match xml.open(word(words, 1)) {
+        Ok(true) => {}
+        Ok(false) => return Ok(()),
         Err(error) => return push_refusal(out, &error),
-    };
+    }
     let styles = Vec::from_array(
         alloc,
         [Style::default(), Style::default(), Style::default()],
@@ -266,7 +251,7 @@ fn push_part_cells(
         alloc,
         texts: &texts,
     };
-    match XlsxCellReader::new(alloc, xml, &texts, &FORMATS, &styles, true) {
+    match XlsxCellReader::new(xml, &texts, &FORMATS, &styles, true) {
         Ok(mut reader) => push_calls(out, strings, &mut reader, words_behind(words, 2)),
         Err(error) => push_refusal(out, &error),
     }
@@ -279,31 +264,47 @@ fn push_counted(out: &mut String, answer: Result<u64, XlsxError>) -> Result<()> 
     }
 }
 
-/// Answers a call on a package that leaves it where it is.
-pub fn push_package_answer(
+/// Answers a call on a reader of a package.
+fn push_reader_answer(
     out: &mut String,
-    alloc: Global,
-    package: &mut FailingPackage,
+    xml: &mut XlReader<FailingPackage>,
     words: &[&str],
 ) -> Result<()> {
     let path = word(words, 1);
     match word(words, 0) {
-        "faults" => Ok(write!(out, "{}", package.faults())?),
-        "taken" => Ok(write!(out, "{}", package.taken())?),
-        "find_pivots" => push_found(out, alloc, package, words),
-        "cache_fields" => push_fields(out, read_fields(alloc, package, path)),
-        "cache_rows" => push_cache_rows(out, alloc, package, words),
-        "cache_collected" => push_collected(out, alloc, package, words),
-        "cache_next" => push_next_rows(out, alloc, package, words),
-        "sheet_tables" => push_sheet_tables(out, alloc, package, path),
-        "table_part" => match table_in(alloc, package, path) {
+        "find_pivots" => push_found(out, xml, words),
+        "cache_fields" => push_fields(out, read_fields(xml, path)),
+        "cache_rows" => push_cache_rows(out, xml, words),
+        "cache_collected" => push_collected(out, xml, words),
+        "cache_next" => push_next_rows(out, xml, words),
+        "sheet_tables" => push_sheet_tables(out, xml, path),
+        "table_part" => match table_in(xml, path) {
             Ok(table) => push_table_part(out, &table),
             Err(error) => push_refusal(out, &error),
         },
-        "link_section" => push_links(out, links_in(alloc, package, words)),
-        "merge_section" => push_areas(out, areas_in(alloc, package, path)),
-        "part_cells" => push_part_cells(out, alloc, package, words),
-        "count_cells" => push_counted(out, count_cells(alloc, package, path)),
+        "link_section" => push_links(out, links_in(xml, words)),
+        "merge_section" => push_areas(out, areas_in(xml, path)),
+        "part_cells" => push_part_cells(out, xml, words),
+        "count_cells" => push_counted(out, count_cells(xml, path)),
         other => Ok(write!(out, "no call of a package is {other}")?),
     }
+}
+
+/// Answers a call on a package that leaves it one, which is handed back.
+pub fn push_package_answer(
+    out: &mut String,
+    alloc: Global,
+    package: FailingPackage,
+    words: &[&str],
+) -> Result<FailingPackage> {
+    match word(words, 0) {
+        "faults" => write!(out, "{}", package.faults())?,
+        "taken" => write!(out, "{}", package.taken())?,
+        _ => {
+            let mut xml = XlReader::new(alloc, package);
+            push_reader_answer(out, &mut xml, words)?;
+            return Ok(xml.into_package());
+        }
+    }
+    Ok(package)
 }

@@ -93,16 +93,12 @@ fn from_package(
     package: FailingPackage,
     words: &[&str],
 ) -> Result<Held> {
-    let mut package = package;
     match word(words, 0) {
         "open" => book_from(out, alloc, package),
         "reading" => Ok(Held::Package(push_reading(out, alloc, package, word(words, 1))?)),
         "counts" => Ok(Held::Package(push_counts(out, alloc, package, word(words, 1))?)),
         "quiet" => Ok(Held::Package(push_quiet(out, alloc, package, word(words, 1))?)),
-        _ => {
-            push_package_answer(out, alloc, &mut package, words)?;
-            Ok(Held::Package(package))
-        }
+        _ => Ok(Held::Package(push_package_answer(out, alloc, package, words)?)),
     }
 }
 

@@ -1,3 +1,4 @@
 pub mod Counted
 mod FirstErrors
+pub mod InMemory
 mod Through

@@ -5,18 +5,18 @@ ghost use Rattle.xlsx_core.specs.TableData.{table_of_book, IsOfTable};
 ghost use Rattle.xlsx_core.specs.Worksheets.{KeepsWorkbook};
 
 use cell_data::{Data, Table};
-use part_events::Package;
+use part_events::{Package, XlReader};
 use xlsx_core::{Workbook, Xlsx};
 use xlsx_error::XlsxError;
 
 /// Where the first cell of the first sheet of this name is, a row and a column counted from 0. The
 /// place is tested, and no clause says it.
 fn first_place<P: Package>(
-    package: &mut P,
+    xml: &mut XlReader<P>,
     workbook: &Workbook,
     name: &str,
 ) -> Result<Option<(u32, u32)>, XlsxError> {
-    let mut reader = workbook.worksheet_cells_reader(package, name)?;
+    let mut reader = workbook.worksheet_cells_reader(xml, name)?;
     match reader.next_cell()? {
         Some(cell) => Ok(Some(cell.pos)),
         None => Ok(None),
@@ -40,9 +40,9 @@ pub fn first_place_and_table<P: Package>(
     ensures table { IfOk result.1 (λ read.
         IsSomeAnd (table_of_book xlsx table_name.now) (λ own. IsOfTable own read.1)) }
 {
-    let (mut package, workbook) = xlsx.into_parts();
-    let place = first_place(&mut package, &workbook, sheet_name);
-    let mut xlsx = Xlsx::from_parts(package, workbook);
+    let (mut xml, workbook) = xlsx.into_parts();
+    let place = first_place(&mut xml, &workbook, sheet_name);
+    let mut xlsx = Xlsx::from_parts(xml, workbook);
     let table = xlsx.table_by_name(table_name);
     let read = match (place, table) {
         (Ok(place), Ok(table)) => Ok((place, table)),

@@ -1,41 +1,37 @@
-//! A package in memory has no faults, so that no call that lends it answers `Io`.
+//! A package in memory has no faults, so that no call that lends its reader answers `Io`.
 
 ghost use Rattle.std.specs.Prelude.{◌≡◌, IsOk, IfErr};
-ghost use Rattle.part_events.specs.Reader as xml_reader;
 ghost use Rattle.part_events.specs.Reading.{IsReading};
-ghost use Rattle.part_events.specs.Memory.{state_of};
 ghost use Rattle.xlsx_error.specs.declared.error.XlsxError.TheVariants.{Io};
 
 use cell_data::CellFormat;
 use cell_styles::Style;
 use part_events::{MemoryPackage, StreamError, XlReader};
-use std::alloc::Global;
 use xlsx_core::{PivotCacheIter, PivotTables, Xlsx, XlsxCellReader, XlsxError};
 
-/// A reader of the part of this name, or None where there is none. It is never refused.
-pub fn part_in_memory<'a>(
-    alloc: Global,
-    package: &'a mut MemoryPackage,
-    name: &str,
-) -> Result<Option<XlReader<'a, MemoryPackage>>, StreamError>
+/// Opens the part of this name, and answers false where there is none. It is never refused.
+#[tactic(auto, using(crate::proofs::InMemory::never_refused))]
+pub fn part_in_memory(xml: &mut XlReader<MemoryPackage>, name: &str) -> Result<bool, StreamError>
     ensures { IsOk result }
 {
-    XlReader::open(alloc, package, name)
+    let found = xml.open(name);
+    // What it reads is a package in memory still, whose count of faults is 0.
+    xml.holds_package();
+    found
 }
 
 /// A reader of the cells of the part that `xml` reads.
 pub fn cells_in_memory<'a>(
-    alloc: Global,
-    xml: XlReader<'a, MemoryPackage>,
+    xml: &'a mut XlReader<MemoryPackage>,
     strings: &'a [String],
     formats: &'a [CellFormat],
     styles: &'a [Style],
 ) -> Result<XlsxCellReader<'a, MemoryPackage>, XlsxError>
-    requires reading { IsReading (xml_reader.reading_by state_of xml) }
-    requires first { (xml_reader.reading_by state_of xml).at ≡ 0 }
+    requires reading { IsReading xml.old }
+    requires first { xml.old.at ≡ 0 }
     ensures { IfErr result (λ error. error ≡ Io → ⊥) }
 {
-    XlsxCellReader::new(alloc, xml, strings, formats, styles, false)
+    XlsxCellReader::new(xml, strings, formats, styles, false)
 }
 
 /// A reader of the cells of the first sheet of this name.
@@ -50,14 +46,13 @@ pub fn sheet_in_memory<'a>(
 
 /// The rows of the cache whose definitions and records are the parts of these names.
 pub fn rows_in_memory<'a>(
-    alloc: Global,
-    package: &'a mut MemoryPackage,
+    xml: &'a mut XlReader<MemoryPackage>,
     definitions: &str,
     records: &str,
 ) -> Result<PivotCacheIter<'a, MemoryPackage>, XlsxError>
     ensures { IfErr result (λ error. error ≡ Io → ⊥) }
 {
-    PivotCacheIter::open(alloc, package, definitions, records)
+    PivotCacheIter::open(xml, definitions, records)
 }
 
 /// The rows of the cache of the first of these pivot tables that has this name on this sheet.

@@ -7,7 +7,8 @@
 //! `taking` takes cells one by one, by one call to the end and by two calls in turn, or up to the
 //! first error; its contracts stand on those of `XlsxCellReader` and on the lemmas `WholeReadings`
 //! of `xlsx_cells`; its own are `FirstErrors` and `Through`. `in_memory` shows that no call that
-//! lends a package in memory answers `Io`, and `whole_cells` takes all that a cell has in one pass.
+//! lends the reader of a package in memory answers `Io`, and `whole_cells` takes all that a cell
+//! has in one pass.
 #![tactic(auto)]
 
 mod apart;

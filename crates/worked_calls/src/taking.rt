@@ -23,17 +23,17 @@ pub fn formulas_taken<P: Package>(
     alloc: Global,
     reader: &mut XlsxCellReader<'_, P>,
 ) -> Result<Vec<XlsxCellFormula>, XlsxError>
-    requires going { IsGoing (stream_by P.state reader.old) }
-    requires fresh { StandsBehind [] [] (stream_by P.state reader.old) }
-    ensures values { let old = stream_by P.state reader.old in
+    requires going { IsGoing (stream_by reader.old) }
+    requires fresh { StandsBehind [] [] (stream_by reader.old) }
+    ensures values { let old = stream_by reader.old in
         old.reading.source.is_told ≡ true → IfOk result (λ cells.
         values_in (grounds_by reader.old) (data_ahead old)
         ≡ Ok (map formula_value_entry cells.items)) }
-    ensures formulas { let old = stream_by P.state reader.old in
+    ensures formulas { let old = stream_by reader.old in
         old.reading.source.is_told ≡ true → IfOk result (λ cells.
         TakesAll (IsValuedFormula (grounds_by reader.old)) [] [] old cells.items) }
     ensures err { IfErr result (DataFails values_and_formulas (grounds_by reader.old)
-        (stream_by P.state reader.old) (stream_by P.state reader.new)) }
+        (stream_by reader.old) (stream_by reader.new)) }
 {
     let mut cells = Vec::new(alloc);
     'cells: while let Some(cell) = reader.next_cell_with_formula()? {
@@ -55,21 +55,21 @@ fn is_error(cell: &Cell<DataRef>) -> bool
 pub fn first_error<P: Package>(
     reader: &mut XlsxCellReader<'_, P>,
 ) -> Result<Option<Cell<DataRef>>, XlsxError>
-    requires going { IsGoing (stream_by P.state reader.old) }
-    requires fresh { StandsBehind [] [] (stream_by P.state reader.old) }
-    ensures found { let old = stream_by P.state reader.old in
+    requires going { IsGoing (stream_by reader.old) }
+    requires fresh { StandsBehind [] [] (stream_by reader.old) }
+    ensures found { let old = stream_by reader.old in
         old.reading.source.is_told ≡ true → IfOk result (λ found. IsFirstError
         (option_map cell_value_entry found) (values_in (grounds_by reader.old) (data_ahead old))) }
-    ensures stops { let old = stream_by P.state reader.old in
-        let new = stream_by P.state reader.new in
+    ensures stops { let old = stream_by reader.old in
+        let new = stream_by reader.new in
         old.reading.source.is_told ≡ true → IfOk result (λ found.
         IfSome found (StopsAtError (grounds_by reader.old) old new)) }
-    ensures before { let old = stream_by P.state reader.old in
-        let new = stream_by P.state reader.new in
+    ensures before { let old = stream_by reader.old in
+        let new = stream_by reader.new in
         old.reading.source.is_told ≡ true →
         IfErr result (FailsBeforeError (grounds_by reader.old) old new) }
     ensures err { IfErr result (DataFails values_alone (grounds_by reader.old)
-        (stream_by P.state reader.old) (stream_by P.state reader.new)) }
+        (stream_by reader.old) (stream_by reader.new)) }
 {
     'cells: while let Some(cell) = reader.next_cell()? {
         if is_error(&cell) {
@@ -85,20 +85,20 @@ pub fn first_error<P: Package>(
 pub fn two_taken<P: Package>(
     reader: &mut XlsxCellReader<'_, P>,
 ) -> Result<Option<(Cell<DataRef>, XlsxCellFormula)>, XlsxError>
-    requires { IsStreaming (stream_by P.state reader.old) }
-    ensures streaming { IsStreaming (stream_by P.state reader.new) }
-    ensures takes { let old = stream_by P.state reader.old in
-        let new = stream_by P.state reader.new in
+    requires { IsStreaming (stream_by reader.old) }
+    ensures streaming { IsStreaming (stream_by reader.new) }
+    ensures takes { let old = stream_by reader.old in
+        let new = stream_by reader.new in
         old.reading.source.is_told ≡ true → (before : List Mark) (earlier : List FormulaText) →
         StandsBehind before earlier old → IfOk result
         (λ found. IfSome found (TakesBoth (grounds_by reader.old) before earlier old new)) }
-    ensures none { let old = stream_by P.state reader.old in
-        let new = stream_by P.state reader.new in
+    ensures none { let old = stream_by reader.old in
+        let new = stream_by reader.new in
         old.reading.source.is_told ≡ true → (before : List Mark) (earlier : List FormulaText) →
         StandsBehind before earlier old → IfOk result
         (λ found. IfNone found (LacksTwo (grounds_by reader.old) before earlier old new)) }
-    ensures err { let old = stream_by P.state reader.old in
-        let new = stream_by P.state reader.new in
+    ensures err { let old = stream_by reader.old in
+        let new = stream_by reader.new in
         IfErr result (TwoFail (grounds_by reader.old) old new) }
 {
     let Some(first) = reader.next_cell()? else {

@@ -1,6 +1,7 @@
 use crate::{first_place_and_table, formula_count, full_cells};
 use cell_data::CellFormat;
 use cell_refs::Dimensions;
+use part_events::XlReader;
 use std::test::Fail;
 use test_packages::{Part, SHEET_NAME, package_of, package_with, sheet_part};
 use xlsx_core::{Xlsx, XlsxError};
@@ -30,14 +31,15 @@ fn full_cells_are_counted_in_one_pass(rt: HostRuntime) -> Result<(), Fail> {
     let data =
         r#"<c s="1"><f>B1</f><v>1</v></c><c s="1"><f>B1</f></c><c s="1"><v>1</v></c><c><f>B1</f><v>1</v></c>"#;
     let sheet = sheet_part(alloc, data)?;
-    let mut package = package_with(alloc, (SHEET_NAME, sheet.as_str()))?;
+    let package = package_with(alloc, (SHEET_NAME, sheet.as_str()))?;
+    let mut xml = XlReader::new(alloc, package);
     let book = Book {
         strings: &[],
         formats: &[CellFormat::Other, CellFormat::Other],
         is_1904: false,
     };
-    assert_eq!(rt; full_cells(alloc, &mut package, SHEET_NAME, book)?, 1);
-    assert_eq!(rt; full_cells(alloc, &mut package, "none", book)?, 0);
+    assert_eq!(rt; full_cells(&mut xml, SHEET_NAME, book)?, 1);
+    assert_eq!(rt; full_cells(&mut xml, "none", book)?, 0);
     Ok(())
 }
 

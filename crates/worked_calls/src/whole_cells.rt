@@ -5,8 +5,7 @@ ghost use Rattle.part_events.specs.Package.{SameParts, KeepsFaults};
 ghost use Rattle.xlsx_error.specs.declared.error.XlsxError.TheVariants.{Io};
 
 use cell_data::DataRef;
-use part_events::Package;
-use std::alloc::Global;
+use part_events::{Package, XlReader};
 use xlsx_cells::{Asked, CellRead, Wants, open_data};
 use xlsx_error::XlsxError;
 use xlsx_values::Book;
@@ -17,20 +16,18 @@ fn is_full(cell: &CellRead) -> bool {
 }
 
 /// How many cells of the part at this path have all that a cell can have. A path without a part has
-/// none. The package is lent for this call alone, so it is known what a refusal leaves; the count
+/// none. The reader is lent for this call alone, so it is known what a refusal leaves; the count
 /// is tested, and no clause says it.
 pub fn full_cells<P: Package>(
-    alloc: Global,
-    package: &mut P,
+    xml: &mut XlReader<P>,
     path: &str,
     book: Book<'_>,
 ) -> Result<u64, XlsxError>
-    ensures keeps { SameParts (P.state «package».old) (P.state «package».new) }
-    ensures faults { OnOk result ((P.state «package».new).faults ≡ (P.state «package».old).faults) }
-    ensures counts { IfErr result
-        (KeepsFaults Io (P.state «package».old) (P.state «package».new)) }
+    ensures keeps { SameParts xml.old.source xml.new.source }
+    ensures faults { OnOk result (xml.new.source.faults ≡ xml.old.source.faults) }
+    ensures counts { IfErr result (KeepsFaults Io xml.old.source xml.new.source) }
 {
-    let Some((sheet, _)) = open_data(alloc, package, path)? else {
+    let Some((sheet, _)) = open_data(xml, path)? else {
         return Ok(0);
     };
     let mut sheet = sheet;
@@ -41,7 +38,7 @@ pub fn full_cells<P: Package>(
         keeps_masters: false,
     };
     let mut count = 0u64;
-    'cells: while let Some(cell) = sheet.next(package, asked)? {
+    'cells: while let Some(cell) = sheet.next(xml, asked)? {
         if is_full(&cell) {
             count = count.saturating_add(1);
         }

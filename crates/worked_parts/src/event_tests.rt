@@ -38,6 +38,18 @@ fn held_package(
     Ok(package)
 }
 
+/// A reader of a package whose last part has the first events of a list.
+fn held_reader(
+    rt: &impl Abort,
+    alloc: Global,
+    name: &str,
+    events: &[PartEvent<'_>],
+    count: u64,
+) -> Result<XlReader<MemoryPackage>, AllocError> {
+    let package = held_package(rt, alloc, name, events, count)?;
+    Ok(XlReader::new(alloc, package))
+}
+
 /// The events of a part by their numbers, each as one word.
 pub fn told_events(
     rt: &impl Abort,
@@ -62,43 +74,41 @@ pub fn told_events(
 
 /// The events of a part, up to its end.
 pub fn count_events<P: Package>(
-    alloc: Global,
-    package: &mut P,
+    xml: &mut XlReader<P>,
     name: &str,
 ) -> Result<Option<u64>, StreamError> {
-    let Some(mut reader) = XlReader::open(alloc, package, name)? else {
+    if !xml.open(name)? {
         return Ok(None);
-    };
-    'events: while reader.next()? {}
-    Ok(Some(reader.at()))
+    }
+    'events: while xml.next()? {}
+    Ok(Some(xml.at()))
 }
 
 /// Skips the first element of a part.
-fn skip_first<P: Package>(alloc: Global, package: &mut P) -> Result<usize, StreamError> {
-    let Some(mut reader) = XlReader::open(alloc, package, "part")? else {
+fn skip_first<P: Package>(xml: &mut XlReader<P>) -> Result<usize, StreamError> {
+    if !xml.open("part")? {
         return Ok(9);
-    };
-    if reader.next()? {
-        if let PartEvent::Start(_) = reader.event() {
-            reader.skip_element()?;
+    }
+    if xml.next()? {
+        if let PartEvent::Start(_) = xml.event() {
+            xml.skip_element()?;
         }
     }
-    Ok(reader.depth())
+    Ok(xml.depth())
 }
 
 /// The text of the first element of a part.
 fn first_text<P: Package>(
-    alloc: Global,
-    package: &mut P,
+    xml: &mut XlReader<P>,
     out: &mut String,
     char_data: bool,
 ) -> Result<bool, StreamError> {
-    let Some(mut reader) = XlReader::open(alloc, package, "part")? else {
+    if !xml.open("part")? {
         return Ok(false);
-    };
-    if reader.next()? {
-        if let PartEvent::Start(_) = reader.event() {
-            return reader.read_text(out, char_data);
+    }
+    if xml.next()? {
+        if let PartEvent::Start(_) = xml.event() {
+            return xml.read_text(out, char_data);
         }
     }
     Ok(false)
@@ -107,48 +117,46 @@ fn first_text<P: Package>(
 /// How many elements of a name stand in the first section, how many children it has, and how it
 /// ended.
 fn count_elements<P: Package>(
-    alloc: Global,
-    package: &mut P,
+    xml: &mut XlReader<P>,
     section: &str,
     name: Option<&str>,
 ) -> Result<(u32, Step), StreamError> {
-    let Some(mut reader) = XlReader::open(alloc, package, "part")? else {
-        return Ok((0, Step::Ended));
-    };
-    if reader.next_start(0, &[section])? != Step::Found {
+    if !xml.open("part")? {
         return Ok((0, Step::Ended));
     }
-    let base = reader.depth();
+    if xml.next_start(0, &[section])? != Step::Found {
+        return Ok((0, Step::Ended));
+    }
+    let base = xml.depth();
     let mut count = 0u32;
     'elements: loop {
         let found = match name {
-            Some(name) => reader.next_element(base, &["none", name])?,
-            None => reader.next_child(base)?,
+            Some(name) => xml.next_element(base, &["none", name])?,
+            None => xml.next_child(base)?,
         };
         if found != Step::Found {
             return Ok((count, found));
         }
-        reader.skip_element()?;
+        xml.skip_element()?;
         count = count.saturating_add(1);
     }
 }
 
 /// How many events stand in the first section of a name, and what came behind them.
 fn count_inside<P: Package>(
-    alloc: Global,
-    package: &mut P,
+    xml: &mut XlReader<P>,
     section: &str,
 ) -> Result<(u32, Step), StreamError> {
-    let Some(mut reader) = XlReader::open(alloc, package, "part")? else {
-        return Ok((0, Step::Ended));
-    };
-    if reader.next_start(0, &[section])? != Step::Found {
+    if !xml.open("part")? {
         return Ok((0, Step::Ended));
     }
-    let base = reader.depth();
+    if xml.next_start(0, &[section])? != Step::Found {
+        return Ok((0, Step::Ended));
+    }
+    let base = xml.depth();
     let mut count = 0u32;
     'inside: loop {
-        match reader.next_inside(base)? {
+        match xml.next_inside(base)? {
             Step::Found => count = count.saturating_add(1),
             last => return Ok((count, last)),
         }
@@ -158,7 +166,7 @@ fn count_inside<P: Package>(
 #[test]
 fn parts_are_opened_read_and_skipped(rt: HostRuntime) -> Result<(), Fail> {
     let alloc = rt.alloc();
-    let mut workbook = held_package(
+    let mut xml = held_reader(
         &rt,
         alloc,
         "xl/workbook.xml",
@@ -172,10 +180,7 @@ fn parts_are_opened_read_and_skipped(rt: HostRuntime) -> Result<(), Fail> {
         ("none", None),
         ("xl/workbook", None),
     ] {
-        assert!(rt;
-            count_events(alloc, &mut workbook, name) == Ok(want),
-            "at {name}"
-        );
+        assert!(rt; count_events(&mut xml, name) == Ok(want), "at {name}");
     }
     let element = [
         start("a"),
@@ -188,16 +193,21 @@ fn parts_are_opened_read_and_skipped(rt: HostRuntime) -> Result<(), Fail> {
         PartEvent::End("a"),
     ];
     for cut in 1..8u64 {
-        let mut package = held_package(&rt, alloc, "part", &element, cut)?;
+        let mut xml = held_reader(&rt, alloc, "part", &element, cut)?;
         assert!(rt;
-            skip_first(alloc, &mut package)
-                == Err(StreamError::Xml(XmlFault::Unclosed { at: cut })),
+            skip_first(&mut xml) == Err(StreamError::Xml(XmlFault::Unclosed { at: cut })),
             "cut at {cut}"
         );
     }
-    let mut package = held_package(&rt, alloc, "part", &element, 8)?;
-    assert!(rt; skip_first(alloc, &mut package) == Ok(0));
-    assert!(rt; package.taken() == 8);
+    let mut xml = held_reader(&rt, alloc, "part", &element, 8)?;
+    assert!(rt; skip_first(&mut xml) == Ok(0));
+    assert!(rt; xml.into_package().taken() == 8);
+    Ok(())
+}
+
+#[test]
+fn ends_that_break_the_nesting_are_refused(rt: HostRuntime) -> Result<(), Fail> {
+    let alloc = rt.alloc();
     let sheet = [
         start("worksheet"),
         start("sheetData"),
@@ -205,20 +215,18 @@ fn parts_are_opened_read_and_skipped(rt: HostRuntime) -> Result<(), Fail> {
         start("c"),
         PartEvent::End("row"),
     ];
-    let mut package = held_package(&rt, alloc, "part", &sheet, 5)?;
+    let mut xml = held_reader(&rt, alloc, "part", &sheet, 5)?;
     assert!(rt;
-        count_events(alloc, &mut package, "part")
-            == Err(StreamError::Xml(XmlFault::EndMismatch { at: 4 }))
+        count_events(&mut xml, "part") == Err(StreamError::Xml(XmlFault::EndMismatch { at: 4 }))
     );
     for (events, at) in [
         ([PartEvent::End("a"), PartEvent::Other], 0),
         ([start("x:a"), PartEvent::End("a")], 1),
         ([start("a"), PartEvent::End("x:a")], 1),
     ] {
-        let mut package = held_package(&rt, alloc, "part", &events, 2)?;
+        let mut xml = held_reader(&rt, alloc, "part", &events, 2)?;
         assert!(rt;
-            count_events(alloc, &mut package, "part")
-                == Err(StreamError::Xml(XmlFault::EndMismatch { at })),
+            count_events(&mut xml, "part") == Err(StreamError::Xml(XmlFault::EndMismatch { at })),
             "end at {at}"
         );
     }
@@ -250,8 +258,9 @@ fn an_empty_element_is_a_start_and_an_end(rt: HostRuntime) -> Result<(), Fail> {
     )?;
     let other = told_events(&rt, alloc, &package, 0)?;
     assert_text(&other, "xl/other.xml", "the first part")?;
-    assert!(rt; count_events(alloc, &mut package, "part") == Ok(Some(12)));
-    assert!(rt; package.taken() == 12);
+    let mut xml = XlReader::new(alloc, package);
+    assert!(rt; count_events(&mut xml, "part") == Ok(Some(12)));
+    assert!(rt; xml.into_package().taken() == 12);
     Ok(())
 }
 
@@ -278,10 +287,10 @@ fn texts_are_joined(rt: HostRuntime) -> Result<(), Fail> {
         (4, false, Ok(false), ">a\nb&"),
         (1, false, Ok(false), ">"),
     ] {
-        let mut package = held_package(&rt, alloc, "part", &written, taken)?;
+        let mut xml = held_reader(&rt, alloc, "part", &written, taken)?;
         let mut out = String::from_str(alloc, ">")?;
         assert!(rt;
-            first_text(alloc, &mut package, &mut out, char_data) == want,
+            first_text(&mut xml, &mut out, char_data) == want,
             "{taken} events"
         );
         assert!(rt; out.as_str() == text, "{taken} events");
@@ -293,11 +302,10 @@ fn texts_are_joined(rt: HostRuntime) -> Result<(), Fail> {
         PartEvent::Text("b"),
         PartEvent::End("t"),
     ];
-    let mut package = held_package(&rt, alloc, "part", &unknown, 5)?;
+    let mut xml = held_reader(&rt, alloc, "part", &unknown, 5)?;
     let mut out = String::new(alloc);
     assert!(rt;
-        first_text(alloc, &mut package, &mut out, false)
-            == Err(StreamError::Xml(XmlFault::Entity { at: 2 }))
+        first_text(&mut xml, &mut out, false) == Err(StreamError::Xml(XmlFault::Entity { at: 2 }))
     );
     assert!(rt; out.as_str() == "a");
     Ok(())
@@ -347,17 +355,16 @@ fn events_of_a_section_are_taken(rt: HostRuntime) -> Result<(), Fail> {
         (2, "b", Ok((0, Step::Ended))),
         (10, "a", Ok((6, Step::Closed))),
     ] {
-        let mut package = held_package(&rt, alloc, "part", &part, taken)?;
+        let mut xml = held_reader(&rt, alloc, "part", &part, taken)?;
         assert!(rt;
-            count_inside(alloc, &mut package, section) == want,
+            count_inside(&mut xml, section) == want,
             "{section} of {taken} events"
         );
     }
     let broken = [start("a"), PartEvent::Other, PartEvent::End("b")];
-    let mut package = held_package(&rt, alloc, "part", &broken, 3)?;
+    let mut xml = held_reader(&rt, alloc, "part", &broken, 3)?;
     assert!(rt;
-        count_inside(alloc, &mut package, "a")
-            == Err(StreamError::Xml(XmlFault::EndMismatch { at: 2 }))
+        count_inside(&mut xml, "a") == Err(StreamError::Xml(XmlFault::EndMismatch { at: 2 }))
     );
     Ok(())
 }
@@ -389,30 +396,32 @@ fn elements_are_found_and_planned_calls_fail(rt: HostRuntime) -> Result<(), Fail
         (10, "sheets", Some("sheet"), (2, Step::Ended)),
         (14, "none", Some("sheet"), (0, Step::Ended)),
     ] {
-        let mut package = held_package(&rt, alloc, "part", &sheets, taken)?;
+        let mut xml = held_reader(&rt, alloc, "part", &sheets, taken)?;
         assert!(rt;
-            count_elements(alloc, &mut package, section, name) == Ok(want),
+            count_elements(&mut xml, section, name) == Ok(want),
             "{section} of {taken} events"
         );
     }
 
     for number in 0..16u64 {
         let inner = held_package(&rt, alloc, "part", &sheets, 14)?;
-        let mut package = FailingPackage::new(inner, vec![in alloc; number, 16]?);
+        let package = FailingPackage::new(inner, vec![in alloc; number, 16]?);
+        let mut xml = XlReader::new(alloc, package);
         let (want, faults) = if number < 15 {
             (Err(StreamError::Io), 1)
         } else {
             (Ok((0, Step::Closed)), 0)
         };
         assert!(rt;
-            count_elements(alloc, &mut package, "workbook", Some("none")) == want,
+            count_elements(&mut xml, "workbook", Some("none")) == want,
             "call {number}"
         );
+        let package = xml.into_package();
         assert!(rt; package.faults() == faults, "call {number}");
         assert!(rt; package.left() == 0, "call {number}");
-        let mut inner = package.into_inner();
+        let mut xml = XlReader::new(alloc, package.into_inner());
         assert!(rt;
-            count_events(alloc, &mut inner, "part") == Ok(Some(14)),
+            count_events(&mut xml, "part") == Ok(Some(14)),
             "call {number}"
         );
     }
@@ -431,28 +440,28 @@ fn a_quiet_package_passes_each_call_on(rt: HostRuntime) -> Result<(), Fail> {
     for number in 0..6u64 {
         let inner = held_package(&rt, alloc, "part", &events, 3)?;
         let failing = FailingPackage::new(inner, vec![in alloc; number]?);
-        let mut package = QuietPackage::new(failing);
+        let mut xml = XlReader::new(alloc, QuietPackage::new(failing));
         let (want, faults) = if number < 5 {
             (Err(StreamError::Io), 1)
         } else {
             (Ok(Some(3)), 0)
         };
-        assert!(rt;
-            count_events(alloc, &mut package, "part") == want,
-            "call {number}"
-        );
+        assert!(rt; count_events(&mut xml, "part") == want, "call {number}");
+        let package = xml.into_package();
         assert!(rt; package.faults() == faults, "call {number}");
         assert!(rt; package.left() == 0, "call {number}");
         assert!(rt;
             package.taken() == number.saturating_sub(1).min(3),
             "call {number}"
         );
-        let mut package = QuietPackage::new(package.into_inner().into_inner());
+        let package = QuietPackage::new(package.into_inner().into_inner());
+        let mut xml = XlReader::new(alloc, package);
         let mut text = String::new(alloc);
-        assert!(rt; first_text(alloc, &mut package, &mut text, false) == Ok(true));
+        assert!(rt; first_text(&mut xml, &mut text, false) == Ok(true));
         assert_text(&text, "nut", "the text of a quiet package")?;
-        assert!(rt; count_events(alloc, &mut package, "none") == Ok(None));
-        assert!(rt; count_events(alloc, &mut package.into_inner(), "part") == Ok(Some(3)));
+        assert!(rt; count_events(&mut xml, "none") == Ok(None));
+        let mut xml = XlReader::new(alloc, xml.into_package().into_inner());
+        assert!(rt; count_events(&mut xml, "part") == Ok(Some(3)));
     }
     Ok(())
 }

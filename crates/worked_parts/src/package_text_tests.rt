@@ -5,7 +5,7 @@ use package_text::{
     no_written_start_stands_before_its_end, package_from_json, push_package_text,
     written_packages_are_read_back, written_values_spell_their_parts,
 };
-use part_events::{MemoryPackage, PartEvent, StartTag, StreamError, XmlFault};
+use part_events::{MemoryPackage, PartEvent, StartTag, StreamError, XlReader, XmlFault};
 use serde_json::Value;
 use std::alloc::{AllocError, Global};
 use std::process::Abort;
@@ -150,10 +150,10 @@ const BROKEN: &str = r#"
 fn places_count_both_events_of_an_empty_element(rt: HostRuntime) -> Result<(), Fail> {
     let alloc = rt.alloc();
     for text in cases(BROKEN) {
-        let Some(mut package) = read(alloc, text)? else {
+        let Some(package) = read(alloc, text)? else {
             return Err(Fail::new(format_args!("no package: {text}")));
         };
-        let counted = count_events(alloc, &mut package, "a");
+        let counted = count_events(&mut XlReader::new(alloc, package), "a");
         let wanted = Err(StreamError::Xml(XmlFault::EndMismatch { at: 2 }));
         assert!(rt; counted == wanted, "of {text}");
     }

@@ -6,14 +6,13 @@ use Rattle.call_answers.proofs.cells.count_cells.Given as goal
 
 abbrev pub invariant-cells : goal.invariant-cells
 invariant-cells g l =
-    let first = g.P.Package.state l.fn.«package» in
-    let stream = stream_by g.P.Package.state l.reader in
+    let stream = stream_by l.reader in
     record {
       hold : reference_of l.reader ≡ reference_of l.initial.reader;
       streaming : IsStreaming stream;
-      parts : SameParts first stream.reading.source;
-      faults : stream.reading.source.faults ≡ first.faults;
+      parts : SameParts l.fn.xml.source stream.reading.source;
+      faults : stream.reading.source.faults ≡ l.fn.xml.source.faults;
     }
 
 abbrev pub decreases-cells : goal.decreases-cells
-decreases-cells g l = (stream_by g.P.Package.state l.reader).reading.source.left
+decreases-cells g l = (stream_by l.reader).reading.source.left

@@ -12,7 +12,7 @@ use Rattle.worked_calls.proofs.taking.first_error.Goals as goal
 
 pub cells-init : goal.cells-init
 cells-init g c =
-    let old = stream_by g.P.Package.state c.args.reader.now in
+    let old = stream_by c.args.reader.now in
     let grounds = grounds_by c.args.reader.now in
     record {
       hold = refl;
@@ -26,8 +26,8 @@ cells-init g c =
 
 pub cells-preserved : goal.cells-preserved
 cells-preserved g c =
-    let mid = stream_by g.P.Package.state c.cells.reader in
-    let new = stream_by g.P.Package.state c.next_cell.new.self in
+    let mid = stream_by c.cells.reader in
+    let new = stream_by c.next_cell.new.self in
     let now = c.cells.invariant in
     let (sound, none, took, through) = now.took in
     let own = c.in-Some.cell in
@@ -60,8 +60,8 @@ cells-preserved g c =
 
 pub returns-then-is_error-clause-found : goal.returns-then-is_error-clause-found
 returns-then-is_error-clause-found g c = λ told.
-    let mid = stream_by g.P.Package.state c.cells.reader in
-    let new = stream_by g.P.Package.state c.next_cell.new.self in
+    let mid = stream_by c.cells.reader in
+    let new = stream_by c.next_cell.new.self in
     let now = c.cells.invariant in
     let (sound, none, took, through) = now.took in
     let own = c.in-Some.cell in
@@ -77,8 +77,8 @@ returns-then-is_error-clause-found g c = λ told.
 
 pub returns-then-is_error-clause-stops : goal.returns-then-is_error-clause-stops
 returns-then-is_error-clause-stops g c = λ told.
-    let mid = stream_by g.P.Package.state c.cells.reader in
-    let new = stream_by g.P.Package.state c.next_cell.new.self in
+    let mid = stream_by c.cells.reader in
+    let new = stream_by c.next_cell.new.self in
     let now = c.cells.invariant in
     let (sound, none, took, through) = now.took in
     let own = c.in-Some.cell in
@@ -94,8 +94,8 @@ returns-then-is_error-clause-stops g c = λ told.
 
 pub returns-clause-found : goal.returns-clause-found
 returns-clause-found g c = λ told.
-    let mid = stream_by g.P.Package.state c.cells.reader in
-    let new = stream_by g.P.Package.state c.next_cell.new.self in
+    let mid = stream_by c.cells.reader in
+    let new = stream_by c.next_cell.new.self in
     let now = c.cells.invariant in
     let (sound, none, took, through) = now.took in
     let been = took.taken told in
@@ -106,8 +106,8 @@ returns-clause-found g c = λ told.
 
 pub returns-in_err-cell-clause-err : goal.returns-in_err-cell-clause-err
 returns-in_err-cell-clause-err g c =
-    let mid = stream_by g.P.Package.state c.cells.reader in
-    let new = stream_by g.P.Package.state c.next_cell.new.self in
+    let mid = stream_by c.cells.reader in
+    let new = stream_by c.next_cell.new.self in
     let error = c.in_err-cell.field-0.0 in
     let now = c.cells.invariant in
     let (sound, none, took, through) = now.took in
@@ -118,8 +118,8 @@ returns-in_err-cell-clause-err g c =
 
 pub returns-in_err-cell-clause-before : goal.returns-in_err-cell-clause-before
 returns-in_err-cell-clause-before g c = λ told.
-    let mid = stream_by g.P.Package.state c.cells.reader in
-    let new = stream_by g.P.Package.state c.next_cell.new.self in
+    let mid = stream_by c.cells.reader in
+    let new = stream_by c.next_cell.new.self in
     let error = c.in_err-cell.field-0.0 in
     let now = c.cells.invariant in
     let (sound, none, took, through) = now.took in

@@ -11,8 +11,8 @@ use Rattle.worked_calls.proofs.taking.first_error.Given as goal
 
 abbrev pub invariant-cells : goal.invariant-cells
 invariant-cells g l =
-    let old = stream_by g.P.Package.state l.fn.reader in
-    let now = stream_by g.P.Package.state l.reader in
+    let old = stream_by l.fn.reader in
+    let now = stream_by l.reader in
     let grounds = grounds_by l.fn.reader in
     record {
       hold : grounds_by l.reader ≡ grounds;
@@ -23,4 +23,4 @@ invariant-cells g l =
     }
 
 abbrev pub decreases-cells : goal.decreases-cells
-decreases-cells g l = (stream_by g.P.Package.state l.reader).reading.source.left
+decreases-cells g l = (stream_by l.reader).reading.source.left

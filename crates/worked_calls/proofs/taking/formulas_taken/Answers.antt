@@ -15,7 +15,7 @@ use Rattle.worked_calls.proofs.taking.formulas_taken.Goals as goal
 
 pub cells-init : goal.cells-init
 cells-init g c =
-    let old = stream_by g.P.Package.state c.args.reader.now in
+    let old = stream_by c.args.reader.now in
     let grounds = grounds_by c.args.reader.now in
     record {
       hold = refl;
@@ -27,9 +27,9 @@ cells-init g c =
 
 pub cells-preserved : goal.cells-preserved
 cells-preserved g c =
-    let old = stream_by g.P.Package.state c.args.reader.now in
-    let mid = stream_by g.P.Package.state c.cells.reader in
-    let new = stream_by g.P.Package.state c.next_cell_with_formula.new.self in
+    let old = stream_by c.args.reader.now in
+    let mid = stream_by c.cells.reader in
+    let new = stream_by c.next_cell_with_formula.new.self in
     let now = c.cells.invariant in
     let own = c.in-Some.cell in
     let stands : PassesCell own.pos mid new = rw c.in-Some.is at c.in_ok-cell.ensures.step.stands in
@@ -64,8 +64,8 @@ cells-preserved g c =
 
 pub returns-clause-values : goal.returns-clause-values
 returns-clause-values g c = λ told.
-    let mid = stream_by g.P.Package.state c.cells.reader in
-    let new = stream_by g.P.Package.state c.next_cell_with_formula.new.self in
+    let mid = stream_by c.cells.reader in
+    let new = stream_by c.next_cell_with_formula.new.self in
     let now = c.cells.invariant in
     let been = now.took.taken told in
     let ends : EndsData NoCell been.before mid new = rw c.in_default.is at
@@ -75,8 +75,8 @@ returns-clause-values g c = λ told.
 
 pub returns-clause-formulas : goal.returns-clause-formulas
 returns-clause-formulas g c = λ told.
-    let mid = stream_by g.P.Package.state c.cells.reader in
-    let new = stream_by g.P.Package.state c.next_cell_with_formula.new.self in
+    let mid = stream_by c.cells.reader in
+    let new = stream_by c.next_cell_with_formula.new.self in
     let now = c.cells.invariant in
     let been = now.through told in
     let ends : EndsData NoCell been.before mid new = rw c.in_default.is at
@@ -86,8 +86,8 @@ returns-clause-formulas g c = λ told.
 
 pub returns-in_err-cell-clause-err : goal.returns-in_err-cell-clause-err
 returns-in_err-cell-clause-err g c =
-    let mid = stream_by g.P.Package.state c.cells.reader in
-    let new = stream_by g.P.Package.state c.next_cell_with_formula.new.self in
+    let mid = stream_by c.cells.reader in
+    let new = stream_by c.next_cell_with_formula.new.self in
     let error = c.in_err-cell.field-0.0 in
     let now = c.cells.invariant in
     let p = err_from_is_err_and c.from_residual.result c.from_residual.ensures.1 in

@@ -8,8 +8,8 @@ use Rattle.worked_calls.proofs.taking.formulas_taken.Given as goal
 
 abbrev pub invariant-cells : goal.invariant-cells
 invariant-cells g l =
-    let old = stream_by g.P.Package.state l.fn.reader in
-    let now = stream_by g.P.Package.state l.reader in
+    let old = stream_by l.fn.reader in
+    let now = stream_by l.reader in
     record {
       hold : grounds_by l.reader ≡ grounds_by l.fn.reader;
       took : TookValues values_and_formulas (grounds_by l.fn.reader) old now
@@ -19,4 +19,4 @@ invariant-cells g l =
     }
 
 abbrev pub decreases-cells : goal.decreases-cells
-decreases-cells g l = (stream_by g.P.Package.state l.reader).reading.source.left
+decreases-cells g l = (stream_by l.reader).reading.source.left

@@ -9,9 +9,9 @@ use Rattle.worked_calls.proofs.taking.two_taken.Goals as goal
 
 pub returns-clause-takes : goal.returns-clause-takes
 returns-clause-takes g c = λ told before earlier kept.
-    let old = stream_by g.P.Package.state c.args.reader.now in
-    let mid = stream_by g.P.Package.state c.next_cell.new.self in
-    let new = stream_by g.P.Package.state c.next_cell_with_formula.new.self in
+    let old = stream_by c.args.reader.now in
+    let mid = stream_by c.next_cell.new.self in
+    let new = stream_by c.next_cell_with_formula.new.self in
     let grounds = grounds_by c.args.reader.now in
     let first : TakesCell NoCell before earlier old mid (IsValued grounds c.in-Some.first) =
     rw c.in-Some.is at (c.in_ok-first.ensures.takes told before earlier kept) in
@@ -37,8 +37,8 @@ returns-in_default-clause-none g c = λ told before earlier kept.
 
 pub returns-in_default-2-clause-none : goal.returns-in_default-2-clause-none
 returns-in_default-2-clause-none g c = λ told before earlier kept.
-    let old = stream_by g.P.Package.state c.args.reader.now in
-    let mid = stream_by g.P.Package.state c.next_cell.new.self in
+    let old = stream_by c.args.reader.now in
+    let mid = stream_by c.next_cell.new.self in
     let own = c.in-Some.first in
     let first :
     TakesCell NoCell before earlier old mid (IsValued (grounds_by c.args.reader.now) own) =

@@ -5,13 +5,12 @@ use Rattle.worked_calls.proofs.whole_cells.full_cells.Given as goal
 
 abbrev pub invariant-cells : goal.invariant-cells
 invariant-cells g l =
-    let first = g.P.Package.state l.fn.«package» in
-    let now = stream (g.P.Package.state l.«package») l.sheet in
+    let now = stream l.xml l.sheet in
     record {
       streaming : IsStreaming now;
-      parts : SameParts first now.reading.source;
-      faults : now.reading.source.faults ≡ first.faults;
+      parts : SameParts l.fn.xml.source now.reading.source;
+      faults : now.reading.source.faults ≡ l.fn.xml.source.faults;
     }
 
 abbrev pub decreases-cells : goal.decreases-cells
-decreases-cells g l = (g.P.Package.state l.«package»).left
+decreases-cells g l = l.xml.source.left
