@@ -32,12 +32,12 @@
 //! above, reads what it keeps. What a reader answers is said of `ahead`: what is to come up to the
 //! first end that breaks the nesting.
 //!
-//! **A reader owns its package**, and is seen by contracts as where it stands (`Reading`): the state
-//! of the package, the names of the open elements, how many events of the part were taken, and
-//! whether a call was refused. So a clause of what reads speaks of `xml.old` and `xml.new`, and what
-//! became of the package is said by it at a refusal, too; `into_package` gives it back. The names of
-//! open elements are kept in one text and a list of lengths, so that opening an element seldom asks
-//! for memory. No event is copied.
+//! **A reader owns its package**, and is seen by contracts as where it stands (`Reading`): the
+//! state of the package, the names of the open elements, how many events of the part were taken,
+//! and whether a call was refused. So a clause of what reads speaks of `xml.old` and `xml.new`, and
+//! what became of the package is said by it at a refusal, too; `into_package` gives it back. The
+//! names of open elements are kept in one text and a list of lengths, so that opening an element
+//! seldom asks for memory. No event is copied.
 //!
 //! Its lemma files: `Onward` (how calls follow one another), `Walking` (a walk's way over a
 //! section), `Sections` (how a section and an element in it go together) and `Nested` (wholeness,

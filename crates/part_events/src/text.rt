@@ -52,7 +52,7 @@ impl<P: Package> XlReader<P> {
         }
     }
 
-    /// Appends the text of the element at whose start the package stands: each Text, each CharData
+    /// Appends the text of the element at whose start the reader stands: each Text, each CharData
     /// where `char_data` says so, with their line ends as LF, and the character of each reference.
     /// Reads to the element's end, and answers false where the part ends before. After a refusal
     /// `out` has its old text and that of the events before.

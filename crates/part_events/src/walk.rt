@@ -166,7 +166,7 @@ impl<P: Package> XlReader<P> {
         self.walk(base, Wanted::Any)
     }
 
-    /// Reads to the end of the element at whose start the package stands. A part that ends before
+    /// Reads to the end of the element at whose start the reader stands. A part that ends before
     /// is refused as `Xml(Unclosed)` with the number of its events. An end that breaks the nesting
     /// is refused as `Xml(EndMismatch)` with its number, counted from 0.
     pub fn skip_element(&mut self) -> Result<(), StreamError>

@@ -286,8 +286,8 @@ impl<'a, P: Package> XlsxCellReader<'a, P> {
     pub fn next_cell_with_style_id(&mut self) -> Result<Option<(Cell<DataRef>, usize)>, XlsxError>
         requires { IsStreaming (stream_by self.old) }
         ensures hold { KeepsHold self.old self.new }
-        ensures step { TakesStep (λ own. own.0.pos) result (stream_by self.old)
-            (stream_by self.new) }
+        ensures step { TakesStep (λ own. own.0.pos) result
+            (stream_by self.old) (stream_by self.new) }
         ensures takes { TakesNext NoCell (λ earlier. IsValuedStyle (grounds_by self.old)) result
             (stream_by self.old) (stream_by self.new) }
         ensures err { IfErr result (NextCellFails values_and_styles (grounds_by self.old)

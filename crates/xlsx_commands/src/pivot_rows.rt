@@ -1,4 +1,4 @@
-ghost use Rattle.std.specs.Prelude.{◌≡◌, ◌++◌, List, Some, string_bytes, IfOk, IfErr};
+ghost use Rattle.std.specs.Prelude.{◌≡◌, List, Some, string_bytes, IfOk, IfErr};
 ghost use Rattle.cell_data.specs.CellValue.{CellValue};
 ghost use Rattle.xlsx_pivot_cache.specs.CacheRecords.{cache_rows};
 ghost use Rattle.xlsx_commands.specs.CacheRows.{NamedPivotCause, row_lines, ArePivotRows};
@@ -26,10 +26,22 @@ fn lines_of_cache(
     ensures err { IfErr result (CacheFails «package».parts definitions.now records.now) }
 {
     let mut xml = XlReader::new(alloc, package);
-    let mut cursor = PivotCursor::open(&mut xml, definitions, records)?;
+    let mut cursor = match PivotCursor::open(&mut xml, definitions, records) {
+        Ok(cursor) => cursor,
+        Err(error) => {
+            drop(xml.into_package());
+            return Err(ToolError::from(error));
+        }
+    };
     let mut out = String::new(alloc);
     'rows: while let Some(next) = cursor.next(&mut xml) {
-        let row = next?;
+        let row = match next {
+            Ok(row) => row,
+            Err(error) => {
+                drop(xml.into_package());
+                return Err(ToolError::from(error));
+            }
+        };
         push_row_line(&mut out, &row)?;
     }
     Ok(out)

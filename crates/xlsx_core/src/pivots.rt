@@ -1,4 +1,4 @@
-ghost use Rattle.std.specs.Prelude.{◌≡◌, IfOk, IfErr, IsSomeAnd};
+ghost use Rattle.std.specs.Prelude.{IfOk, IfErr, IsSomeAnd};
 ghost use Rattle.std.specs.Arc.{arc_str_bytes};
 ghost use Rattle.part_events.specs.Lending.{LentFails};
 ghost use Rattle.xlsx_error.specs.declared.error.XlsxError.TheVariants.{Io};

@@ -1,4 +1,4 @@
-ghost use Rattle.std.specs.Prelude.{◌≡◌, true, false, option_map, IfOk, IfErr, IsSomeAnd};
+ghost use Rattle.std.specs.Prelude.{◌≡◌, true, false, IfOk, IfErr, IsSomeAnd};
 ghost use Rattle.std.specs.Prelude.{length, map, string_bytes, slice_get, Some, None};
 ghost use Rattle.part_events.specs.Package.{Uses, CountsUp};
 ghost use Rattle.xlsx_error.specs.declared.error.XlsxError.TheVariants.{Io};
@@ -73,7 +73,7 @@ pub fn open_placed<P: Package>(
     ensures uses { Uses (placed_events (path_lent path.entry) xml.old.source.parts) Io result
         xml.old.source xml.new.source }
     ensures enters { IfOk result (λ entered. IsSomeAnd (path_lent path.entry) (λ there.
-        EntersData there entered.1 xml.old.source (stream xml.new.source entered.0))) }
+        EntersData there entered.1 xml.old.source (stream xml.new entered.0))) }
     ensures err { IfErr result (PlacedHeadFails name.now (path_lent path.entry)
         xml.old.source xml.new.source) }
     ensures lacks { let old = xml.old.source in

@@ -107,7 +107,11 @@ impl<P: Package> Xlsx<P> {
         ensures kind { IfErr result (IsRangeError sheet.now) }
     {
         let Some(area) = area else {
-            return Ok(Range::from_sparse(self.xml.alloc(), Vec::new(self.xml.alloc()), Data::Empty)?);
+            return Ok(Range::from_sparse(
+                self.xml.alloc(),
+                Vec::new(self.xml.alloc()),
+                Data::Empty,
+            )?);
         };
         let cells = self.worksheet_cells(sheet, Wants::VALUES)?;
         let strings = &self.shared.strings;
@@ -139,7 +143,11 @@ impl<P: Package> Xlsx<P> {
         ensures kind { IfErr result (IsRangeError sheet.now) }
     {
         let Some(area) = area else {
-            return Ok(Range::from_sparse(self.xml.alloc(), Vec::new(self.xml.alloc()), DataRef::Empty)?);
+            return Ok(Range::from_sparse(
+                self.xml.alloc(),
+                Vec::new(self.xml.alloc()),
+                DataRef::Empty,
+            )?);
         };
         let cells = self.worksheet_cells(sheet, Wants::VALUES)?;
         Ok(places_in_area(self.xml.alloc(), cells.values, self.header_row, area)?)

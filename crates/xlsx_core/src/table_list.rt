@@ -16,7 +16,7 @@ use crate::xlsx::Xlsx;
 use cell_refs::Dimensions;
 use part_events::{Package, XlReader};
 use xlsx_error::XlsxError;
-use xlsx_open::{KeptPath, Sheet};
+use xlsx_open::Sheet;
 use xlsx_tables::{LoadedTable, read_sheet_tables};
 
 /// The name of the sheet of this number, counted from 0, and no text where there is no such sheet.

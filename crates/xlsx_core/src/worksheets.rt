@@ -86,11 +86,7 @@ impl<P: Package> Xlsx<P> {
     {
         let mut xlsx = self;
         let found = xlsx.placed_cells(name, Wants::ALL);
-        let Xlsx {
-            xml,
-            shared,
-            ..
-        } = xlsx;
+        let Xlsx { xml, shared, .. } = xlsx;
         let result = match found {
             Ok(cells) => Ok(ReadCells { cells, shared }),
             Err(error) => Err(error),
@@ -280,11 +276,7 @@ impl<P: Package> Xlsx<P> {
         ensures stream { stream_by result ≡ stream self.old.xml sheet }
     {
         let is_1904 = self.is_1904;
-        let Xlsx {
-            xml,
-            shared,
-            ..
-        } = self;
+        let Xlsx { xml, shared, .. } = self;
         XlsxCellReader::resume(
             xml,
             &shared.strings,

@@ -1,4 +1,4 @@
-ghost use Rattle.std.specs.Prelude.{◌≡◌, ◌^◌, ℕ, List, [], ◌∷◌, codes, true, Result};
+ghost use Rattle.std.specs.Prelude.{◌≡◌, ◌^◌, List, [], ◌∷◌, codes, true, Result};
 ghost use Rattle.std.specs.Prelude.{Ok, Err, IfOk, IfErr, MatchResult, IsOkAnd};
 ghost use Rattle.std.specs.Option.{option_copied, option_or, unwrap_or};
 ghost use Rattle.attr_text.specs.Attributes.{lookup};
@@ -168,7 +168,7 @@ fn formatting_named(
     })
 }
 
-/// Reads the cell format at whose start the package stands, to its end (ECMA-376 part 1, section
+/// Reads the cell format at whose start the reader stands, to its end (ECMA-376 part 1, section
 /// 18.8.45). Its font, fill and borders are those of `lists` at the numbers that it names; a number
 /// that is none, or past the end, names nothing. Its number format has the code that is kept for
 /// its id as written, else that of the built-in format, else `General`. Of the alignments and the

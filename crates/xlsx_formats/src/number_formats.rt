@@ -1,4 +1,4 @@
-ghost use Rattle.std.specs.Prelude.{◌≡◌, ◌⊎◌, ◌++◌, List, ℕ, codes, true, Some, None};
+ghost use Rattle.std.specs.Prelude.{◌≡◌, ◌⊎◌, ◌++◌, List, ℕ, codes, true, Some};
 ghost use Rattle.std.specs.Prelude.{Ok, OnOk, OnErr, IfErr, IsOkAnd};
 ghost use Rattle.attr_text.specs.Attributes.{lookup};
 ghost use Rattle.part_events.specs.Event.{tag_of};
@@ -46,7 +46,7 @@ fn keep_format(
     Ok(())
 }
 
-/// Reads the number formats at the start of whose element the package stands, to its end (ECMA-376
+/// Reads the number formats at the start of whose element the reader stands, to its end (ECMA-376
 /// part 1, section 18.8.31), and keeps the code of each `numFmt` start in it that has an id and a
 /// code, at any depth, in place of an earlier one of its id. What was kept before stays.
 ///

@@ -60,7 +60,7 @@ impl Keeps for Settings {
     }
 }
 
-/// Reads the cell format at whose start the package stands, to its end, for what is set in it.
+/// Reads the cell format at whose start the reader stands, to its end, for what is set in it.
 pub fn read_settings<P: Package>(xml: &mut XlReader<P>) -> Result<Settings, XlsxError>
     requires element { IsReadingElement xml.old }
     ensures { ReadsInside settings_of (λ settings. settings) (always (codes "xf"))

@@ -1,4 +1,4 @@
-ghost use Rattle.std.specs.Prelude.{◌≡◌, [], ◌∷◌, IfOk, IfErr};
+ghost use Rattle.std.specs.Prelude.{[], ◌∷◌, IfOk, IfErr};
 ghost use Rattle.part_events.specs.Reading.{Reading, IsReading, ReadsPart};
 ghost use Rattle.part_events.specs.Section.{is_named};
 ghost use Rattle.xlsx_error.specs.declared.error.XlsxError.TheVariants.{Io};

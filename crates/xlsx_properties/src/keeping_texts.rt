@@ -81,8 +81,8 @@ pub(crate) fn keep_part<P: Package, K: KeepsTexts>(
     path: &str,
     keeper: &mut K,
 ) -> Result<(), XlsxError>
-    ensures uses { Uses (event_count xml.old.source.parts path.now) Io result xml.old.source
-        xml.new.source }
+    ensures uses { Uses (event_count xml.old.source.parts path.now) Io result
+        xml.old.source xml.new.source }
     ensures to_end { let old = xml.old.source in
         old.is_told ≡ true →
         OnOk result (CountsUp (event_count old.parts path.now) old.taken xml.new.source.taken) }
@@ -98,7 +98,7 @@ pub(crate) fn keep_part<P: Package, K: KeepsTexts>(
         IfErr result (FailsBy cause xml.old.source xml.new.source) }
     ensures kind { IfErr result IsPropertyError }
 {
-    if let Some(mut cursor) = open_part(xml, path)? {
+    if open_part(xml, path)? {
         keep_texts(xml, keeper)?;
     }
     Ok(())

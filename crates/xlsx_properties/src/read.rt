@@ -23,8 +23,8 @@ use xlsx_error::XlsxError;
 /// reference without a character in a text or in a user's name `Xml(Entity)` with the number of its
 /// event, counted from 0, and a lookup of such a name that is refused `XmlAttr`.
 pub fn read_properties<P: Package>(xml: &mut XlReader<P>) -> Result<WorkbookProperties, XlsxError>
-    ensures uses { Uses (property_events xml.old.source.parts) Io result xml.old.source
-        xml.new.source }
+    ensures uses { Uses (property_events xml.old.source.parts) Io result
+        xml.old.source xml.new.source }
     ensures to_end { let old = xml.old.source in
         old.is_told ≡ true →
         OnOk result (CountsUp (property_events old.parts) old.taken xml.new.source.taken) }

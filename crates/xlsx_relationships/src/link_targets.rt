@@ -1,5 +1,5 @@
 ghost use Rattle.std.proofs.Common.{rules};
-ghost use Rattle.std.specs.Prelude.{◌≡◌, ℕ, List, Bool, Ok, Some, codes, true};
+ghost use Rattle.std.specs.Prelude.{◌≡◌, ℕ, List, Ok, Some, codes, true};
 ghost use Rattle.std.specs.Prelude.{if◌then◌else◌, option_map, string_bytes, Option};
 ghost use Rattle.std.specs.Prelude.{IfOk, OnOk, IfErr, IsSomeAnd};
 ghost use Rattle.std.specs.Str.{bytes_eq};

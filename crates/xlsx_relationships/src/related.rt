@@ -1,6 +1,6 @@
 ghost use Rattle.std.proofs.Common.{rules};
 ghost use Rattle.std.specs.Prelude.{◌≡◌, ℕ, List, Ok, Some, codes, map, option_map, string_bytes};
-ghost use Rattle.std.specs.Prelude.{true, IfOk, IfErr};
+ghost use Rattle.std.specs.Prelude.{IfOk, IfErr};
 ghost use Rattle.part_events.specs.Event.{tag_of};
 ghost use Rattle.xlsx_sections.specs.Asking.{Answers};
 ghost use Rattle.xlsx_sections.specs.Refusal.{ElementFails, placed_at};

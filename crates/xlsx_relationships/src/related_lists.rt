@@ -34,7 +34,8 @@ pub trait ReadsRelated {
             xml.old.source xml.new.source }
         ensures kept { (more : List Self.Item) × (items.new.items ≡ items.old.items ++ more) };
 
-    ghost kinds: { (by : Self) (path : List ℕ) (error : XlsxError) → (ask by path).kind error → Kind error };
+    ghost kinds: { (by : Self) (path : List ℕ) (error : XlsxError) →
+        (ask by path).kind error → Kind error };
 
     ghost related_kinds: { (error : XlsxError) → IsRelatedError error → Kind error };
 }

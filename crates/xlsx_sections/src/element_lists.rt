@@ -31,7 +31,7 @@ pub trait ReadsEach {
 
     ghost Kind: { XlsxError → Type 0 };
 
-    /// The element at whose start the package stands, which is read to its end.
+    /// The element at whose start the reader stands, which is read to its end.
     fn read<P: Package>(&self, xml: &mut XlReader<P>) -> Result<Self::Item, XlsxError>
         requires element { IsReadingElement xml.old }
         ensures reads { ReadsElement Io result xml.old xml.new }

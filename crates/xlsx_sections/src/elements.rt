@@ -92,7 +92,7 @@ pub fn next_child_in<P: Package>(
     }
 }
 
-/// Appends the text of the element of this name at whose start the package stands: each Text, each
+/// Appends the text of the element of this name at whose start the reader stands: each Text, each
 /// CharData where `char_data` says so, with their line ends as LF, and the character of each
 /// reference. Reads to the element's end. After a refusal the texts of some of its first events are
 /// appended.
@@ -139,7 +139,8 @@ pub fn read_to_end<P: Package>(
     requires within { base ≤ length xml.old.names }
     ensures reads { ReadsPart Io result xml.old xml.new }
     ensures depth { OnOk result (suc (length xml.new.names) ≡ base) }
-    ensures reaches { xml.old.source.is_told ≡ true → OnOk result (ReachesEnd base xml.old xml.new) }
+    ensures reaches { xml.old.source.is_told ≡ true →
+        OnOk result (ReachesEnd base xml.old xml.new) }
     ensures err { let ending = named_end (option_map (λ n. n.now) name.entry) in
         IfErr result (SectionFails ending Never base xml.old xml.new) }
     ensures kind { IfErr result (IsEndError (option_map (λ n. n.now) name.entry)) }
@@ -154,7 +155,7 @@ pub fn read_to_end<P: Package>(
     }
 }
 
-/// Reads to the end of the element at whose start the package stands. Where the part ends before,
+/// Reads to the end of the element at whose start the reader stands. Where the part ends before,
 /// the refusal is `XmlEof` with this name, and without one `Xml(Unclosed)` with the number of the
 /// part's events. An end that breaks the nesting is `Xml(EndMismatch)` with its number in the part,
 /// counted from 0.

@@ -1,5 +1,5 @@
 ghost use Rattle.std.specs.Prelude.{◌≡◌, ◌≤◌, ℕ, List, length, map, suc, true, Ok, Result};
-ghost use Rattle.std.specs.Prelude.{Option, IfOk, OnOk, IfErr, option_map};
+ghost use Rattle.std.specs.Prelude.{OnOk, IfErr};
 ghost use Rattle.part_events.specs.Event.{tag_of};
 ghost use Rattle.part_events.specs.Reading.{IsReading, ReadsPart};
 ghost use Rattle.part_events.specs.Reading.{IsReadingElement, ReadsElement, ahead};
@@ -63,7 +63,8 @@ pub fn keep_starts<P: Package, K: Keeps>(
     requires section { section.now ≡ K.section }
     ensures reads { ReadsPart Io result xml.old xml.new }
     ensures depth { OnOk result (suc (length xml.new.names) ≡ base) }
-    ensures reaches { xml.old.source.is_told ≡ true → OnOk result (ReachesEnd base xml.old xml.new) }
+    ensures reaches { xml.old.source.is_told ≡ true →
+        OnOk result (ReachesEnd base xml.old xml.new) }
     ensures kept { let wanted = is_named (map (λ name. name.now) names.now) in
         xml.old.source.is_told ≡ true → OnOk result ((i : K.Index) →
         changed_in wanted (K.change keeper.old i) (K.held keeper.old i) (section_ahead base xml.old)
@@ -81,7 +82,7 @@ pub fn keep_starts<P: Package, K: Keeps>(
     Ok(())
 }
 
-/// Keeps what the starts of these local names give in the element at whose start the package
+/// Keeps what the starts of these local names give in the element at whose start the reader
 /// stands. Reads to the element's end, and is refused as `keep_starts`.
 pub fn keep_in_element<P: Package, K: Keeps>(
     xml: &mut XlReader<P>,

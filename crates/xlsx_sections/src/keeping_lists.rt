@@ -84,7 +84,8 @@ pub fn keep_all<P: Package, R: Reads + Drop>(
     requires section { section.now ≡ R.section }
     ensures reads { ReadsPart Io result xml.old xml.new }
     ensures depth { OnOk result (suc (length xml.new.names) ≡ base) }
-    ensures reaches { xml.old.source.is_told ≡ true → OnOk result (ReachesEnd base xml.old xml.new) }
+    ensures reaches { xml.old.source.is_told ≡ true →
+        OnOk result (ReachesEnd base xml.old xml.new) }
     ensures kept { let wanted = is_named (map (λ name. name.now) names.now) in
         xml.old.source.is_told ≡ true → IfOk result (λ items.
         some_in wanted (R.meaning by) (section_ahead base xml.old) ≡ Ok (map R.said items.items)) }
@@ -146,7 +147,8 @@ pub fn keep_last<P: Package, R: Reads + Drop>(
     requires section { section.now ≡ R.section }
     ensures reads { ReadsPart Io result xml.old xml.new }
     ensures depth { OnOk result (suc (length xml.new.names) ≡ base) }
-    ensures reaches { xml.old.source.is_told ≡ true → OnOk result (ReachesEnd base xml.old xml.new) }
+    ensures reaches { xml.old.source.is_told ≡ true →
+        OnOk result (ReachesEnd base xml.old xml.new) }
     ensures kept { let wanted = is_named (map (λ name. name.now) names.now) in
         xml.old.source.is_told ≡ true → IfOk result (λ item.
         last_in wanted (R.meaning by) (section_ahead base xml.old) ≡ Ok (option_map R.said item)) }

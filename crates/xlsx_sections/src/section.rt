@@ -7,7 +7,8 @@ ghost use Rattle.part_events.specs.Reading.{IsAtElement};
 ghost use Rattle.part_events.specs.Reading.{ReadsPart, ahead};
 ghost use Rattle.part_events.specs.Section.{is_named, behind_start};
 ghost use Rattle.xlsx_error.specs.declared.error.XlsxError.TheVariants.{Io};
-ghost use Rattle.xlsx_sections.specs.PartSection.{always, Never, IsStepError, EntersSection, HasNoPart};
+ghost use Rattle.xlsx_sections.specs.PartSection.{always, Never, IsStepError, EntersSection};
+ghost use Rattle.xlsx_sections.specs.PartSection.{HasNoPart};
 ghost use Rattle.xlsx_sections.specs.PartSection.{EnterFails, SectionFails, StartFails};
 ghost use Rattle.xlsx_sections.specs.PartSection.{StandsAtEvent, FindsEvent, StandsAtStart};
 ghost use Rattle.xlsx_sections.specs.PartSection.{FindsStartIn};
@@ -17,7 +18,7 @@ ghost use Rattle.xlsx_sections.specs.Steps.{StepsToStart};
 use part_events::{Package, PartEvent, StartTag, Step, XlReader};
 use xlsx_error::XlsxError;
 
-/// The start at which the package stands.
+/// The start at which the reader stands.
 pub fn start_tag<P: Package>(xml: &XlReader<P>) -> StartTag<'_>
     requires event { xml.now.source.has_current ≡ true }
     requires starts { is_start xml.now.source.current ≡ true }
@@ -38,7 +39,8 @@ pub fn enter<P: Package>(xml: &mut XlReader<P>, name: &'static str) -> Result<()
     ensures reads { ReadsPart Io result xml.old xml.new }
     ensures element { OnOk result (IsAtElement xml.new) }
     ensures found { xml.old.source.is_told ≡ true →
-        OnOk result (behind_start (is_named (name.now ∷ [])) (ahead xml.old) ≡ Some (ahead xml.new)) }
+        OnOk result
+        (behind_start (is_named (name.now ∷ [])) (ahead xml.old) ≡ Some (ahead xml.new)) }
     ensures err { IfErr result (StartFails name.now xml.old xml.new) }
     ensures kind { IfErr result (IsStepError name.now) }
 {

@@ -110,7 +110,7 @@ impl Reads for SideColors<'_> {
     }
 }
 
-/// The color of the side at whose start the package stands, which is read to its end.
+/// The color of the side at whose start the reader stands, which is read to its end.
 fn read_side_color<P: Package>(
     xml: &mut XlReader<P>,
     theme_colors: &[Color],
@@ -124,7 +124,7 @@ fn read_side_color<P: Package>(
     keep_last(xml, base, &["color"], "border side", by)
 }
 
-/// The side at whose start the package stands, which is read to its end.
+/// The side at whose start the reader stands, which is read to its end.
 #[tactic(auto, using(crate::proofs::StepErrors::side_step, crate::proofs::Sides::side_fails))]
 fn read_side<P: Package>(xml: &mut XlReader<P>, theme_colors: &[Color]) -> Result<Border, XlsxError>
     requires element { IsReadingElement xml.old }

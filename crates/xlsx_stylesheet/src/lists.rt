@@ -58,7 +58,7 @@ impl ReadsEach for FontReader<'_> {
     }
 }
 
-/// Appends the fonts of the element at whose start the package stands, which is read to its end
+/// Appends the fonts of the element at whose start the reader stands, which is read to its end
 /// (ECMA-376 part 1, section 18.8.23).
 pub fn read_fonts<P: Package>(
     xml: &mut XlReader<P>,
@@ -105,7 +105,7 @@ impl ReadsEach for FillReader<'_> {
     }
 }
 
-/// Appends the fills of the element at whose start the package stands, which is read to its end
+/// Appends the fills of the element at whose start the reader stands, which is read to its end
 /// (ECMA-376 part 1, section 18.8.21).
 #[tactic(auto, using(xlsx_sections::proofs::StartsKept::own_items))]
 pub fn read_fills<P: Package>(
@@ -139,7 +139,7 @@ fn diagonals_of(tag: &StartTag<'_>) -> Result<(bool, bool), AttrFault>
     Ok((truth_or(down, false), truth_or(up, false)))
 }
 
-/// The borders at whose start the package stands, which is read to its end. Its start says which
+/// The borders at whose start the reader stands, which is read to its end. Its start says which
 /// ways the diagonal goes.
 fn read_one_border<P: Package>(
     xml: &mut XlReader<P>,
@@ -181,7 +181,7 @@ impl ReadsEach for BorderReader<'_> {
     }
 }
 
-/// Appends the borders of the element at whose start the package stands, which is read to its end
+/// Appends the borders of the element at whose start the reader stands, which is read to its end
 /// (ECMA-376 part 1, section 18.8.5).
 #[tactic(auto, using(xlsx_sections::proofs::StartsKept::own_items))]
 pub fn read_borders<P: Package>(
@@ -226,7 +226,7 @@ impl ReadsEach for FormatReader<'_> {
     }
 }
 
-/// Appends the cell formats of the element at whose start the package stands, which is read to its
+/// Appends the cell formats of the element at whose start the reader stands, which is read to its
 /// end (ECMA-376 part 1, section 18.8.10). They name what was read before.
 pub fn read_formats<P: Package>(
     xml: &mut XlReader<P>,

@@ -73,7 +73,7 @@ fn list_of(tag: StartTag<'_>) -> StyleList
     list_named(tag.local_name())
 }
 
-/// Appends what the element at whose start the package stands says to its list, and reads to its
+/// Appends what the element at whose start the reader stands says to its list, and reads to its
 /// end.
 fn read_list<P: Package>(
     xml: &mut XlReader<P>,
@@ -118,7 +118,8 @@ pub fn lists_in<P: Package>(
     ensures lists { xml.old.source.is_told ≡ true →
         IfOk result (λ lists. (formats : List WrittenFormat)
         × AreCodes formats lists.codes
-        × (lists_in theme_colors.now (section_ahead base xml.old) ≡ Ok (lists_said formats lists))) }
+        × (lists_in theme_colors.now (section_ahead base xml.old)
+        ≡ Ok (lists_said formats lists))) }
     ensures err { let refused = IsInsideRefused (lists_in theme_colors.now) in
         IfErr result (SectionFails end_in_styles refused base xml.old xml.new) }
     ensures kind { IfErr result AreStylesError }

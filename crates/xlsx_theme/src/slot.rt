@@ -73,7 +73,7 @@ fn next_model<P: Package>(xml: &mut XlReader<P>, base: usize) -> Result<Option<u
     }
 }
 
-/// Reads the slot at whose start the package stands, to its end. Its color is that of the first
+/// Reads the slot at whose start the reader stands, to its end. Its color is that of the first
 /// start in it that says one, and black where none does; starts behind that one aren't looked up.
 ///
 /// A part that ends in the slot is `Xml(Unclosed)`.

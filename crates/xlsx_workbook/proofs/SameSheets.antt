@@ -1,7 +1,7 @@
 -- Comparisons of sheets, and of a workbook's sheets and names, hold exactly of those with the same
 -- texts, types and states.
 use Rattle.std.proofs.Common.{rules}
-use Rattle.std.specs.Prelude.{string_bytes, string_eq, String}
+use Rattle.std.specs.Prelude.{string_bytes, string_eq}
 use Rattle.std.specs.declared.alloc.Global.{Global}
 use Rattle.std.proofs.lemmas.Slice.Eq.{bytes_eq-Decides}
 use Rattle.equalities.specs.Equality.{IsEquality, IsEqualityBy}

@@ -1,24 +1,23 @@
-ghost use Rattle.std.specs.Prelude.{◌≡◌, ◌<◌, ◌≤◌, ℕ, List, ◌∷◌, ◌++◌, suc, codes, length, map};
+ghost use Rattle.std.specs.Prelude.{◌≡◌, ◌<◌, ◌≤◌, List, ◌∷◌, ◌++◌, suc, codes, length, map};
 ghost use Rattle.std.specs.Prelude.{true, false, None, Ok, option_map, option_to_list};
 ghost use Rattle.std.specs.Prelude.{string_bytes, IfOk, OnOk, IfErr, MatchOption, IsSomeAnd};
 ghost use Rattle.std.specs.Arc.{arc_str_bytes};
 ghost use Rattle.part_events.specs.Event.{Event, start, tag_of, event_of};
 ghost use Rattle.part_events.specs.JoinedText.{event_text, is_unknown};
 ghost use Rattle.part_events.specs.Package.{Uses, part_of, event_count};
-ghost use Rattle.part_events.specs.Reading.{IsReading, ReadsElement};
-ghost use Rattle.part_events.specs.Reading.{ReadsPart, ahead};
+ghost use Rattle.part_events.specs.Reading.{IsReading, ReadsElement, ReadsPart, ahead};
 ghost use Rattle.part_events.specs.Section.{content};
 ghost use Rattle.part_events.specs.Walk.{section_ahead, is_closed_ahead, section_end};
 ghost use Rattle.xlsx_error.specs.declared.error.XlsxError.TheVariants.{Io, OutOfMemory};
 ghost use Rattle.xlsx_sections.specs.PartSection.{always, KeepsSection, SectionFails};
 ghost use Rattle.xlsx_sections.specs.PartSection.{OptionalPartFails, closed_section_of};
-ghost use Rattle.xlsx_sections.specs.Refusal.{RefusedAt, ElementFails, placed_at};
+ghost use Rattle.xlsx_sections.specs.Refusal.{RefusedAt};
 ghost use Rattle.xlsx_sections.specs.SectionEvents.{ReadsToEnd};
 ghost use Rattle.xlsx_relationships.specs.KeptRelationships.{related_by_id};
 ghost use Rattle.xlsx_workbook.specs.DefinedNames.{is_defined_name};
 ghost use Rattle.xlsx_workbook.specs.KeptContents.{pair_of};
 ghost use Rattle.xlsx_workbook.specs.Workbook.{KeepsSheets, AreSheetsRefused, names_of};
-ghost use Rattle.xlsx_workbook.specs.Workbook.{TextRefused, KeepsName, IsNameRefused};
+ghost use Rattle.xlsx_workbook.specs.Workbook.{TextRefused, KeepsName};
 ghost use Rattle.xlsx_workbook.specs.Workbook.{is_name_start, IsContents, AreContentsRefused};
 ghost use Rattle.xlsx_workbook.specs.Workbook.{KeepsSheetsAt, IsNameRefusedAt, IsContentsAt};
 ghost use Rattle.xlsx_workbook.specs.Workbook.{AreContentsRefusedAt};
@@ -164,10 +163,9 @@ fn push_name(
 /// it has a name.
 #[tactic(auto, using(crate::proofs::WorkbookErrors::workbook_step))]
 fn read_name<P: Package>(
-    alloc: Global,
+    xml: &mut XlReader<P>,
     found: &mut WorkbookContents,
     places: SheetPlaces<'_>,
-    xml: &mut XlReader<P>,
     base: usize,
     name: Option<String>,
 ) -> Result<(), XlsxError>
@@ -175,16 +173,19 @@ fn read_name<P: Package>(
     requires within { base < length xml.old.names }
     ensures reads { ReadsElement Io result xml.old xml.new }
     ensures section { OnOk result (KeepsSection base xml.old xml.new) }
-    ensures sheets { xml.old.source.is_told ≡ true → OnOk result (KeepsSheetsAt places.entry
+    ensures sheets { xml.old.source.is_told ≡ true →
+        OnOk result (KeepsSheetsAt places.entry
         found.old (section_ahead base xml.old) found.new (section_ahead base xml.new)) }
     ensures names { let inside = content 0 (ahead xml.old) in
-        xml.old.source.is_told ≡ true → OnOk result (KeepsName (option_map string_bytes name) inside
+        xml.old.source.is_told ≡ true →
+        OnOk result (KeepsName (option_map string_bytes name) inside
         (length (section_ahead base xml.old)) (names_of found.old) (names_of found.new)) }
-    ensures err { let refused = IsNameRefusedAt places.entry found.old
-        (option_map string_bytes name) in
+    ensures err { let name = option_map string_bytes name in
+        let refused = IsNameRefusedAt places.entry found.old name in
         IfErr result (SectionFails (always (codes "workbook")) refused base xml.old xml.new) }
     ensures kind { IfErr result IsWorkbookError }
 {
+    let alloc = xml.alloc();
     let depth = xml.depth();
     let wanted = name.is_some();
     let mut text = String::new(alloc);
@@ -212,9 +213,8 @@ fn name_start(event: PartEvent<'_>) -> Option<StartTag<'_>>
 /// start reading stands.
 #[tactic(auto, using(crate::proofs::WorkbookErrors::workbook_step))]
 fn contents_in<P: Package>(
-    alloc: Global,
-    places: SheetPlaces<'_>,
     xml: &mut XlReader<P>,
+    places: SheetPlaces<'_>,
     base: usize,
 ) -> Result<WorkbookContents, XlsxError>
     requires reading { IsReading xml.old }
@@ -230,6 +230,7 @@ fn contents_in<P: Package>(
         IfErr result (SectionFails (always (codes "workbook")) refused base xml.old xml.new) }
     ensures kind { IfErr result IsWorkbookError }
 {
+    let alloc = xml.alloc();
     let mut found = WorkbookContents {
         entries: Vec::new(alloc),
         names: Vec::new(alloc),
@@ -240,7 +241,7 @@ fn contents_in<P: Package>(
         take_event(alloc, &mut found, places, event, at)?;
         if let Some(tag) = name_start(event) {
             let name = name_by(alloc, tag, at)?;
-            read_name(alloc, &mut found, places, xml, base, name)?;
+            read_name(xml, &mut found, places, base, name)?;
         }
     }
     Ok(found)
@@ -258,8 +259,8 @@ pub fn read_contents<P: Package>(
     part: &str,
     places: SheetPlaces<'_>,
 ) -> Result<Option<WorkbookContents>, XlsxError>
-    ensures uses { Uses (event_count xml.old.source.parts part.now) Io result xml.old.source
-        xml.new.source }
+    ensures uses { Uses (event_count xml.old.source.parts part.now) Io result
+        xml.old.source xml.new.source }
     ensures to_end { ReadsToEnd (codes "workbook") part.now result xml.old.source xml.new.source }
     ensures contents { let old = xml.old.source in
         let folder = arc_str_bytes places.entry.folder.now in
@@ -272,14 +273,13 @@ pub fn read_contents<P: Package>(
         let related = related_by_id places.entry.relationships.now in
         let name = codes "workbook" in
         let refused = AreContentsRefused folder related in
-        IfErr result (OptionalPartFails name (always name) refused part.now xml.old.source
-        xml.new.source) }
+        IfErr result (OptionalPartFails name (always name) refused part.now
+        xml.old.source xml.new.source) }
     ensures kind { IfErr result IsWorkbookError }
 {
-    let alloc = xml.alloc();
     if !enter_part(xml, part, "workbook")? {
         return Ok(None);
     }
     let base = xml.depth();
-    Ok(Some(contents_in(alloc, places, xml, base)?))
+    Ok(Some(contents_in(xml, places, base)?))
 }

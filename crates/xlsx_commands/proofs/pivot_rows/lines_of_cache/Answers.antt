@@ -10,21 +10,24 @@ use Rattle.xlsx_pivot_cache.specs.PivotRows.{pivot_rows, cache_rows_left, TakesR
 use Rattle.xlsx_commands.proofs.CachesRead.{opening_rows_fails, rows_moved, lines_behind}
 use Rattle.xlsx_commands.proofs.pivot_rows.lines_of_cache.Goals as goal
 
-pub returns-in_err-cursor-clause-err : goal.returns-in_err-cursor-clause-err
-returns-in_err-cursor-clause-err c =
-    let handed = err_from_is_err_and c.from_residual.result c.from_residual.ensures.1 in
-    rw (handed.1, handed.2)
-    (opening_rows_fails c.args.definitions.now c.args.records.now c.args.package
-    c.open.new.package c.in_err-cursor.field-0.0 c.in_err-cursor.ensures.kind
-    c.in_err-cursor.ensures.err)
+pub returns-in-Err-clause-err : goal.returns-in-Err-clause-err
+returns-in-Err-clause-err c =
+    let old = state_of c.args.package in
+    let fails : CacheFails c.new-xml.result.source.parts c.args.definitions.now
+    c.args.records.now (of_workbook c.in-Err.error) =
+    opening_rows_fails c.args.definitions.now c.args.records.now c.new-xml.result.source
+    c.open.new.xml.source c.in-Err.error (c.into_package.result, c.into_package.ensures)
+    (ap (λ (r : Reading). r.source.is_told) c.new-xml.ensures) c.in-Err.ensures.kind
+    c.in-Err.ensures.err in
+    rw c.new-xml.ensures at fails
 
 pub rows-smaller : goal.rows-smaller
 rows-smaller c = rw c.in_ok-row.was at c.in-Some.ensures.gives.step
 
 pub rows-preserved : goal.rows-preserved
 rows-preserved c =
-    let old = pivot_rows (state_of c.rows.package) c.rows.cursor in
-    let new = pivot_rows (state_of c.next.new.package) c.next.new.self in
+    let old = pivot_rows c.rows.xml c.rows.cursor in
+    let new = pivot_rows c.next.new.xml c.next.new.self in
     let now = c.rows.invariant in
     let taken = now.rows.0 in
     let row = row_kept c.in_ok-row.row.items in
@@ -32,16 +35,17 @@ rows-preserved c =
     rw c.in_ok-row.was at c.in-Some.ensures.gives.reads in
     let takes : TakesRow row old new = rw c.in_ok-row.was at c.in-Some.ensures.gives.row in
     record {
+      told = reads.moves.parts.is_told ∙ now.told;
       at = c.next.ensures.at;
       fields = rw c.next.ensures.fields now.fields;
-      part = now.part ∙ ap (λ (own : List Event). Some own) (sym (reads.part refl));
+      part = now.part ∙ ap (λ (own : List Event). Some own) (sym (reads.part now.told));
       rows = (
         taken ++ (row ∷ []),
         (rw c.deref.ensures.value at c.in_ok-push_row_line.ensures)
             ∙ ap (λ (text : List ℕ). text ++ row_line row) now.rows.1
             ∙ sym (lines_behind taken row),
         now.rows.2
-            ∙ ap (option_map (λ (rest : List (List CellValue)). taken ++ rest)) (takes refl)
+            ∙ ap (option_map (λ (rest : List (List CellValue)). taken ++ rest)) (takes now.told)
             ∙ rows_moved taken row (cache_rows_left new),
       );
     }

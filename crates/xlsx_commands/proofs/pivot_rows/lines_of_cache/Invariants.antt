@@ -1,7 +1,6 @@
-use Rattle.std.proofs.Common.{◌≡◌, ◌++◌, List, Some, string_bytes}
+use Rattle.std.proofs.Common.{◌≡◌, ◌++◌, true, List, Some, string_bytes}
 use Rattle.std.specs.Prelude.{option_map}
 use Rattle.cell_data.specs.CellValue.{CellValue}
-use Rattle.part_events.specs.Memory.{state_of}
 use Rattle.part_events.specs.Package.{part_of}
 use Rattle.part_events.specs.Reading.{events_of}
 use Rattle.xlsx_pivot_cache.specs.CacheFields.{fields_at}
@@ -12,9 +11,10 @@ use Rattle.xlsx_commands.proofs.pivot_rows.lines_of_cache.Given as goal
 
 abbrev pub invariant-rows : goal.invariant-rows
 invariant-rows l =
-    let now = pivot_rows (state_of l.package) l.cursor in
+    let now = pivot_rows l.xml l.cursor in
     let parts = l.fn.package.parts in
     record {
+      told : l.xml.source.is_told ≡ true;
       at : IsAtRecords now;
       fields : fields_at parts l.definitions ≡ Some now.fields;
       part : part_of parts l.records ≡ Some (events_of now.reading);
@@ -25,4 +25,4 @@ invariant-rows l =
     }
 
 abbrev pub decreases-rows : goal.decreases-rows
-decreases-rows l = (state_of l.package).left
+decreases-rows l = l.xml.source.left

@@ -17,7 +17,7 @@ returns-in_err-table-clause-err c =
     rw (handed.1, handed.2)
     (data_fails c.args.package.parts c.args.name.now c.in_ok-xlsx.xlsx c.in_ok-xlsx.ensures.ok
     c.table_by_name.new.self.xml.source c.in_err-table.field-0.0
-    (c.into_package.result, c.into_package.ensures)     c.in_err-table.ensures.err)
+    (c.into_package.result, c.into_package.ensures) c.in_err-table.ensures.err)
 
 pub returns-clause-ok : goal.returns-clause-ok
 returns-clause-ok c =

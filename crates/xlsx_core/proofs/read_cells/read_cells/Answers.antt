@@ -9,18 +9,18 @@ use Rattle.xlsx_core.proofs.read_cells.read_cells.Goals as goal
 pub returns-in-Ok-clause-reading : goal.returns-in-Ok-clause-reading
 returns-in-Ok-clause-reading g c = λ told.
     let same = c.in-Ok.ensures.uses.parts in
-    book_cells c.in-Ok.xlsx c.args.name.now c.args.xml.source
+    book_cells c.in-Ok.xlsx c.args.name.now (g.P.Package.state c.args.package)
     c.in-Ok.xlsx.xml.source
-    c.into_cells.result.xml.source same c.in-Ok.ensures.opens
+    (g.P.Package.state c.into_cells.result.package) same c.in-Ok.ensures.opens
     c.into_cells.result.result told c.into_cells.ensures.shared
     (c.into_cells.ensures.reads (same.is_told ∙ told))
 
 pub returns-in-Ok-clause-err : goal.returns-in-Ok-clause-err
 returns-in-Ok-clause-err g c =
     let xlsx = c.in-Ok.xlsx in
-    let old = c.args.xml.source in
+    let old = g.P.Package.state c.args.package in
     let mid = xlsx.xml.source in
-    let new = c.into_cells.result.xml.source in
+    let new = g.P.Package.state c.into_cells.result.package in
     let name = c.args.name.now in
     IfErr-weaker c.into_cells.result.result
     (PlacedSheetFails name all_wanted (grounds_of_book xlsx) (path_of xlsx name) mid new)
@@ -30,21 +30,21 @@ returns-in-Ok-clause-err g c =
 
 pub returns-in-Err-clause-err : goal.returns-in-Err-clause-err
 returns-in-Err-clause-err g c =
-    opening_fails c.args.name.now c.args.xml.source
-    c.in-Err.field-0.xml.source c.in-Err.field-0.error c.in-Err.ensures.kind
+    opening_fails c.args.name.now (g.P.Package.state c.args.package)
+    (g.P.Package.state c.in-Err.field-0.package) c.in-Err.field-0.error c.in-Err.ensures.kind
     c.in-Err.ensures.err
 
 pub returns-in-Ok-clause-taken : goal.returns-in-Ok-clause-taken
 returns-in-Ok-clause-taken g c = λ told.
-    book_taken c.in-Ok.xlsx c.args.name.now c.args.xml.source
-    c.in-Ok.xlsx.xml.source c.into_cells.result.xml.source
+    book_taken c.in-Ok.xlsx c.args.name.now (g.P.Package.state c.args.package)
+    c.in-Ok.xlsx.xml.source (g.P.Package.state c.into_cells.result.package)
     c.in-Ok.ensures.uses.parts c.in-Ok.ensures.opens c.into_cells.result.result told
     (c.in-Ok.ensures.uses.taken told) c.into_cells.ensures.uses
 
 pub returns-in-Ok-clause-to_end : goal.returns-in-Ok-clause-to_end
 returns-in-Ok-clause-to_end g c = λ told.
     let same = c.in-Ok.ensures.uses.parts in
-    book_to_data c.in-Ok.xlsx c.args.name.now c.args.xml.source
-    c.in-Ok.xlsx.xml.source c.into_cells.result.xml.source
+    book_to_data c.in-Ok.xlsx c.args.name.now (g.P.Package.state c.args.package)
+    c.in-Ok.xlsx.xml.source (g.P.Package.state c.into_cells.result.package)
     same c.in-Ok.ensures.opens c.into_cells.result.result told
     (c.in-Ok.ensures.uses.to_end told) (c.into_cells.ensures.to_end (same.is_told ∙ told))

@@ -8,7 +8,7 @@ use Rattle.xlsx_core.proofs.sheet_reading.read_sheet.Goals as goal
 
 pub returns-in-Ok-into_ranges-clause-reading : goal.returns-in-Ok-into_ranges-clause-reading
 returns-in-Ok-into_ranges-clause-reading g c = λ told.
-    let parts = c.args.xml.source.parts in
+    let parts = (g.P.Package.state c.args.package).parts in
     let name = c.args.name.now in
     let made = c.in-Ok-into_ranges in
     let cells = subst (λ (own : Result ReadCells XlsxError). IfOk own (HoldsCells parts name))

@@ -1,7 +1,8 @@
 use Rattle.std.proofs.Common.{◌≡◌, ◌∙◌, ◌+◌, ℕ, List, Option, None, Ok, sym, ap, inl, inr}
 use Rattle.std.proofs.Common.{arith}
 use Rattle.std.proofs.lemmas.Result.{err_from_is_err_and}
-use Rattle.part_events.specs.Package.{UsesPackage, part_of, event_count}
+use Rattle.part_events.specs.Package.{PackageState, Part, SameParts, UsesPackage, part_of}
+use Rattle.part_events.specs.Package.{event_count}
 use Rattle.part_events.proofs.Uses.{uses_then, leaves_then, same_further}
 use Rattle.xlsx_sections.proofs.Failing.{fails_by_weaker, given_back, same_parts}
 use Rattle.xlsx_properties.specs.CustomProperties.{custom_in}
@@ -12,6 +13,11 @@ use Rattle.xlsx_properties.specs.Property.{core_properties, program_properties}
 use Rattle.xlsx_properties.specs.PropertyTexts.{property_in}
 use Rattle.xlsx_properties.proofs.EventsSaid.{said_later, none_earlier}
 use Rattle.xlsx_properties.proofs.read.read_properties.Goals as goal
+
+-- the same parts have as many events at a path
+same_count : {old new : PackageState} (path : List ℕ) → SameParts old new
+    → event_count new.parts path ≡ event_count old.parts path
+same_count path same = ap (λ (parts : List Part). event_count parts path) same.parts
 
 pub returns-in_err-keep_part-clause-err : goal.returns-in_err-keep_part-clause-err
 returns-in_err-keep_part-clause-err g c =
@@ -29,7 +35,8 @@ returns-in_err-keep_part-2-clause-uses g c =
     let p = err_from_is_err_and c.from_residual-in_err-keep_part-2.result
     c.from_residual-in_err-keep_part-2.ensures.1 in
     rw (p.1, p.2)
-    (leaves_then (omega arith) first (rw first.parts.parts at c.in_err-keep_part-2.ensures.uses))
+    (leaves_then (omega (arith, same_count program_part first.parts)) first
+    c.in_err-keep_part-2.ensures.uses)
 
 pub returns-in_err-keep_part-2-clause-err : goal.returns-in_err-keep_part-2-clause-err
 returns-in_err-keep_part-2-clause-err g c =
@@ -49,16 +56,16 @@ returns-in_err-keep_part-2-clause-err g c =
 pub returns-in_err-keep_part-3-clause-uses : goal.returns-in_err-keep_part-3-clause-uses
 returns-in_err-keep_part-3-clause-uses g c =
     let first = c.in_ok-keep_part.ensures.uses in
-    let second = rw first.parts.parts at c.in_ok-keep_part-2.ensures.uses in
+    let second = c.in_ok-keep_part-2.ensures.uses in
     let old = c.args.xml.now.source in
     let mid = c.keep_part-2.new.xml.source in
     let both : UsesPackage (event_count old.parts core_part + event_count old.parts program_part)
-    old mid = uses_then (omega arith) first second in
+    old mid = uses_then (omega (arith, same_count program_part first.parts)) first second in
     let p = err_from_is_err_and c.from_residual-in_err-keep_part-3.result
     c.from_residual-in_err-keep_part-3.ensures.1 in
     rw (p.1, p.2)
-    (leaves_then (omega arith) both
-    (rw both.parts.parts at c.in_err-keep_part-3.ensures.uses))
+    (leaves_then (omega (arith, same_count custom_part both.parts)) both
+    c.in_err-keep_part-3.ensures.uses)
 
 pub returns-in_err-keep_part-3-clause-err : goal.returns-in_err-keep_part-3-clause-err
 returns-in_err-keep_part-3-clause-err g c =
@@ -78,12 +85,13 @@ returns-in_err-keep_part-3-clause-err g c =
 pub returns-clause-uses : goal.returns-clause-uses
 returns-clause-uses g c =
     let first = c.in_ok-keep_part.ensures.uses in
-    let second = rw first.parts.parts at c.in_ok-keep_part-2.ensures.uses in
+    let second = c.in_ok-keep_part-2.ensures.uses in
     let old = c.args.xml.now.source in
     let mid = c.keep_part-2.new.xml.source in
     let both : UsesPackage (event_count old.parts core_part + event_count old.parts program_part)
-    old mid = uses_then (omega arith) first second in
-    uses_then (omega arith) both (rw both.parts.parts at c.in_ok-keep_part-3.ensures.uses)
+    old mid = uses_then (omega (arith, same_count program_part first.parts)) first second in
+    uses_then (omega (arith, same_count custom_part both.parts)) both
+    c.in_ok-keep_part-3.ensures.uses
 
 pub returns-clause-to_end : goal.returns-clause-to_end
 returns-clause-to_end g c = λ told.
