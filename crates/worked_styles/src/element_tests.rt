@@ -18,10 +18,10 @@ use xlsx_styles::{
 
 /// The fill of this markup, which begins with its start.
 fn fill_in(alloc: Global, markup: &str) -> Result<Option<Fill>, XlsxError> {
-    let mut package = package_of(alloc, &[("part", markup)])?;
-    let Some(mut xml) = XlReader::open(alloc, &mut package, "part")? else {
+    let mut xml = XlReader::new(alloc, package_of(alloc, &[("part", markup)])?);
+    if !xml.open("part")? {
         return Ok(None);
-    };
+    }
     if xml.next()? {
         if let PartEvent::Start(_) = xml.event() {
             return Ok(Some(parse_fill(&mut xml, &default_theme_colors())?));
@@ -32,10 +32,10 @@ fn fill_in(alloc: Global, markup: &str) -> Result<Option<Fill>, XlsxError> {
 
 /// The font of this markup, which begins with its start.
 fn font_in(alloc: Global, markup: &str) -> Result<Option<Font>, XlsxError> {
-    let mut package = package_of(alloc, &[("part", markup)])?;
-    let Some(mut xml) = XlReader::open(alloc, &mut package, "part")? else {
+    let mut xml = XlReader::new(alloc, package_of(alloc, &[("part", markup)])?);
+    if !xml.open("part")? {
         return Ok(None);
-    };
+    }
     if xml.next()? {
         if let PartEvent::Start(_) = xml.event() {
             return Ok(Some(parse_font(&mut xml, &default_theme_colors())?));
@@ -51,10 +51,10 @@ fn borders_in(
     down: bool,
     up: bool,
 ) -> Result<Option<Borders>, XlsxError> {
-    let mut package = package_of(alloc, &[("part", markup)])?;
-    let Some(mut xml) = XlReader::open(alloc, &mut package, "part")? else {
+    let mut xml = XlReader::new(alloc, package_of(alloc, &[("part", markup)])?);
+    if !xml.open("part")? {
         return Ok(None);
-    };
+    }
     if xml.next()? {
         if let PartEvent::Start(_) = xml.event() {
             return Ok(Some(parse_border(&mut xml, down, up, &default_theme_colors())?));

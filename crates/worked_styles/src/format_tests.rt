@@ -2,7 +2,7 @@
 
 use cell_data::CellFormat;
 use cell_styles::{Borders, Fill, FillPattern, Font, HorizontalAlignment};
-use part_events::{Cursor, Package, XmlFault};
+use part_events::{XlReader, XmlFault};
 use std::alloc::{AllocError, Global};
 use std::test::Fail;
 use test_packages::package_of;
@@ -13,13 +13,12 @@ use xlsx_sections::enter;
 
 /// Keeps the codes that the number formats of this markup write.
 fn keep_codes(alloc: Global, markup: &str, kept: &mut FormatCodes) -> Result<(), XlsxError> {
-    let mut package = package_of(alloc, &[("part", markup)])?;
-    if !package.open("part")? {
+    let mut xml = XlReader::new(alloc, package_of(alloc, &[("part", markup)])?);
+    if !xml.open("part")? {
         return Err(XlsxError::FileNotFound(String::from_str(alloc, "part")?));
     }
-    let mut cursor = Cursor::new(alloc, &package);
-    enter(&mut package, &mut cursor, "numFmts")?;
-    read_number_formats(alloc, &mut package, &mut cursor, kept)
+    enter(&mut xml, "numFmts")?;
+    read_number_formats(&mut xml, kept)
 }
 
 /// What the cell format of this markup makes of a number, and its style.
@@ -28,13 +27,12 @@ fn formatting_in(
     markup: &str,
     lists: &NamedLists<'_>,
 ) -> Result<Formatting, XlsxError> {
-    let mut package = package_of(alloc, &[("part", markup)])?;
-    if !package.open("part")? {
+    let mut xml = XlReader::new(alloc, package_of(alloc, &[("part", markup)])?);
+    if !xml.open("part")? {
         return Err(XlsxError::FileNotFound(String::from_str(alloc, "part")?));
     }
-    let mut cursor = Cursor::new(alloc, &package);
-    enter(&mut package, &mut cursor, "xf")?;
-    read_format(alloc, &mut package, &mut cursor, lists)
+    enter(&mut xml, "xf")?;
+    read_format(&mut xml, lists)
 }
 
 /// The codes of three ids, of which one is built in.

@@ -2,7 +2,7 @@
 
 use cell_data::CellFormat;
 use cell_styles::{BorderStyle, Color, FillPattern};
-use part_events::{MemoryPackage, XmlFault};
+use part_events::{MemoryPackage, XlReader, XmlFault};
 use std::alloc::Global;
 use std::test::Fail;
 use test_packages::{events_of, package_front};
@@ -14,8 +14,9 @@ const STYLES_NAME: &str = "xl/styles.xml";
 
 /// What the first events of this markup say of styles.
 fn styles_of(alloc: Global, markup: &str, count: usize) -> Result<StyleSheet, XlsxError> {
-    let mut package = package_front(alloc, (STYLES_NAME, markup), count)?;
-    read_styles(alloc, &mut package, STYLES_NAME, &default_theme_colors())
+    let package = package_front(alloc, (STYLES_NAME, markup), count)?;
+    let mut xml = XlReader::new(alloc, package);
+    read_styles(&mut xml, STYLES_NAME, &default_theme_colors())
 }
 
 /// Two sections of fonts, and cell formats before the other lists and behind them: 44 events.
@@ -168,9 +169,9 @@ const UNKNOWN_CHARACTER: &str = r#"
 #[test]
 fn styles_are_absent_nested_or_refused(rt: HostRuntime) -> Result<(), Fail> {
     let alloc = rt.alloc();
-    let mut package = MemoryPackage::new(alloc);
+    let mut xml = XlReader::new(alloc, MemoryPackage::new(alloc));
     let theme = default_theme_colors();
-    let absent = read_styles(alloc, &mut package, STYLES_NAME, &theme)?;
+    let absent = read_styles(&mut xml, STYLES_NAME, &theme)?;
     assert!(rt; absent.formats.is_empty() && absent.styles.is_empty());
     let sheet = styles_of(alloc, NESTED, 8)?;
     assert!(rt; sheet.formats.is_empty() && sheet.styles.is_empty());

@@ -36,11 +36,11 @@ fn held_package(alloc: Global, markup: &str, count: usize) -> Result<MemoryPacka
 
 /// The theme that a reader of the first events of this markup answers.
 fn scheme_in(alloc: Global, markup: &str, count: usize) -> Result<ThemeColors, XlsxError> {
-    let mut package = held_package(alloc, markup, count)?;
-    match XlReader::open(alloc, &mut package, PATH)? {
-        Some(mut xml) => read_theme_colors(&mut xml),
-        None => Err(XlsxError::Failed),
+    let mut xml = XlReader::new(alloc, held_package(alloc, markup, count)?);
+    if !xml.open(PATH)? {
+        return Err(XlsxError::Failed);
     }
+    read_theme_colors(&mut xml)
 }
 
 /// The colors as a text of their numbers, and a mark behind those of the default theme.
@@ -62,8 +62,8 @@ fn scheme_told(alloc: Global, markup: &str, count: usize) -> Result<String, Fail
 
 /// The colors of the theme at this path, where the workbook's theme has this markup.
 fn theme_told(alloc: Global, markup: &str, path: &str) -> Result<String, Fail> {
-    let mut package = package_of(alloc, &[(PATH, markup)])?;
-    told(alloc, &read_theme(alloc, &mut package, path)?)
+    let mut xml = XlReader::new(alloc, package_of(alloc, &[(PATH, markup)])?);
+    told(alloc, &read_theme(&mut xml, path)?)
 }
 
 const DEFAULT: &str = "#FFFFFF #000000 #EEECE1 #1F497D #4F81BD #C0504D #9BBB59 #8064A2 #4BACC6 \
@@ -82,8 +82,8 @@ fn a_theme_that_is_cut_is_the_default(rt: HostRuntime) -> Result<(), Fail> {
     let alloc = rt.alloc();
     assert!(rt; events_of(alloc, FOUR_SLOTS)?.len() == 20);
     for count in 0..20usize {
-        let mut package = held_package(alloc, FOUR_SLOTS, count)?;
-        let theme = read_theme(alloc, &mut package, PATH)?;
+        let mut xml = XlReader::new(alloc, held_package(alloc, FOUR_SLOTS, count)?);
+        let theme = read_theme(&mut xml, PATH)?;
         assert!(rt; theme.defaulted == (count < 19), "{count} events");
         let answer = scheme_in(alloc, FOUR_SLOTS, count);
         let unclosed = matches!(&answer, Err(XlsxError::Xml(XmlFault::Unclosed { at }))
@@ -162,8 +162,8 @@ fn a_fault_of_the_package_is_no_default_theme(rt: HostRuntime) -> Result<(), Fai
     let alloc = rt.alloc();
     for number in 0..20u64 {
         let inner = held_package(alloc, FOUR_SLOTS, 20)?;
-        let mut package = FailingPackage::new(inner, vec![in alloc; number]?);
-        let answer = read_theme(alloc, &mut package, PATH);
+        let package = FailingPackage::new(inner, vec![in alloc; number]?);
+        let answer = read_theme(&mut XlReader::new(alloc, package), PATH);
         assert!(rt; matches!(&answer, Err(XlsxError::Io)), "call {number}");
     }
     Ok(())
