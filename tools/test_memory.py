@@ -52,25 +52,29 @@ use xlsx_theme::read_theme;
 
 const FORMATS: [CellFormat; 2] = [CellFormat::Other, CellFormat::DateTime];
 
-fn sheet_of(alloc: Global, first: &str, row: &str) -> Result<MemoryPackage, XlsxError> {
+fn sheet_of(
+    alloc: Global,
+    first: &str,
+    row: &str,
+) -> Result<XlReader<MemoryPackage>, XlsxError> {
     let mut data = String::from_str(alloc, first)?;
     for _ in 0..@ROWS@ {
         data.push_str(row)?;
     }
     let sheet = sheet_part(alloc, &data)?;
-    package_of(alloc, &[(SHEET_NAME, sheet.as_str())])
+    let package = package_of(alloc, &[(SHEET_NAME, sheet.as_str())])?;
+    Ok(XlReader::new(alloc, package))
 }
 
 fn reader_of<'a>(
-    alloc: Global,
-    package: &'a mut MemoryPackage,
+    xml: &'a mut XlReader<MemoryPackage>,
     strings: &'a [String],
     styles: &'a [Style],
 ) -> Result<XlsxCellReader<'a, MemoryPackage>, XlsxError> {
-    let Some(xml) = XlReader::open(alloc, package, SHEET_NAME)? else {
+    if !xml.open(SHEET_NAME)? {
         return Err(XlsxError::Failed);
-    };
-    XlsxCellReader::new(alloc, xml, strings, &FORMATS, styles, false)
+    }
+    XlsxCellReader::new(xml, strings, &FORMATS, styles, false)
 }
 
 fn allocations(alloc: Global) -> usize {
@@ -87,18 +91,18 @@ fn allocations(alloc: Global) -> usize {
 fn counts(alloc: Global, step: &str) -> Result<(usize, usize), XlsxError> {
     let strings = vec![in alloc; String::from_str(alloc, "zero")?]?;
     let styles = Vec::from_array(alloc, [Style::default(), Style::default()])?;
-    let mut packages = (
+    let mut sheets = (
         sheet_of(alloc, "", "@PLAIN@")?,
         sheet_of(alloc, "", "@PLAIN@")?,
         sheet_of(alloc, "", "@PLAIN@")?,
         sheet_of(alloc, "@MASTER@", "@DERIVED@")?,
         sheet_of(alloc, "@MASTER@", "@DERIVED@")?,
     );
-    let mut values = reader_of(alloc, &mut packages.0, &strings, &styles)?;
-    let mut styled = reader_of(alloc, &mut packages.1, &strings, &styles)?;
-    let mut ids = reader_of(alloc, &mut packages.2, &strings, &styles)?;
-    let mut metadata = reader_of(alloc, &mut packages.3, &strings, &styles)?;
-    let mut formulas = reader_of(alloc, &mut packages.4, &strings, &styles)?;
+    let mut values = reader_of(&mut sheets.0, &strings, &styles)?;
+    let mut styled = reader_of(&mut sheets.1, &strings, &styles)?;
+    let mut ids = reader_of(&mut sheets.2, &strings, &styles)?;
+    let mut metadata = reader_of(&mut sheets.3, &strings, &styles)?;
+    let mut formulas = reader_of(&mut sheets.4, &strings, &styles)?;
     let mut taken = 0;
     for _ in 0..@FIRST@ {
         taken += values.next_cell()?.is_some() as usize;
@@ -132,11 +136,11 @@ fn counts(alloc: Global, step: &str) -> Result<(usize, usize), XlsxError> {
 /// How many colors a theme has that is read behind so many allocations, and 1 where they are told
 /// as the default theme's.
 fn theme(alloc: Global, before: &str) -> Result<(usize, usize), XlsxError> {
-    let mut package = package_of(alloc, &[("theme", "@THEME@")])?;
+    let mut xml = XlReader::new(alloc, package_of(alloc, &[("theme", "@THEME@")])?);
     for _ in 0..before.parse::<usize>().unwrap_or(0) {
         let _text = String::from_str(alloc, "x")?;
     }
-    let theme = read_theme(alloc, &mut package, "theme")?;
+    let theme = read_theme(&mut xml, "theme")?;
     Ok((theme.colors.len(), theme.defaulted as usize))
 }
 
