@@ -1,5 +1,5 @@
 -- Calls on a package in memory.
-use Rattle.std.proofs.Common.{◌≡◌, ap, sym, arith, true}
+use Rattle.std.proofs.Common.{◌≡◌, ap, arith, true}
 use Rattle.part_events.specs.Memory.{Contents, state_of}
 use Rattle.part_events.specs.Package.{PackageState}
 use Rattle.xlsx_error.specs.declared.error.XlsxError.{XlsxError}

@@ -1,5 +1,5 @@
 -- What is had of the first sheet of a name, and why it isn't.
-use Rattle.std.proofs.Common.{◌≡◌, ◌⊎◌, inl, inr, ◌∙◌, ap, sym, subst, ℕ, List, Option}
+use Rattle.std.proofs.Common.{◌≡◌, ◌⊎◌, inl, inr, ◌∙◌, ap, sym, subst, ℕ, List, Option, refl}
 use Rattle.std.proofs.Common.{Bool, Some, None}
 use Rattle.std.specs.Prelude.{IsSomeAnd, option_and_then}
 use Rattle.cell_refs.specs.declared.dimensions.Dimensions.{Dimensions}

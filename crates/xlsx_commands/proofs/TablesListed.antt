@@ -11,7 +11,7 @@ use Rattle.cell_refs.proofs.PositionOrder.{and_both}
 use Rattle.list_lines.specs.Lines.{LiesInWorksheet, table_line}
 use Rattle.cell_data.specs.declared.value.HeaderRow.TheVariants.{FirstNonEmptyRow}
 use Rattle.part_events.specs.Memory.{Contents}
-use Rattle.part_events.specs.Package.{Part}
+use Rattle.part_events.specs.Package.{Part, SameParts}
 use Rattle.xlsx_error.specs.declared.error.XlsxError.{XlsxError}
 use Rattle.xlsx_error.specs.declared.error.XlsxError.TheVariants.{TableNotFound}
 use Rattle.xlsx_error.specs.declared.error.XlsxError.TheVariants.{PivotTableNotFound}

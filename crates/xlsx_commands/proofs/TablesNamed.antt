@@ -9,8 +9,8 @@ use Rattle.cell_data.specs.declared.value.Data.{Data}
 use Rattle.cell_data.specs.declared.value.HeaderRow.{HeaderRow}
 use Rattle.cell_data.specs.declared.value.HeaderRow.TheVariants.{FirstNonEmptyRow}
 use Rattle.cell_refs.specs.declared.dimensions.Dimensions.{Dimensions}
-use Rattle.part_events.specs.Memory.{Contents, state_of}
-use Rattle.part_events.specs.Package.{Part}
+use Rattle.part_events.specs.Memory.{Contents}
+use Rattle.part_events.specs.Package.{Part, PackageState}
 use Rattle.xlsx_error.specs.declared.error.XlsxError.{XlsxError}
 use Rattle.xlsx_error.specs.declared.error.XlsxError.TheVariants as workbook
 use Rattle.xlsx_cells.specs.CellsReader.{values_alone}
@@ -34,7 +34,7 @@ use Rattle.xlsx_commands.specs.SheetsRefused.{ListingFails}
 use Rattle.xlsx_commands.specs.TablesOpened.{OpensWithTables}
 use Rattle.xlsx_commands.specs.declared.error.ToolError.{ToolError}
 use Rattle.xlsx_commands.specs.declared.error.ToolError.TheVariants.{Workbook}
-use Rattle.xlsx_commands.proofs.MemoryCalls.{memory_fails}
+use Rattle.xlsx_commands.proofs.MemoryCalls.{memory_fails, IsInMemory}
 use Rattle.xlsx_commands.proofs.NamedSheets.{OpeningsNever}
 use Rattle.xlsx_commands.proofs.SheetsOpened.{same_sheets}
 use Rattle.xlsx_commands.proofs.TablesListed.{TablesNever, tables_never}

@@ -1,5 +1,5 @@
 -- An open workbook with its tables.
-use Rattle.std.specs.Prelude.{◌≡◌, List, Some}
+use Rattle.std.specs.Prelude.{true, ◌≡◌, List, Some}
 use Rattle.cell_data.specs.declared.value.HeaderRow.TheVariants.{FirstNonEmptyRow}
 use Rattle.part_events.specs.Memory.{Contents}
 use Rattle.part_events.specs.Package.{Part}

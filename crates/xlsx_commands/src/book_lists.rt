@@ -66,13 +66,14 @@ fn metadata_of(alloc: Global, package: MemoryPackage) -> Result<Metadata, ToolEr
     let mut xml = XlReader::new(alloc, package);
     let opened = open(&mut xml);
     drop(xml.into_package());
+    let opened = opened?;
     let Opened {
         metadata,
         paths: _,
         folder: _,
         shared: _,
         is_1904: _,
-    } = opened?;
+    } = opened;
     Ok(metadata)
 }
 

@@ -27,7 +27,7 @@ returns-in_err-all-clause-err c =
     c.from_residual-in_err-all.ensures.1 in
     rw (handed.1, handed.2)
     (sheet_fails_named (CommentsPathCause name) name (path_of xlsx name) c.args.package
-    xlsx.xml.source c.comments_by_sheet_name.new.self.xml.source
+    xlsx.xml.source c.comments_by_sheet_name-all.new.self.xml.source
     c.in_err-all.field-0.0 c.in_ok-xlsx.ensures.uses.parts
     (c.into_package.result, c.into_package.ensures) (opens_at name opened.0 opened.1 opened.2)
     c.in_err-all.ensures.answers.err)

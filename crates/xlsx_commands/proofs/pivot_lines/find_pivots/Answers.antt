@@ -22,14 +22,14 @@ returns-in_err-pivots-clause-err c =
     c.from_residual-in_err-pivots.ensures.1 in
     rw (handed.1, handed.2)
     (sheets_unlisted PivotsCause opened.0 c.args.package xlsx.xml.source
-    c.pivot_tables.new.self.xml.source c.in_err-pivots.field-0.0 opened.1 opened.2
+    c.pivot_tables-pivots.new.self.xml.source c.in_err-pivots.field-0.0 opened.1 opened.2
     c.in_ok-xlsx.ensures.uses.parts
-    (c.into_package.result, c.into_package.ensures) (pivots_there c.in_err-pivots.field-0.0 c.in_err-pivots.ensures.answers.kind)
+    (c.into_package-package.result, c.into_package-package.ensures) (pivots_there c.in_err-pivots.field-0.0 c.in_err-pivots.ensures.answers.kind)
     c.in_err-pivots.ensures.answers.err)
 
 pub returns-clause-ok : goal.returns-clause-ok
 returns-clause-ok c =
     let opened = c.in_ok-xlsx.ensures.opens refl in
-    has_pivots c.args.package.parts opened.0 c.in_ok-xlsx.xlsx (pivots_kept c.in_ok-pivots.pivots)
+    has_pivots c.args.package.parts opened.0 c.in_ok-xlsx.xlsx (pivots_kept c.in_ok-pivots.field-0)
     opened.2 opened.1 (c.in_ok-xlsx.ensures.folder refl) c.in_ok-xlsx.ensures.uses.parts.parts
     (c.in_ok-pivots.ensures.answers.said c.in_ok-xlsx.ensures.uses.parts.is_told)

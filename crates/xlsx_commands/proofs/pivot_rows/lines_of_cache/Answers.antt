@@ -1,5 +1,7 @@
-use Rattle.std.proofs.Common.{◌∷◌, ◌++◌, ◌∙◌, [], ap, sym, refl, List, ℕ, Some}
-use Rattle.std.proofs.lemmas.Result.{err_from_is_err_and}
+use Rattle.xlsx_commands.specs.Status.{of_workbook}
+use Rattle.xlsx_commands.specs.SheetsRefused.{CacheFails}
+use Rattle.part_events.specs.Reading.{Reading}
+use Rattle.std.proofs.Common.{◌∷◌, ◌++◌, ◌∙◌, [], ap, sym, List, ℕ, Some}
 use Rattle.std.specs.Prelude.{option_map}
 use Rattle.cell_data.specs.CellValue.{CellValue}
 use Rattle.part_events.specs.Event.{Event}
@@ -19,10 +21,7 @@ returns-in-Err-clause-err c =
     c.open.new.xml.source c.in-Err.error (c.into_package.result, c.into_package.ensures)
     (ap (λ (r : Reading). r.source.is_told) c.new-xml.ensures) c.in-Err.ensures.kind
     c.in-Err.ensures.err in
-    rw c.new-xml.ensures at fails
-
-pub rows-smaller : goal.rows-smaller
-rows-smaller c = rw c.in_ok-row.was at c.in-Some.ensures.gives.step
+    rw c.from.ensures (rw c.new-xml.ensures at fails)
 
 pub rows-preserved : goal.rows-preserved
 rows-preserved c =
@@ -30,10 +29,10 @@ rows-preserved c =
     let new = pivot_rows c.next.new.xml c.next.new.self in
     let now = c.rows.invariant in
     let taken = now.rows.0 in
-    let row = row_kept c.in_ok-row.row.items in
+    let row = row_kept c.in-Ok-next.row.items in
     let reads : KeepsPart old.reading new.reading =
-    rw c.in_ok-row.was at c.in-Some.ensures.gives.reads in
-    let takes : TakesRow row old new = rw c.in_ok-row.was at c.in-Some.ensures.gives.row in
+    rw c.in-Ok-next.is at c.in-Some.ensures.gives.reads in
+    let takes : TakesRow row old new = rw c.in-Ok-next.is at c.in-Some.ensures.gives.row in
     record {
       told = reads.moves.parts.is_told ∙ now.told;
       at = c.next.ensures.at;

@@ -1,3 +1,4 @@
+use Rattle.part_events.specs.Memory.{state_of}
 use Rattle.std.proofs.Common.{refl, inl, inr, List, subst}
 use Rattle.std.proofs.lemmas.Result.{err_from_is_err_and}
 use Rattle.part_events.specs.Package.{Part}
@@ -28,7 +29,7 @@ returns-in_err-properties-clause-err c =
     c.from_residual-in_err-properties.ensures.1 in
     rw (handed.1, handed.2)
     (memory_fails (ListedPropertiesCause parts) (PropertiesCause xlsx.xml.source.parts) xlsx.xml.source
-    c.workbook_properties.new.self.xml.source error
+    c.workbook_properties-properties.new.self.xml.source error
     (c.into_package.result, c.into_package.ensures) c.in_ok-xlsx.ensures.uses.parts.is_told (λ cause. inr (
       (opened.0, opened.2),
       subst (λ (own : List Part). PropertiesCause own error)

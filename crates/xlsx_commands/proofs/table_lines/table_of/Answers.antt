@@ -1,4 +1,3 @@
-use Rattle.std.proofs.Common.{refl}
 use Rattle.std.proofs.lemmas.Result.{err_from_is_err_and}
 use Rattle.xlsx_commands.proofs.TablesNamed.{loading_is_named, data_fails, has_table}
 use Rattle.xlsx_commands.proofs.table_lines.table_of.Goals as goal
@@ -16,7 +15,7 @@ returns-in_err-table-clause-err c =
     c.from_residual-in_err-table.ensures.1 in
     rw (handed.1, handed.2)
     (data_fails c.args.package.parts c.args.name.now c.in_ok-xlsx.xlsx c.in_ok-xlsx.ensures.ok
-    c.table_by_name.new.self.xml.source c.in_err-table.field-0.0
+    c.table_by_name-table.new.self.xml.source c.in_err-table.field-0.0
     (c.into_package.result, c.into_package.ensures) c.in_err-table.ensures.err)
 
 pub returns-clause-ok : goal.returns-clause-ok

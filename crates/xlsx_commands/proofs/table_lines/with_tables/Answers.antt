@@ -13,23 +13,21 @@ returns-in_err-xlsx-clause-err c =
     (opening_unlisted TablesCause c.args.package failure.package failure.error
     c.in_err-xlsx.ensures.kind c.in_err-xlsx.ensures.err)
 
-pub returns-in_err-load_tables-clause-err : goal.returns-in_err-load_tables-clause-err
-returns-in_err-load_tables-clause-err c =
+pub returns-in-Err-clause-err : goal.returns-in-Err-clause-err
+returns-in-Err-clause-err c =
     let xlsx = c.in_ok-xlsx.xlsx in
     let opened = c.in_ok-xlsx.ensures.opens refl in
-    let handed = err_from_is_err_and c.from_residual-in_err-load_tables.result
-    c.from_residual-in_err-load_tables.ensures.1 in
-    rw (handed.1, handed.2)
+    let error = c.in-Err.error in
+    rw c.from.ensures
     (sheets_unlisted TablesCause opened.0 c.args.package xlsx.xml.source
-    c.load_tables.new.self.xml.source c.in_err-load_tables.field-0.0 opened.1 opened.2
-    c.in_ok-xlsx.ensures.uses.parts
-    (c.into_package.result, c.into_package.ensures) (tables_there c.in_err-load_tables.field-0.0 c.in_err-load_tables.ensures.answers.kind)
-    c.in_err-load_tables.ensures.answers.err)
+    c.load_tables.new.self.xml.source error opened.1 opened.2 c.in_ok-xlsx.ensures.uses.parts
+    (c.into_package.result, c.into_package.ensures)
+    (tables_there error c.in-Err.ensures.answers.kind) c.in-Err.ensures.answers.err)
 
-pub returns-clause-ok : goal.returns-clause-ok
-returns-clause-ok c =
+pub returns-in-Ok-clause-ok : goal.returns-in-Ok-clause-ok
+returns-in-Ok-clause-ok c =
     let opened = c.in_ok-xlsx.ensures.opens refl in
+    let same = c.in_ok-xlsx.ensures.uses.parts in
     opened_with c.args.package.parts opened.0 c.in_ok-xlsx.xlsx c.load_tables.new.self opened.2
-    opened.1 c.in_ok-xlsx.ensures.uses.parts.is_told c.in_ok-xlsx.ensures.uses.parts.parts c.in_ok-xlsx.ensures.header_row
-    c.load_tables.ensures.book c.in_ok-load_tables.ensures.answers.uses.parts
-    (c.in_ok-load_tables.ensures.answers.said c.in_ok-xlsx.ensures.uses.parts.is_told)
+    opened.1 same.is_told same.parts c.in_ok-xlsx.ensures.header_row c.load_tables.ensures.book
+    c.in-Ok.ensures.answers.uses.parts (c.in-Ok.ensures.answers.said same.is_told)
