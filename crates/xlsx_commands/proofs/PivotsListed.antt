@@ -24,7 +24,8 @@ pub has_pivots : (parts : List Part) (opening : Opening) (xlsx : Xlsx Contents)
     (pivots : List PivotSaid) → OpensAs parts opening
     → HoldsOpening xlsx.metadata xlsx.paths.items xlsx.shared xlsx.is_1904 opening
     → LiesIn parts (arc_str_bytes xlsx.folder) → xlsx.xml.source.parts ≡ parts
-    → pivots_of xlsx.xml.source.parts (arc_str_bytes xlsx.folder) (sheets_of_book xlsx) ≡ Some pivots
+    → pivots_of xlsx.xml.source.parts (arc_str_bytes xlsx.folder) (sheets_of_book xlsx)
+    ≡ Some pivots
     → HasPivots parts pivots
 has_pivots parts opening xlsx pivots opens holds lies same found =
     let folder : arc_str_bytes xlsx.folder ≡ folder_of opens.path =

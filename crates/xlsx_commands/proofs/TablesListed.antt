@@ -51,7 +51,8 @@ holds_kept opening old new keeps holds = record {
 pub opened_with : (parts : List Part) (opening : Opening) (old new : Xlsx Contents)
     → OpensAs parts opening
     → HoldsOpening old.metadata old.paths.items old.shared old.is_1904 opening
-    → old.xml.source.is_told ≡ true → old.xml.source.parts ≡ parts → old.header_row ≡ FirstNonEmptyRow → KeepsBook old new
+    → old.xml.source.is_told ≡ true → old.xml.source.parts ≡ parts
+    → old.header_row ≡ FirstNonEmptyRow → KeepsBook old new
     → SameParts old.xml.source new.xml.source
     → tables_of old.xml.source.parts (sheets_of_book old) ≡ Some (loaded_tables new)
     → OpensWithTables parts new

@@ -11,4 +11,5 @@ returns-in_err-opened-clause-err c =
     let cause = OpeningCause c.args.package.parts in
     rw (handed.1, handed.2)
     (memory_fails cause cause (state_of c.args.package) c.open-opened.new.xml.source
-    c.in_err-opened.field-0.0 (c.into_package.result, c.into_package.ensures) refl (λ own. own) (rw c.new-xml.ensures at c.in_err-opened.ensures.err))
+    c.in_err-opened.field-0.0 (c.into_package.result, c.into_package.ensures) refl (λ own. own)
+    (rw c.new-xml.ensures at c.in_err-opened.ensures.err))

@@ -25,7 +25,8 @@ returns-in_err-links-clause-err c =
     let handed = err_from_is_err_and c.from_residual-in_err-links.result
     c.from_residual-in_err-links.ensures.1 in
     rw (handed.1, handed.2)
-    (sheet_fails_named (PlacedLinksCause name) name (path_of xlsx name) c.args.package xlsx.xml.source
+    (sheet_fails_named (PlacedLinksCause name) name (path_of xlsx name) c.args.package
+    xlsx.xml.source
     c.hyperlinks_by_sheet_name-links.new.self.xml.source
     c.in_err-links.field-0.0 c.in_ok-xlsx.ensures.uses.parts
     (c.into_package.result, c.into_package.ensures) (opens_at name opened.0 opened.1 opened.2)

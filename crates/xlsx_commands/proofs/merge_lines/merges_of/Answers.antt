@@ -25,7 +25,8 @@ returns-in_err-areas-clause-err c =
     let handed = err_from_is_err_and c.from_residual-in_err-areas.result
     c.from_residual-in_err-areas.ensures.1 in
     rw (handed.1, handed.2)
-    (sheet_fails_named (MergesPathCause name) name (path_of xlsx name) c.args.package xlsx.xml.source
+    (sheet_fails_named (MergesPathCause name) name (path_of xlsx name) c.args.package
+    xlsx.xml.source
     c.merge_cells_by_sheet_name-areas.new.self.xml.source
     c.in_err-areas.field-0.0 c.in_ok-xlsx.ensures.uses.parts
     (c.into_package.result, c.into_package.ensures) (opens_at name opened.0 opened.1 opened.2)

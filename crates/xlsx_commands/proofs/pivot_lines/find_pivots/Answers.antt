@@ -24,7 +24,8 @@ returns-in_err-pivots-clause-err c =
     (sheets_unlisted PivotsCause opened.0 c.args.package xlsx.xml.source
     c.pivot_tables-pivots.new.self.xml.source c.in_err-pivots.field-0.0 opened.1 opened.2
     c.in_ok-xlsx.ensures.uses.parts
-    (c.into_package-package.result, c.into_package-package.ensures) (pivots_there c.in_err-pivots.field-0.0 c.in_err-pivots.ensures.answers.kind)
+    (c.into_package-package.result, c.into_package-package.ensures)
+    (pivots_there c.in_err-pivots.field-0.0 c.in_err-pivots.ensures.answers.kind)
     c.in_err-pivots.ensures.answers.err)
 
 pub returns-clause-ok : goal.returns-clause-ok

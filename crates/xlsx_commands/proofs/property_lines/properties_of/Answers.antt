@@ -15,7 +15,8 @@ returns-in_err-xlsx-clause-err c =
     let handed = err_from_is_err_and c.from_residual.result c.from_residual.ensures.1 in
     rw (handed.1, handed.2)
     (memory_fails (ListedPropertiesCause parts) (OpeningCause parts) (state_of c.args.package)
-    (state_of failure.package) failure.error (failure.package, refl) refl (λ cause. inl cause) c.in_err-xlsx.ensures.err)
+    (state_of failure.package) failure.error (failure.package, refl) refl (λ cause. inl cause)
+    c.in_err-xlsx.ensures.err)
 
 pub returns-in_err-properties-clause-err :
     goal.returns-in_err-properties-clause-err
@@ -28,9 +29,11 @@ returns-in_err-properties-clause-err c =
     let handed = err_from_is_err_and c.from_residual-in_err-properties.result
     c.from_residual-in_err-properties.ensures.1 in
     rw (handed.1, handed.2)
-    (memory_fails (ListedPropertiesCause parts) (PropertiesCause xlsx.xml.source.parts) xlsx.xml.source
+    (memory_fails (ListedPropertiesCause parts) (PropertiesCause xlsx.xml.source.parts)
+    xlsx.xml.source
     c.workbook_properties-properties.new.self.xml.source error
-    (c.into_package.result, c.into_package.ensures) c.in_ok-xlsx.ensures.uses.parts.is_told (λ cause. inr (
+    (c.into_package.result, c.into_package.ensures) c.in_ok-xlsx.ensures.uses.parts.is_told
+    (λ cause. inr (
       (opened.0, opened.2),
       subst (λ (own : List Part). PropertiesCause own error)
           same cause,

@@ -17,5 +17,6 @@ returns-in_err-reading-clause-err c =
     let cause = SheetCause c.args.package.parts sample_name in
     rw (handed.1, handed.2)
     (memory_fails cause cause (state_of c.args.package)
-    (state_of c.read_sheet-result.result.package) _ (c.read_sheet-result.result.package, refl) refl (λ own. own)
+    (state_of c.read_sheet-result.result.package) _ (c.read_sheet-result.result.package, refl) refl
+    (λ own. own)
     fails)

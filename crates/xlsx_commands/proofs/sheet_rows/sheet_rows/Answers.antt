@@ -22,7 +22,8 @@ returns-in_err-read-clause-err c =
     rw (handed.1, handed.2)
     (call_fails cause (HasLargeArea parts c.args.name.now c.args.asked.from_a1) _
     (memory_fails cause cause (state_of c.args.package)
-    (state_of c.read_sheet_values-result.result.package) _ (c.read_sheet_values-result.result.package, refl) refl (λ own. own) fails))
+    (state_of c.read_sheet_values-result.result.package) _
+    (c.read_sheet_values-result.result.package, refl) refl (λ own. own) fails))
 
 pub returns-in_err-rows_csv-clause-err : goal.returns-in_err-rows_csv-clause-err
 returns-in_err-rows_csv-clause-err c =
