@@ -13,7 +13,8 @@ use Rattle.part_events.specs.declared.fault.StreamError.TheVariants.{Io, Xml, Ou
 use Rattle.part_events.specs.declared.fault.XmlFault.TheVariants.{EndMismatch, Unclosed, Entity}
 
 -- what a reader is to its caller: its package, the names of the open elements, the innermost first,
--- how many events of the part it took, whether a call of it was refused, and its allocator
+-- how many events of the part it took, whether nothing can be read on, since no part was opened or
+-- a call was refused, and its allocator
 pub record Reading : Type 0 where
   pub source : PackageState
   pub names : List (List ℕ)

@@ -1,4 +1,5 @@
 ghost use Rattle.std.specs.Prelude.{◌≡◌, length, true, [], IfOk, IfErr, OnErr};
+ghost use Rattle.std.specs.Result.{is_err};
 ghost use Rattle.part_events.specs.declared.fault.StreamError.TheVariants.{Io, Xml};
 ghost use Rattle.part_events.specs.declared.fault.XmlFault.TheVariants.{Unclosed};
 ghost use Rattle.part_events.specs.Event.{event_of};
@@ -58,7 +59,8 @@ impl<P: Package> XlReader<P> {
         }
     }
 
-    /// Its package is one of its type.
+    /// Says to a proof that the state which the reader shows is that of a package of its type, as
+    /// of one in memory, no call of which fails. It does nothing.
     pub fn holds_package(&self)
         ensures { (held : P) × (P.state held ≡ self.now.source) }
     {
@@ -80,8 +82,8 @@ impl<P: Package> XlReader<P> {
     }
 
     /// Opens the part of this name, and stands before its first event. Answers false where there is
-    /// none, and then there is no event to come. Its only refusal is `Io`, and that of a package
-    /// whose count of faults can rise.
+    /// none, and then there is no event to come. Its only refusal is `Io`, where a call of the
+    /// package failed, and then no part is open and nothing can be read on.
     pub fn open(&mut self, name: &str) -> Result<bool, StreamError>
         ensures reader { IfOk result (λ found. OpensReader self.old.source self.new) }
         ensures counts { IfOk result
@@ -90,6 +92,7 @@ impl<P: Package> XlReader<P> {
             (λ found. Opens name.now found self.old.source self.new.source) }
         ensures keeps { SameParts self.old.source self.new.source }
         ensures failed { OnErr result (Fails self.old.source self.new.source) }
+        ensures rests { self.new.is_failed ≡ is_err result }
         ensures alloc { self.new.alloc ≡ self.old.alloc }
         ensures err { IfErr result (λ error. error ≡ Io) }
     {
@@ -156,7 +159,7 @@ impl<P: Package> XlReader<P> {
 
     /// The refusal of a part that ends inside an element.
     pub(crate) fn leave_open(&mut self) -> StreamError
-        ensures error { result ≡ Xml (Unclosed (self.old.at)) }
+        ensures error { result ≡ Xml (Unclosed self.old.at) }
         ensures fails { self.new ≡ record self.old { is_failed = true } }
     {
         self.failed = true;
@@ -177,7 +180,7 @@ impl<P: Package> XlReader<P> {
         self.names.len()
     }
 
-    /// Whether a call was refused. Then the part can't be read on.
+    /// Whether nothing can be read on, since no part was opened yet, or a call was refused.
     pub fn is_failed(&self) -> bool
         ensures { result ≡ self.now.is_failed }
     {
