@@ -20,7 +20,8 @@ STAND_IN = """\
 echo "$*: $(wc -c | tr -d ' ')"
 exit "$2"
 """
-# Proves a crate, builds the program of this folder, or runs it unproved.
+# Proves a crate, builds the program of this folder, or runs it unproved. As the real one it keeps
+# others out of the crates below: here of `low`.
 RT = """\
 #!/bin/sh
 if [ "$1" = try ]; then
@@ -35,10 +36,27 @@ if [ "$1" = try ]; then
     echo "run=ended status=$status runners=1 proved=no" >&2
     exit "$status"
 fi
-echo "rt $* speaks of $(basename "$PWD")"
+name=$(basename "$PWD")
+echo "rt $* speaks of $name"
+exec 9<../low
+flock 9
 [ ! -e "$WAITING" ] || { echo "checked xlsx_tool::run, 3 of 7"; sleep 2; }
 [ ! -e "$FAILING" ] || [ "$1" != run ] || exit 1
-[ "$1" != run ] || cp "$STAND_IN" out/xlsx_tool
+if [ "$1" = run ]; then
+    ls -d ../*/out/rlib
+    cp "$STAND_IN" out/xlsx_tool
+    exit
+fi
+if [ -d "$MEETING" ] && [ "$name" != low ]; then
+    : >"$MEETING/$name"
+    tries=0
+    while [ "$(ls "$MEETING" | wc -l)" -lt 2 ]; do
+        tries=$((tries + 1))
+        [ "$tries" -lt 50 ] || { echo "nobody beside $name"; exit 1; }
+        sleep 0.1
+    done
+fi
+mkdir -p out/rlib
 """
 # What ./xlsx is made of.
 FRONT = ("front", "markup", "package_text", "program", "prove", "words", "workbook_file")
@@ -84,6 +102,7 @@ class FrontCopy(unittest.TestCase):
         path = f"{self.folder / 'bin'}:{os.environ['PATH']}" if path is None else path
         about = {"STAND_IN": self.folder / "program", "FAILING": self.folder / "failing"}
         about["WAITING"] = self.folder / "waiting"
+        about["MEETING"] = self.folder / "meeting"
         if memory is not None:
             about["XLSX_MEMORY"] = memory
         if "stdin" not in given:

@@ -11,6 +11,7 @@ The status is 0 where all is proved and built, and else 1.
 import contextlib
 import os
 import re
+import shutil
 import signal
 import subprocess
 import sys
@@ -75,14 +76,78 @@ def side_by_side():
     return max(1, most)
 
 
-class Work:
-    """The proof of a crate that is at work, and what `rt` says of it."""
+def link(old, new):
+    """Has a file in a second place, as the same one where the file system allows that."""
+    try:
+        os.link(old, new)
+    except OSError:
+        shutil.copy2(old, new)
 
-    def __init__(self, name, words):
+
+def copy(old, new, **given):
+    """Has what is in a folder in a second place too."""
+    shutil.copytree(old, new, copy_function=link, **given)
+
+
+def place(top, name, *below):
+    return os.path.join(top, "crates", name, *below)
+
+
+def move_out(name, old, new):
+    """Moves what is built of a crate to another copy of the repository that has nothing of it."""
+    if os.path.isdir(place(old, name, "out")) and not os.path.lexists(place(new, name, "out")):
+        os.rename(place(old, name, "out"), place(new, name, "out"))
+
+
+def below(name, needs):
+    """The crates that a crate stands on, and those that these stand on."""
+    found, waiting = set(), list(needs[name])
+    while waiting:
+        need = waiting.pop()
+        if need not in found:
+            found.add(need)
+            waiting += needs[need]
+    return found
+
+
+class Lane:
+    """A copy of the repository, as far as one crate needs it, in which that crate is proved.
+
+    `rt` keeps others out of the folders of all crates below the one at work, so that two proofs go
+    side by side in two copies alone.
+    """
+
+    def __init__(self, name, needs, folder):
+        self.name, self.top = name, os.path.join(folder, name)
+        os.makedirs(os.path.join(self.top, "crates"))
+        for file in filter(os.path.exists, ("crates.txt", "HANDLES")):
+            link(file, os.path.join(self.top, file))
+        for need in below(name, needs):
+            self.copy(need)
+            copy(place(".", need, "out", "rlib"), place(self.top, need, "out", "rlib"))
+        self.copy(name)
+        move_out(name, ".", self.top)
+
+    def copy(self, name):
+        """Copies a crate without what is built of it."""
+        without = shutil.ignore_patterns("out")
+        copy(place(".", name), place(self.top, name), ignore=without)
+
+    def leave(self):
+        """Brings back what is built of the crate."""
+        move_out(self.name, self.top, ".")
+        shutil.rmtree(self.top, ignore_errors=True)
+
+
+class Work:
+    """The proof of a crate that is at work in a folder, and what `rt` says of it."""
+
+    def __init__(self, words, folder, lane=None):
+        self.lane = lane
         self.said = tempfile.TemporaryFile()
         self.child = subprocess.Popen(
             words,
-            cwd=os.path.join("crates", name),
+            cwd=folder,
             stdin=subprocess.DEVNULL,
             stdout=self.said,
             stderr=self.said,
@@ -98,27 +163,44 @@ class Work:
         return "" if not told else f", {told[-1][0].decode()} of {told[-1][1].decode()} functions"
 
     def end(self, log):
-        """Adds what was said to the whole log."""
+        """Adds what was said to the whole log, and has what was built where it belongs."""
+        if self.lane is not None:
+            self.lane.leave()
         with self.said:
             log.write(self.text())
         log.flush()
 
 
 class Proving:
-    """The proofs of the crates below a program, some of them at work."""
+    """The proofs of the crates below a program, some of them at work, each with its processors."""
 
     def __init__(self, program, needs, log):
         self.program, self.needs, self.log = program, needs, log
         self.heights = heights(needs)
-        self.proved, self.at_work = set(), {}
+        self.lanes = place(".", program, "out", "lanes")
+        self.proved, self.at_work, self.jobs = set(), {}, {}
         self.began = self.told = time.monotonic()
 
     def begin(self, name, jobs):
-        """Begins the proof of a crate, with so many processors where that is told."""
-        words = ["rt", "run" if name == self.program else "lib"]
-        words += [] if jobs is None else ["--jobs", str(jobs)]
-        words += ["--", "--version"] if name == self.program else []
-        self.at_work[name] = Work(name, words)
+        """Begins the proof of a crate with so many processors: the program's where it is to be."""
+        self.jobs[name] = jobs
+        if name == self.program:
+            words = ["rt", "run", "--jobs", str(jobs), "--", "--version"]
+            self.at_work[name] = Work(words, place(".", name))
+        else:
+            lane = Lane(name, self.needs, self.lanes)
+            words = ["rt", "lib", "--jobs", str(jobs)]
+            self.at_work[name] = Work(words, place(lane.top, name), lane)
+
+    def begin_some(self, most):
+        """Begins what can be proved now, with the processors that are left. One processor takes the
+        least of processor time, so that a crate gets more only where no other waits for them."""
+        free = most - sum(self.jobs[name] for name in self.at_work)
+        ready = self.ready()
+        for at, name in enumerate(ready[:free]):
+            jobs = free // (len(ready) - at) or 1
+            self.begin(name, jobs)
+            free -= jobs
 
     def ready(self):
         """The crates that can be proved now, those with the longest chain above them first."""
@@ -164,15 +246,20 @@ class Proving:
             # What is said then goes nowhere where the log can't be written, either.
             with contextlib.suppress(OSError):
                 work.end(self.log)
+        self.clear()
+
+    def clear(self):
+        """Brings back what is built in a copy that is left of a run that was killed."""
+        if os.path.isdir(self.lanes):
+            for name in os.listdir(self.lanes):
+                move_out(name, os.path.join(self.lanes, name), ".")
+            shutil.rmtree(self.lanes, ignore_errors=True)
 
     def run(self, most):
-        """Whether all is proved, with at most so many proofs at work."""
+        """Whether all is proved, with at most so many processors."""
+        self.clear()
         while len(self.proved) < len(self.needs):
-            ready = self.ready()
-            # The last crates stand one above the other: each has all processors then.
-            jobs = most if len(ready) == 1 and not self.at_work else None
-            for name in ready[: most - len(self.at_work)]:
-                self.begin(name, jobs)
+            self.begin_some(most)
             if not self.take_ended():
                 return False
         return True

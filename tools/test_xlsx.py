@@ -100,7 +100,31 @@ class Wrapper(FrontCopy):
         self.assertEqual(ran, (0, b"cells 0: 2\n", self.built()))
         # Each stands alone, so that it has all processors.
         said = "rt lib --jobs N speaks of low\nrt run --jobs N -- --version speaks of xlsx_tool\n"
+        said += "../low/out/rlib\n"
         self.assertEqual(re.sub(r"--jobs \d+", "--jobs N", self.log().read_text()), said)
+
+    def test_proofs_go_side_by_side(self):
+        crates = self.folder / "top" / "crates"
+        for name in ("left", "right"):
+            (crates / name).mkdir()
+        table = "xlsx_tool: left right\nleft: low\nright: low\nlow:\n"
+        (self.folder / "top" / "crates.txt").write_text(table)
+        (self.folder / "meeting").mkdir()
+        prove = self.folder / "top" / "tools" / "prove.py"
+        prove.write_text(prove.read_text().replace("os.cpu_count() or 1", "2"))
+        status, lines, said = self.run_on("cells", "0", data=b"12")
+        self.assertEqual((status, lines), (0, b"cells 0: 2\n"), said)
+        # What is built lies beside its crate, and the copies are gone.
+        built = [f"../{name}/out/rlib" for name in ("left", "low", "right")]
+        self.assertEqual(self.log().read_text().splitlines()[-3:], built)
+        self.assertFalse((self.crate / "out" / "lanes").is_dir())
+
+    def test_what_an_ended_proof_left_is_no_hindrance(self):
+        left = self.crate / "out" / "lanes" / "low" / "crates" / "low" / "out"
+        left.mkdir(parents=True)
+        (left / "kept").write_text("")
+        self.assertEqual(self.run_on("cells", "0"), (0, b"cells 0: 0\n", self.built()))
+        self.assertTrue((self.crate.parent / "low" / "out" / "kept").is_file())
 
     def test_a_long_proof_tells_how_far_it_is(self):
         self.written("waiting", "")
