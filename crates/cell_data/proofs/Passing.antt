@@ -3,21 +3,14 @@ use Rattle.std.proofs.Common.{◌≡◌, ℕ, List, [], ◌∷◌, ◌++◌, Boo
 use Rattle.std.proofs.Common.{Option, Some, None, refl, sym, ◌∙◌, ap}
 use Rattle.std.specs.Prelude.{reverse}
 use Rattle.std.specs.List.{filter}
-use Rattle.std.specs.declared.cmp.Ordering.{Ordering}
-use Rattle.std.specs.declared.cmp.Ordering.TheVariants.{Less, Equal, Greater}
 use Rattle.std.specs.FinMap.{from_entries, entries, find, get-entries, get-from_entries}
 use Rattle.std.specs.FinMap.{entries_sorted}
 use Rattle.std.specs.FinMap.Entries.{is_sorted-where_key, same_entries}
-use Rattle.std.specs.Ordering.{is_eq, eq_by_cmp}
+use Rattle.std.specs.Ordering.{eq_by_cmp}
 use Rattle.std.proofs.lemmas.List.{append-nil, reverse-append}
 use Rattle.std.proofs.lemmas.List.Elements.{filter-append}
 use Rattle.cell_refs.specs.Positions.{position_cmp, last_of_each}
-use Rattle.cell_refs.proofs.PositionOrder.{position_total, position_same}
-
-equal_from : (o : Ordering) → is_eq o ≡ true → o ≡ Equal
-equal_from Less yields = absurd (cc)
-equal_from Equal yields = refl
-equal_from Greater yields = absurd (cc)
+use Rattle.cell_refs.proofs.PositionOrder.{position_total, position_same, tied_same}
 
 none_either : {X : Type 0} (test : Bool) (o : Option X) → o ≡ None → o ≡ cond test o None
 none_either true o is = refl
@@ -38,13 +31,13 @@ module _ {X : Type 0} (p : ℕ × ℕ → Bool) where
           find position_cmp q (cond own (e ∷ passing es) (passing es))
           ≡ cond (p q) (cond ties (Some e.1) (find position_cmp q es)) None
       by_tests true own true ties rest =
-          let same : q ≡ e.0 = position_same q e.0 (equal_from _ ties) in
+          let same : q ≡ e.0 = tied_same q e.0 ties in
           let passes : p q ≡ true = ap p same ∙ own in
           rw (passes) (ap (λ (t : Bool). cond t (Some e.1) (find position_cmp q (passing es))) ties)
       by_tests true own false ties rest =
           ap (λ (t : Bool). cond t (Some e.1) (find position_cmp q (passing es))) ties ∙ rest
       by_tests false own true ties rest =
-          let same : q ≡ e.0 = position_same q e.0 (equal_from _ ties) in
+          let same : q ≡ e.0 = tied_same q e.0 ties in
           let fails : p q ≡ false = ap p same ∙ own in
           rest ∙ rw (fails) refl
       by_tests false own false ties rest = rest

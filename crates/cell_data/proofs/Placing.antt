@@ -11,13 +11,13 @@ use Rattle.std.specs.FinMap.{entries-insert, entries-from_sorted, get-from_sorte
 use Rattle.std.specs.FinMap.{len-empty, same_map, get-from_entries, entries_sorted}
 use Rattle.std.specs.FinMap.Entries.{by_order, below_all}
 use Rattle.std.specs.Option.{option_or}
-use Rattle.std.specs.Ordering.{is_lt, is_eq, eq_by_cmp, match_ordering}
+use Rattle.std.specs.Ordering.{is_lt, eq_by_cmp, match_ordering}
 use Rattle.std.proofs.lemmas.List.{append_assoc, reverse-append, map-append}
 use Rattle.cell_data.specs.declared.cell.Cell.{Cell}
 use Rattle.cell_data.specs.Cells.{cell_entry, placed_cells}
 use Rattle.cell_refs.specs.Positions.{position_cmp, last_of_each, is_rising}
 use Rattle.cell_refs.proofs.PositionOrder.{position_total, position_same, to_T, from_T, and_both}
-use Rattle.cell_refs.proofs.PositionOrder.{less_from}
+use Rattle.cell_refs.proofs.PositionOrder.{less_from, equal_from}
 use Rattle.sorted_cells.proofs.Finding.{found_in_two, none_behind}
 
 module _ {X : Type 0} where
@@ -96,11 +96,6 @@ module _ {X : Type 0} where
       (found_reversed q es rest)
       ∙ tied_or_not (eq_by_cmp position_cmp q e.0) e.1 (find position_cmp q es)
       (λ ties. none_behind position_cmp position_total q e.0 es (equal_from _ ties) below)))
-    where
-      equal_from : (o : Ordering) → is_eq o ≡ true → o ≡ Equal
-      equal_from Less yields = absurd (cc)
-      equal_from Equal yields = refl
-      equal_from Greater yields = absurd (cc)
 
   -- cells that rise are the last of each position
   pub rising_last : (cells : List ((ℕ × ℕ) × X)) → is_rising cells ≡ true →

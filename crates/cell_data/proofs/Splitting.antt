@@ -9,7 +9,7 @@ use Rattle.std.specs.FinMap.{find}
 use Rattle.std.specs.FinMap.Entries.{below_all}
 use Rattle.std.specs.Ordering.{is_lt, is_le, is_eq, ordering_reverse, eq_by_cmp}
 use Rattle.cell_refs.specs.Positions.{position_cmp, is_rising}
-use Rattle.cell_refs.proofs.PositionOrder.{position_total, position_same, and_both, less_from}
+use Rattle.cell_refs.proofs.PositionOrder.{position_total, tied_same, and_both, less_from}
 use Rattle.sorted_cells.specs.Placed.{value_first, left_behind}
 use Rattle.sorted_cells.proofs.Finding.{none_behind}
 use Rattle.cell_data.specs.Splitting.{AreInOrder, given, none_earlier, Splits}
@@ -50,11 +50,6 @@ less_if_apart Less le apart = refl
 less_if_apart Equal le apart = absurd (cc)
 less_if_apart Greater le apart = absurd (cc)
 
-equal_if_tied : (o : Ordering) → is_eq o ≡ true → o ≡ Equal
-equal_if_tied Less tied = absurd (cc)
-equal_if_tied Equal tied = refl
-equal_if_tied Greater tied = absurd (cc)
-
 -- cells in order, at a position that none of them stands before
 pub splits_at : {X : Type 0} (p : ℕ × ℕ) (cells : List ((ℕ × ℕ) × X)) → AreInOrder cells →
     none_earlier p cells ≡ true → Splits p cells (value_first p cells) (left_behind p cells)
@@ -65,7 +60,7 @@ splits_at {X} p (cell ∷ cells) order first =
     by_test : (test : Bool) → eq_by_cmp position_cmp p cell.0 ≡ test →
         Splits p (cell ∷ cells) (cond test (Some cell.1) None) (cond test cells (cell ∷ cells))
     by_test true tied =
-        let at : p ≡ cell.0 = position_same p cell.0 (equal_if_tied _ tied) in
+        let at : p ≡ cell.0 = tied_same p cell.0 tied in
         let parts =
         and_both (below_all position_cmp cell.0 cells) (is_rising cells) order.rising in
         record {

@@ -97,12 +97,14 @@ find-bare q (p ∷ ps) = by (eq_by_cmp position_cmp q p) (find-bare q ps) where
   by true rest = refl
   by false rest = rest
 
-among_same : (p q : ℕ × ℕ) → eq_by_cmp position_cmp p q ≡ true → p ≡ q
-among_same p q same = position_same p q (equal_from (position_cmp p q) same) where
-  equal_from : (o : Ordering) → is_eq o ≡ true → o ≡ Equal
-  equal_from Less yields = absurd (cc)
-  equal_from Equal yields = refl
-  equal_from Greater yields = absurd (cc)
+pub equal_from : (o : Ordering) → is_eq o ≡ true → o ≡ Equal
+equal_from Less tied = absurd (cc)
+equal_from Equal tied = refl
+equal_from Greater tied = absurd (cc)
+
+-- positions that tie are the same
+pub tied_same : (p q : ℕ × ℕ) → eq_by_cmp position_cmp p q ≡ true → p ≡ q
+tied_same p q tied = position_same p q (equal_from (position_cmp p q) tied)
 
 -- positions that rise are known by their members
 pub same_positions : (ps qs : List (ℕ × ℕ)) → positions_rise ps ≡ true → positions_rise qs ≡ true →
@@ -122,8 +124,8 @@ same_positions ps qs rise other same =
     alike q true true one two = refl
     alike q false false one two = refl
     alike q true false one two =
-        let among = (same q).0 (Contains-from_any among_same q ps one) in
+        let among = (same q).0 (Contains-from_any tied_same q ps one) in
         absurd (let e = list_any-from_Contains (eq_by_cmp_equiv position_total) q qs among in cc)
     alike q false true one two =
-        let among = (same q).1 (Contains-from_any among_same q qs two) in
+        let among = (same q).1 (Contains-from_any tied_same q qs two) in
         absurd (let e = list_any-from_Contains (eq_by_cmp_equiv position_total) q ps among in cc)

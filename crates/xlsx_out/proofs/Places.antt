@@ -3,7 +3,6 @@ use Rattle.std.proofs.Common.{◌≡◌, ◌≢◌, ℕ, zero, suc, ◌<◌, Boo
 use Rattle.std.proofs.Common.{List, [], ◌∷◌, length, get_or, refl, sym, ap, ◌∙◌, arith}
 use Rattle.std.proofs.Common.{Some, None}
 use Rattle.std.proofs.Common.{inl, inr}
-use Rattle.std.specs.declared.cmp.Ordering.{Ordering}
 use Rattle.std.specs.declared.cmp.Ordering.TheVariants.{Less, Equal, Greater}
 use Rattle.std.specs.Cmp.{tied_itself}
 use Rattle.std.specs.FinMap.{find}
@@ -11,12 +10,7 @@ use Rattle.std.specs.FinMap.Entries.{below_all}
 use Rattle.std.specs.Ordering.{is_lt, is_eq, ordering_reverse, eq_by_cmp}
 use Rattle.std.proofs.lemmas.Bool.{cases_lt}
 use Rattle.cell_refs.specs.Positions.{position_cmp, is_rising}
-use Rattle.cell_refs.proofs.PositionOrder.{position_total, position_same, and_both, less_from}
-
-pub equal_if : (o : Ordering) → is_eq o ≡ true → o ≡ Equal
-equal_if Less tied = absurd (cc)
-equal_if Equal tied = refl
-equal_if Greater tied = absurd (cc)
+use Rattle.cell_refs.proofs.PositionOrder.{position_total, tied_same, and_both, less_from}
 
 -- a position isn't itself where it stands before or behind
 pub less_apart : (p q : ℕ × ℕ) → position_cmp p q ≡ Less → p ≢ q
@@ -91,5 +85,5 @@ module _ {X : Type 0} where
       by_test : (test : Bool) → eq_by_cmp position_cmp q e.0 ≡ test →
           find position_cmp q es ≡ None → cond test (Some e.1) (find position_cmp q es) ≡ None
       by_test true tied rest =
-          absurd (apart 0 (omega arith) (sym (position_same q e.0 (equal_if _ tied))))
+          absurd (apart 0 (omega arith) (sym (tied_same q e.0 tied)))
       by_test false other rest = rest

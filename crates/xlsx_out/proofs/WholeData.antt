@@ -9,7 +9,7 @@ use Rattle.std.specs.FinMap.Entries.{below_all}
 use Rattle.std.specs.Ordering.{is_lt, eq_by_cmp}
 use Rattle.std.proofs.lemmas.List.Elements.{All-map}
 use Rattle.cell_refs.specs.Positions.{position_cmp, is_rising}
-use Rattle.cell_refs.proofs.PositionOrder.{position_same}
+use Rattle.cell_refs.proofs.PositionOrder.{tied_same}
 use Rattle.cell_data.specs.CellValue.{nothing}
 use Rattle.cell_data.specs.Cells.{IsPlacedInSheet}
 use Rattle.cell_data.specs.Splitting.{AreInOrder}
@@ -21,7 +21,6 @@ use Rattle.xlsx_out.specs.WrittenSheet.{PlacedValues, cell_attributes, value_eve
 use Rattle.xlsx_out.specs.WrittenSheet.{optional_formula, data_events}
 use Rattle.xlsx_out.specs.Writing.{PlacedForms, placed_forms, given_formula, given_cell, cell_among}
 use Rattle.xlsx_out.specs.Writing.{rows_by, data_left}
-use Rattle.xlsx_out.proofs.Places.{equal_if}
 
 module _ (F : Placed) where
   abbrev forms_of : Placed → PlacedForms
@@ -40,7 +39,7 @@ module _ (F : Placed) where
           ≡ option_map (written_formula F p) (cond test (Some e.1) (find position_cmp p some))
       by_test true tied rest =
           ap (λ (q : ℕ × ℕ). Some (written_formula F q e.1))
-          (sym (position_same p e.0 (equal_if _ tied)))
+          (sym (tied_same p e.0 tied))
       by_test false other rest = rest
 
   same_places : (some : Placed) → used (forms_of some) ≡ used some

@@ -6,23 +6,16 @@ use Rattle.std.specs.Prelude.{nat_le, nat_lt}
 use Rattle.std.specs.FinMap.{find}
 use Rattle.std.specs.FinMap.Entries.{below_all}
 use Rattle.std.specs.List.{filter, list_all}
-use Rattle.std.specs.Ordering.{nat_cmp, ordering_then, is_lt, is_eq, eq_by_cmp}
+use Rattle.std.specs.Ordering.{nat_cmp, ordering_then, is_lt, eq_by_cmp}
 use Rattle.std.specs.declared.cmp.Ordering.{Ordering}
 use Rattle.std.specs.declared.cmp.Ordering.TheVariants.{Less, Equal, Greater}
 use Rattle.std.proofs.lemmas.Bool.Decides.{nat_tests}
 use Rattle.std.proofs.lemmas.Slice.Eq.{bytes_eq-Decides}
 use Rattle.cell_refs.specs.Positions.{position_cmp, is_rising}
-use Rattle.cell_refs.proofs.PositionOrder.{position_same, and_both, less_from}
+use Rattle.cell_refs.proofs.PositionOrder.{tied_same, and_both, less_from}
 use Rattle.formula_shift.specs.Relocation.{moved, offset_between}
 use Rattle.xlsx_out.specs.Groups.{Placed, formula_placed, is_moved_from, is_placed, head_row}
 use Rattle.xlsx_out.specs.Groups.{group_head, is_same, last_row, group_end, is_master}
-
-pub same_place : (p q : ℕ × ℕ) → eq_by_cmp position_cmp p q ≡ true → p ≡ q
-same_place p q same = position_same p q (equal_from (position_cmp p q) same) where
-  equal_from : (o : Ordering) → is_eq o ≡ true → o ≡ Equal
-  equal_from Less yields = absurd (cc)
-  equal_from Equal yields = refl
-  equal_from Greater yields = absurd (cc)
 
 -- ---- a head and its formula
 
@@ -171,10 +164,10 @@ module _ (formulas : Placed) (head : ℕ × ℕ) where
             (λ e. is_same (group_head formulas e.0) head) entries)
             (filter (λ e. is_same (group_head formulas e.0) head) entries)))
         at true ties found true is here further =
-            let place = same_place position entry.0 ties in
+            let place = tied_same position entry.0 ties in
             omega (arith, ap (λ (p : ℕ × ℕ). p.0) place)
         at true ties found false is here further =
-            let place = same_place position entry.0 ties in
+            let place = tied_same position entry.0 ties in
             let e = ap (λ (p : ℕ × ℕ). is_same (group_head formulas p) head) place in absurd (cc)
         at false ties found true is here further =
             further entry.0.0 found

@@ -7,9 +7,8 @@ use Rattle.std.specs.Ordering.{is_lt, eq_by_cmp, ordering_reverse}
 use Rattle.std.specs.declared.cmp.Ordering.{Ordering}
 use Rattle.std.specs.declared.cmp.Ordering.TheVariants.{Less, Equal, Greater}
 use Rattle.cell_refs.specs.Positions.{position_cmp}
-use Rattle.cell_refs.proofs.PositionOrder.{position_total, position_same, less_from}
+use Rattle.cell_refs.proofs.PositionOrder.{position_total, position_same, tied_same, less_from}
 use Rattle.xlsx_out.specs.Groups.{Placed, formula_placed, is_master, group_index}
-use Rattle.xlsx_reads_back.proofs.GroupHeads.{same_place}
 
 -- a position stands behind none that is itself
 not_below : (a p : ℕ × ℕ) → a ≡ p → is_lt (position_cmp p a) ≡ false
@@ -84,7 +83,7 @@ module _ (passes : ℕ × ℕ → Bool) where
               length (before a entries) < length (before b entries)) →
               length (before a (entry ∷ entries)) < length (before b (entry ∷ entries))
           at true ties found fewer further =
-              let place = same_place a entry.0 ties in
+              let place = tied_same a entry.0 ties in
               here (is_lt (position_cmp entry.0 a)) (is_lt (position_cmp entry.0 b))
               (passes entry.0)
               (not_below a entry.0 place)

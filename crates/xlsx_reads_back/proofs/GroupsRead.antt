@@ -12,7 +12,8 @@ use Rattle.std.specs.declared.cmp.Ordering.{Ordering}
 use Rattle.std.specs.declared.cmp.Ordering.TheVariants.{Less, Equal, Greater}
 use Rattle.std.proofs.lemmas.Bool.Decides.{nat_tests}
 use Rattle.cell_refs.specs.Positions.{position_cmp, is_rising}
-use Rattle.cell_refs.proofs.PositionOrder.{position_total, and_both, less_from, positions_rise}
+use Rattle.cell_refs.proofs.PositionOrder.{position_total, tied_same, and_both, less_from}
+use Rattle.cell_refs.proofs.PositionOrder.{positions_rise}
 use Rattle.xlsx_cells.specs.Sheet.{formulas_along, used_formulas, is_empty}
 use Rattle.xlsx_formulas.specs.Formula.{FormulaText, GroupFormula, master_of, or_further}
 use Rattle.xlsx_formulas.specs.Formula.{formula_of, moved_to, cell_formula, behind_formulas}
@@ -22,7 +23,7 @@ use Rattle.xlsx_out.specs.Groups.{master, derived}
 use Rattle.xlsx_out.specs.Writable.{are_writable_formulas}
 use Rattle.xlsx_reads_back.specs.ReadFormulas.{formula_read, formulas_read, formulas_read_by}
 use Rattle.xlsx_reads_back.specs.ReadFormulas.{formulas_read_along, is_derived}
-use Rattle.xlsx_reads_back.proofs.GroupHeads.{same_place, IsMovedFrom, head_above, head_moves}
+use Rattle.xlsx_reads_back.proofs.GroupHeads.{IsMovedFrom, head_above, head_moves}
 use Rattle.xlsx_reads_back.proofs.GroupHeads.{head_is_master}
 use Rattle.xlsx_reads_back.proofs.GroupIndices.{indices_differ}
 use Rattle.xlsx_reads_back.proofs.PlacedAmong.{is_among, placed_among, entry_before, have_all}
@@ -195,7 +196,7 @@ module _ (formulas : Placed) where
             (t || is_among head positions) ≡ false
         by false apart = ahead
         by true ties =
-            absurd (let e = ap (formula_placed formulas) (same_place head position ties) in cc)
+            absurd (let e = ap (formula_placed formulas) (tied_same head position ties) in cc)
   passed_further earlier position positions (Some formula) is passed head text placed own ahead =
       by (eq_by_cmp position_cmp head position) refl where
         by : (t : Bool) → eq_by_cmp position_cmp head position ≡ t →
@@ -203,7 +204,7 @@ module _ (formulas : Placed) where
             (formula_read position (written_formula formulas position formula) ∷ earlier)
             ≡ Some (kept_master head text)
         by true ties =
-            let place = same_place head position ties in
+            let place = tied_same head position ties in
             let same = same_texts formula text (formula_placed formulas position) is
             (ap (formula_placed formulas) (sym place) ∙ placed) in
             ap (λ (p : ℕ × ℕ). master_of (group_index formulas p)

@@ -7,8 +7,7 @@ use Rattle.std.specs.FinMap.Entries.{below_all, same_entries}
 use Rattle.std.specs.Ordering.{is_lt, eq_by_cmp}
 use Rattle.cell_refs.specs.Positions.{position_cmp, is_rising}
 use Rattle.cell_refs.proofs.PositionOrder.{position_total, position_same, to_T, and_both}
-use Rattle.cell_refs.proofs.PositionOrder.{and_from, positions_rise}
-use Rattle.xlsx_reads_back.proofs.GroupHeads.{same_place}
+use Rattle.cell_refs.proofs.PositionOrder.{tied_same, and_from, positions_rise}
 
 -- a position is among these
 abbrev pub is_among : ℕ × ℕ → List (ℕ × ℕ) → Bool
@@ -64,9 +63,9 @@ module _ {X : Type 0} (at : ℕ × ℕ → Option X) where
             find position_cmp q (entry_before p o (placed_among at ps)) ≡ cond (t || u) (at q) None
         by true ties None is true others = others
         by true ties None is false others =
-            let place = ap at (same_place q p ties) in others ∙ sym (place ∙ is)
+            let place = ap at (tied_same q p ties) in others ∙ sym (place ∙ is)
         by true ties (Some x) is u others =
-            let place = ap at (same_place q p ties) in
+            let place = ap at (tied_same q p ties) in
             ap (λ (b : Bool). cond b (Some x) (find position_cmp q (placed_among at ps))) ties
             ∙ sym (place ∙ is)
         by false ties None is u others = others
