@@ -21,9 +21,6 @@ Extends-trans old mid new first second = record {
 pub Extends-push : (old new more : List ℕ) → new ≡ old ++ more → Extends old new
 Extends-push old new more is = record { more = more; joined = is }
 
-pub Extends-same : (old new : List ℕ) → new ≡ old → Extends old new
-Extends-same old new is = record { more = []; joined = is ∙ sym (append-nil old) }
-
 -- the old text is the front of the new one
 pub front_kept : (old new : List ℕ) → Extends old new → take (length old) new ≡ old
 front_kept old new extends =

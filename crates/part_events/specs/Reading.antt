@@ -55,11 +55,6 @@ pub record IsReadingElement (r : Reading) : Type 0 where
   pub reading : IsReading r
   pub element : IsAtElement r
 
--- the package stands before the first event of its part, or no part is open
-pub record IsAtStart (source : PackageState) : Type 0 where
-  pub past : source.is_told ≡ true → source.past ≡ []
-  pub has_current : source.has_current ≡ false
-
 -- a reader that was just made
 pub record OpensReader (old : PackageState) (new : Reading) : Type 0 where
   pub reading : IsReading new

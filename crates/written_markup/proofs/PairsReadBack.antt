@@ -148,14 +148,6 @@ items_written pairs are = items_left_written (length (attributes_of pairs)) pair
 
 -- ---- the texts of pairs
 
--- the attributes of two lists of pairs
-pub attributes_in_row : (front behind : List (List ℕ × List ℕ))
-    → attributes_of (front ++ behind) ≡ attributes_of front ++ attributes_of behind
-attributes_in_row [] behind = refl
-attributes_in_row (pair ∷ front) behind =
-    ap (λ (rest : List ℕ). attribute pair.0 pair.1 ++ rest) (attributes_in_row front behind)
-    ∙ sym (append_assoc (attribute pair.0 pair.1) (attributes_of front) (attributes_of behind))
-
 -- an attribute that may be there, in front of others
 pub attribute_if_in_row : (key : List ℕ) (value : Option (List ℕ))
     (pairs : List (List ℕ × List ℕ))
@@ -168,13 +160,6 @@ pub attribute_if_alone : (key : List ℕ) (value : Option (List ℕ))
     → attribute_if key value ≡ attributes_of (pair_if key value)
 attribute_if_alone key None = refl
 attribute_if_alone key (Some value) = sym (append-nil (attribute key value))
-
--- writable pairs in a row
-pub writable_in_row : (front behind : List (List ℕ × List ℕ)) → AreWritablePairs front
-    → AreWritablePairs behind → AreWritablePairs (front ++ behind)
-writable_in_row [] behind first second = second
-writable_in_row (pair ∷ front) behind first second =
-    (first.0, writable_in_row front behind first.1 second)
 
 -- ---- lookups
 

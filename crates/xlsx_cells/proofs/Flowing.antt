@@ -1,7 +1,7 @@
 -- How a stream of cells goes on, and how the data that it reads are entered.
 use Rattle.std.proofs.Common.{◌≡◌, ◌∙◌, ℕ, List, [], length, true, false, Some, None}
 use Rattle.std.proofs.Common.{refl, sym, ap, subst, codes, arith, string_bytes}
-use Rattle.std.specs.Prelude.{String, ◌||◌, Option, option_map, Bool}
+use Rattle.std.specs.Prelude.{String, Option, option_map, Bool}
 use Rattle.std.specs.List.{last_or}
 use Rattle.std.specs.declared.alloc.Global.{Global}
 use Rattle.cell_refs.specs.declared.dimensions.Dimensions.{Dimensions}
@@ -28,7 +28,7 @@ use Rattle.xlsx_cells.specs.Counting.{AreKept}
 use Rattle.xlsx_cells.specs.Head.{is_sheet_data, AreDimensions}
 use Rattle.xlsx_cells.specs.Marks.{Mark}
 use Rattle.xlsx_cells.specs.Position.{NoCell}
-use Rattle.xlsx_cells.specs.Stream.{Stream, IsStreaming, IsGoing, RestsAtEnd, TakesCell, IsRead}
+use Rattle.xlsx_cells.specs.Stream.{Stream, IsStreaming, IsGoing, TakesCell, IsRead}
 use Rattle.xlsx_cells.specs.Stream.{WrittenCell, seen_with_text, IsWritten, LacksUnwanted}
 use Rattle.xlsx_cells.specs.Stream.{LacksUnwantedText}
 use Rattle.xlsx_cells.specs.declared.cell_read.CellRead.{CellRead}
@@ -41,19 +41,6 @@ is_going s streams failed done = record {
   within = streams.within failed done;
   done = done;
   failed = failed;
-}
-
--- a stream that goes on doesn't rest
-pub never_rests : (old new : Stream) → old.is_failed ≡ false → old.is_done ≡ false
-    → RestsAtEnd old new
-never_rests old new failed done = λ rests.
-    let goes : (old.is_failed || old.is_done) ≡ false = rw (failed, done) refl in
-    absurd (let both : true ≡ false = sym rests ∙ goes in cc)
-
-pub failed_streams : (s : Stream) → s.is_failed ≡ true → IsStreaming s
-failed_streams s failed = record {
-  reading = λ going. absurd (let both : true ≡ false = sym failed ∙ going in cc);
-  within = λ going _. absurd (let both : true ≡ false = sym failed ∙ going in cc);
 }
 
 -- the text of the formula that was read last, by the masters behind the cell

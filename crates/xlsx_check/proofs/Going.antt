@@ -10,14 +10,14 @@ use Rattle.cell_data.specs.CellValue.{CellValue}
 use Rattle.formula_shift.specs.Areas.{area_named}
 use Rattle.formula_shift.specs.declared.reference.Reference.{Reference}
 use Rattle.xlsx_check.specs.Denoting.{is_unsupported, joined_result, value_read, rest_read}
-use Rattle.xlsx_check.specs.Denoting.{total_read, references_rest, separator_first}
+use Rattle.xlsx_check.specs.Denoting.{total_read, references_rest}
 use Rattle.xlsx_check.specs.Denoting.{opened_references, references_from}
 use Rattle.xlsx_check.specs.Evaluation.{Denoted, a_number, number_past}
 use Rattle.xlsx_check.specs.Evaluation.{unsupported, of_two, result_of, total_of, with_value}
 use Rattle.xlsx_check.specs.Evaluation.{values_within, of_one}
 use Rattle.xlsx_check.specs.Reading.{Read, read, stops, chain_on, chain_read, sum_read, compared_on}
 use Rattle.xlsx_check.specs.Reading.{comparison_read, closed_by, closes_first, group_read}
-use Rattle.xlsx_check.specs.Reading.{ReferencesRead, references_read, with_first, first_reference}
+use Rattle.xlsx_check.specs.Reading.{ReferencesRead, references_read, with_first}
 use Rattle.xlsx_check.specs.Reading.{read_as, cell_read, factor_read}
 use Rattle.xlsx_check.specs.Tokens.{Token, constant, refers, sum, plus, minus, sign, times, opens}
 use Rattle.xlsx_check.specs.Tokens.{closes, comma, compares}
@@ -469,18 +469,6 @@ module _ (values : List ((ℕ × ℕ) × CellValue)) where
           (flat_map (λ r. values_within values (area_named r)) rs)
           (values_within values (area_named r)))
 
-  -- without a reference there is none
-  references_none : (tokens : List Token) → first_reference tokens ≡ None →
-      references_read tokens ≡ None
-  references_none (refers r ∷ tokens) none = absurd (cc)
-  references_none _ none = refl
-
-  separated_none : (r : Reference) (tokens : List Token) → separator_first tokens ≡ None →
-      references_read (refers r ∷ tokens) ≡ None
-  separated_none r (comma ∷ tokens) none = absurd (cc)
-  separated_none r (closes ∷ tokens) none = absurd (cc)
-  separated_none r _ none = refl
-
   pub total_start : (tokens : List Token) →
       IsTotal (references_read tokens) (a_number (pos 0, pos 0)) tokens
   total_start tokens = record { done = []; comes = refl; is = same (references_read tokens) }
@@ -488,40 +476,6 @@ module _ (values : List ((ℕ × ℕ) × CellValue)) where
       same : (o : Option ReferencesRead) → o ≡ option_map (joined_references []) o
       same None = refl
       same (Some s) = refl
-
-  pub total_no_reference : (whole : Option ReferencesRead) (amount : Denoted)
-      (tokens : List Token) → IsTotal whole amount tokens → first_reference tokens ≡ None →
-      unsupported ≡ total_read values whole
-  total_no_reference whole amount tokens so_far none =
-      sym (ap (total_read values) (so_far.is
-      ∙ ap (option_map (joined_references so_far.done)) (references_none tokens none)))
-
-  pub total_not_separated : (whole : Option ReferencesRead) (amount : Denoted)
-      (tokens after : List Token) (r : Reference) → IsTotal whole amount tokens →
-      tokens ≡ refers r ∷ after → separator_first after ≡ None →
-      unsupported ≡ total_read values whole
-  total_not_separated whole amount tokens after r so_far split none =
-      sym (ap (total_read values) (so_far.is
-      ∙ ap (option_map (joined_references so_far.done))
-      (ap references_read split ∙ separated_none r after none)))
-
-  pub total_closed : (whole : Option ReferencesRead) (amount more : Denoted)
-      (tokens after rest : List Token) (r : Reference) → IsTotal whole amount tokens →
-      more ≡ fold with_value amount (values_within values (area_named r)) →
-      tokens ≡ refers r ∷ after → after ≡ closes ∷ rest →
-      (more ≡ total_read values whole) × (rest ≡ references_rest whole)
-  total_closed whole amount more tokens after rest r so_far more_is split closed =
-      let here : references_read tokens ≡ Some (record { references = r ∷ []; rest = rest }) =
-      ap references_read (split ∙ ap (λ (ts : List Token). refers r ∷ ts) closed) in
-      let whole_is : whole
-      ≡ Some (record { references = so_far.done ++ r ∷ []; rest = rest }) =
-      so_far.is ∙ ap (option_map (joined_references so_far.done)) here in (
-        more_is
-            ∙ (ap (λ (d : Denoted). fold with_value d (values_within values (area_named r)))
-            so_far.comes
-            ∙ (total_more so_far.done r ∙ sym (ap (total_read values) whole_is))),
-        sym (ap references_rest whole_is),
-      )
 
   pub total_step : (whole : Option ReferencesRead) (amount more : Denoted)
       (tokens after rest : List Token) (r : Reference) → IsTotal whole amount tokens →

@@ -1,34 +1,11 @@
 -- The tokens of texts between Words, and of pieces.
-use Rattle.std.proofs.Common.{◌≡◌, ℕ, Bool, true, false, cond, List, [], ◌∷◌, ◌++◌, Some, None}
+use Rattle.std.proofs.Common.{◌≡◌, ℕ, List, ◌∷◌, ◌++◌}
 use Rattle.std.proofs.Common.{Option, sym, ap, ◌∙◌}
 use Rattle.formula_shift.specs.Pieces.{PieceText, word_kind, pieces}
 use Rattle.formula_shift.specs.Relocation.{first_byte, piece_reference}
 use Rattle.formula_shift.proofs.Cutting.{joined_pieces-pieces}
-use Rattle.xlsx_check.specs.Tokens.{Token, symbol, pair_symbol, before_symbols, symbols, is_space}
+use Rattle.xlsx_check.specs.Tokens.{Token}
 use Rattle.xlsx_check.specs.Tokens.{tokens_by, tokens_of, refers_or, word_token}
-
-pub space_first : (b : ℕ) (bs : List ℕ) → is_space b ≡ true → symbols (b ∷ bs) ≡ symbols bs
-space_first b [] space = ap (λ (t : Bool). cond t [] (symbol b ∷ [])) space
-space_first b (c ∷ bs) space =
-    ap (λ (t : Bool). cond t (symbols (c ∷ bs))
-    (before_symbols (pair_symbol b c) b (symbols (c ∷ bs)) (symbols bs))) space
-
-pub symbol_alone : (b : ℕ) → is_space b ≡ false → symbols (b ∷ []) ≡ symbol b ∷ []
-symbol_alone b space = ap (λ (t : Bool). cond t [] (symbol b ∷ [])) space
-
-pub symbol_first : (b c : ℕ) (bs : List ℕ) → is_space b ≡ false → pair_symbol b c ≡ None →
-    symbols (b ∷ c ∷ bs) ≡ symbol b ∷ symbols (c ∷ bs)
-symbol_first b c bs space none =
-    ap (λ (t : Bool). cond t (symbols (c ∷ bs))
-    (before_symbols (pair_symbol b c) b (symbols (c ∷ bs)) (symbols bs))) space
-    ∙ ap (λ (o : Option Token). before_symbols o b (symbols (c ∷ bs)) (symbols bs)) none
-
-pub pair_first : (b c : ℕ) (bs : List ℕ) (token : Token) → is_space b ≡ false →
-    pair_symbol b c ≡ Some token → symbols (b ∷ c ∷ bs) ≡ token ∷ symbols bs
-pair_first b c bs token space is =
-    ap (λ (t : Bool). cond t (symbols (c ∷ bs))
-    (before_symbols (pair_symbol b c) b (symbols (c ∷ bs)) (symbols bs))) space
-    ∙ ap (λ (o : Option Token). before_symbols o b (symbols (c ∷ bs)) (symbols bs)) is
 
 -- the tokens of a piece, and of those behind it
 pub piece_first : (all : List PieceText) (piece : PieceText) (text : List ℕ) →

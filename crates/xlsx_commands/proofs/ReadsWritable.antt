@@ -90,11 +90,6 @@ passes_some passes (Ok (Some a)) = passes a
 passes_some passes (Ok None) = true
 passes_some passes (Err refusal) = true
 
-further_passes : {A : Type 0} (passes : A → Bool) (more : ℕ) (r : Result A Refusal) →
-    passes_if passes r ≡ true → passes_if passes (answer_further more r) ≡ true
-further_passes passes more (Ok a) is = is
-further_passes passes more (Err refusal) is = refl
-
 further_some : {A : Type 0} (passes : A → Bool) (more : ℕ) (r : Result (Option A) Refusal) →
     passes_some passes r ≡ true → passes_some passes (answer_further more r) ≡ true
 further_some passes more (Ok (Some a)) is = is

@@ -1,20 +1,19 @@
 -- Which refusals of the layers below are refusals of comments, and how a refused author or comment
 -- makes its part refused.
 use Rattle.std.proofs.Common.{◌≡◌, ℕ, List, length, Bool, true, false, Some, Option, Result, Err}
-use Rattle.std.proofs.Common.{codes, inl, inr, refl, sym, ◌∙◌, ap, subst}
+use Rattle.std.proofs.Common.{codes, inl, refl, sym, ◌∙◌, ap, subst}
 use Rattle.std.specs.Prelude.{◌||◌, if◌then◌else◌}
 use Rattle.std.specs.Str.{bytes_eq}
 use Rattle.attr_text.specs.Attributes.{local_name_of}
 use Rattle.part_events.specs.Event.{Tag, Event, start}
 use Rattle.part_events.specs.Package.{PackageState}
 use Rattle.part_events.specs.Reading.{Reading}
-use Rattle.part_events.specs.declared.fault.XmlFault.TheVariants.{EndMismatch, Entity}
+use Rattle.part_events.specs.declared.fault.XmlFault.TheVariants.{EndMismatch}
 use Rattle.xlsx_error.specs.declared.error.XlsxError.{XlsxError}
 use Rattle.xlsx_error.specs.declared.error.XlsxError.TheVariants.{OutOfMemory, Io, Xml, XmlEof}
-use Rattle.xlsx_error.specs.declared.error.XlsxError.TheVariants.{XmlAttr}
 use Rattle.xlsx_sections.specs.Answers.{prepended, and_others, all_answers}
 use Rattle.xlsx_sections.specs.ElementLists.{element_said}
-use Rattle.xlsx_sections.specs.Elements.{ElementReadFails, IsInsideRefused, IsTextError}
+use Rattle.xlsx_sections.specs.Elements.{ElementReadFails, IsInsideRefused}
 use Rattle.xlsx_sections.specs.PartSection.{IsStepError, inside_of, section_left}
 use Rattle.xlsx_sections.specs.Refusal.{Refusal, ElementFails, plain, plain_told}
 use Rattle.xlsx_sections.proofs.ElementsSaid.{elements_refused, found_there, StepsFrom}
@@ -23,29 +22,11 @@ use Rattle.xlsx_sections.proofs.ListsRead.{KeepsList, list_behind, list_from}
 use Rattle.xlsx_sections.proofs.Refused.{refused_as, told_weaker}
 use Rattle.xlsx_sections.proofs.SectionsRead.{same_tag}
 use Rattle.xlsx_sections.proofs.StartsSaid.{FailsFrom}
-use Rattle.xlsx_strings.specs.Strings.{IsStringError, end_in_string}
+use Rattle.xlsx_strings.specs.Strings.{end_in_string}
 use Rattle.xlsx_comments.specs.CommentParts.{Entry, is_entry, is_author, entry_said, entries_in}
 use Rattle.xlsx_comments.specs.CommentParts.{end_in_entry, end_in_entries, comment_start}
 use Rattle.xlsx_comments.specs.CommentParts.{comment_said, author_said, with_start}
 use Rattle.xlsx_comments.specs.Comments.{IsCommentStartError, IsCommentsError}
-
-pub string_error : (error : XlsxError) → IsStringError error → IsCommentsError error
-string_error OutOfMemory is = tt
-string_error Io is = tt
-string_error (Xml (EndMismatch at)) is = tt
-string_error (Xml (Entity at)) is = tt
-string_error (XmlAttr fault) is = tt
-string_error (XmlEof element) is = inr (inr is)
-string_error _ is = absurd is
-
-pub author_error : (error : XlsxError) → IsTextError (codes "author") error
-    → IsCommentsError error
-author_error OutOfMemory is = tt
-author_error Io is = tt
-author_error (Xml (EndMismatch at)) is = tt
-author_error (Xml (Entity at)) is = tt
-author_error (XmlEof element) is = inr (inl is)
-author_error _ is = absurd is
 
 pub step_error : (error : XlsxError) → IsStepError (codes "comments") error
     → IsCommentsError error

@@ -1,9 +1,9 @@
 -- The part of a sheet is read up to the end of the sheet's data.
 use Rattle.std.proofs.Common.{◌≡◌, ◌+◌, ℕ, suc, List, length, Option, Some, None}
-use Rattle.std.proofs.Common.{Result, Ok, Err, true, String, Global, ◌∙◌, ap, inl, inr, arith}
+use Rattle.std.proofs.Common.{Result, Ok, Err, true, String, Global, ◌∙◌, ap, arith}
 use Rattle.std.proofs.Common.{codes}
 use Rattle.std.proofs.Common.{string_bytes}
-use Rattle.std.specs.Prelude.{IsSomeAnd, OnOk, option_map, MatchOption, IfSome}
+use Rattle.std.specs.Prelude.{IsSomeAnd, OnOk, MatchOption, IfSome}
 use Rattle.std.specs.Option.{option_map_or}
 use Rattle.std.proofs.lemmas.List.Sums.{sum_by_push}
 use Rattle.cell_data.specs.declared.range.Range.{Range}
@@ -14,17 +14,14 @@ use Rattle.part_events.specs.Package.{Part, PackageState, NeverFalls, CountsUp}
 use Rattle.part_events.specs.Reading.{Reading, ReadsPart, events_of}
 use Rattle.part_events.specs.Walk.{section_end}
 use Rattle.xlsx_error.specs.declared.error.XlsxError.{XlsxError}
-use Rattle.xlsx_error.specs.declared.error.XlsxError.TheVariants.{Io, NotAWorksheet}
+use Rattle.xlsx_error.specs.declared.error.XlsxError.TheVariants.{Io}
 use Rattle.xlsx_sections.specs.Elements.{ReachesEnd}
-use Rattle.xlsx_sections.specs.PartSection.{PartSection, section_in, section_from, last_of}
+use Rattle.xlsx_sections.specs.PartSection.{PartSection, last_of}
 use Rattle.xlsx_sections.specs.SectionEvents.{section_events}
-use Rattle.xlsx_values.specs.Value.{Grounds}
-use Rattle.xlsx_cells.specs.SheetPart.{EntersData, SheetPartCause, DataCause}
+use Rattle.xlsx_cells.specs.SheetPart.{EntersData}
 use Rattle.xlsx_cells.specs.Stream.{Stream}
-use Rattle.xlsx_cells.specs.declared.children.Wants.{Wants}
 use Rattle.xlsx_core.specs.Listing.{IsPutBehind, CountsAtLeast, listed_data}
-use Rattle.xlsx_core.specs.SheetReading.{PlacedCause, TakesExactly, data_events, events_at}
-use Rattle.xlsx_core.specs.SheetReading.{placed_events}
+use Rattle.xlsx_core.specs.SheetReading.{TakesExactly, data_events}
 
 -- a part whose data were entered has so many events up to their end
 data_size : (path : List ℕ) (area : Dimensions) (old : PackageState) (mid : Stream)
@@ -66,31 +63,6 @@ data_taken result (Some path) area old mid new enters reads ends =
     path_taken result path area old mid new enters reads ends
 
 -- ---- a part that is no worksheet
-
-never_told : (wants : Wants) (grounds : Grounds) (found : Option PartSection)
-    (other : String Global)
-    → IsSomeAnd found (λ s. DataCause wants grounds s (NotAWorksheet other)) → ⊥
-never_told wants grounds None other cause = cause
-never_told wants grounds (Some s) other cause = cause
-
-events_lacking : (wants : Wants) (grounds : Grounds) (found : Option (List Event))
-    (other : String Global)
-    → IsSomeAnd found (λ events. SheetPartCause wants grounds events (NotAWorksheet other))
-    → option_map_or (section_events (codes "sheetData")) found 0 ≡ option_map_or length found 0
-events_lacking wants grounds None other cause = absurd cause
-events_lacking wants grounds (Some events) other (inl head) =
-    ap (λ (ahead : Option (List Event)). option_map_or (λ (s : PartSection). suc (last_of s))
-    (option_map (section_from events) ahead) (length events)) head.1
-events_lacking wants grounds (Some events) other (inr other_cause) =
-    absurd (never_told wants grounds (section_in (codes "sheetData") events) other other_cause)
-
--- it has no end of data, so all of its events count
-pub lacking_events : (name : List ℕ) (wants : Wants) (grounds : Grounds)
-    (path : Option (List ℕ)) (parts : List Part) (other : String Global)
-    → PlacedCause name path (SheetPartCause wants grounds) parts (NotAWorksheet other)
-    → data_events path parts ≡ placed_events path parts
-lacking_events name wants grounds path parts other cause =
-    events_lacking wants grounds (events_at path parts) other cause
 
 -- ---- all sheets
 

@@ -8,22 +8,17 @@ use Rattle.std.specs.Cmp.Lexicographic.{nat_list_eq_equiv}
 use Rattle.std.proofs.lemmas.Bool.Decides.{nat_tests}
 use Rattle.std.proofs.Math.ListN.{get_or}
 use Rattle.std.proofs.lemmas.List.{drop_all, drop_more}
-use Rattle.part_events.specs.Package.{Part, PackageState}
+use Rattle.part_events.specs.Package.{Part}
 use Rattle.cell_data.specs.declared.range.Range.{Range}
 use Rattle.cell_data.specs.declared.value.Data.{Data}
 use Rattle.cell_data.specs.declared.value.HeaderRow.{HeaderRow}
-use Rattle.xlsx_error.specs.declared.error.XlsxError.{XlsxError}
-use Rattle.xlsx_error.specs.declared.error.XlsxError.TheVariants.{OutOfMemory, Io, NotAWorksheet}
-use Rattle.xlsx_error.specs.declared.error.XlsxError.TheVariants.{WorksheetNotFound}
-use Rattle.xlsx_sections.specs.Failing.{SoundFails}
 use Rattle.xlsx_values.specs.Value.{Grounds}
-use Rattle.xlsx_cells.specs.declared.children.Wants.{Wants}
 use Rattle.xlsx_workbook.specs.KeptContents.{path_kept}
 use Rattle.xlsx_workbook.specs.declared.paths.KeptPath.{KeptPath}
 use Rattle.xlsx_workbook.specs.declared.sheet.Sheet.{Sheet}
-use Rattle.xlsx_core.specs.Listing.{IsListedAs, IsLeftOut, AreListed, ends_listing, IsPutBehind}
+use Rattle.xlsx_core.specs.Listing.{IsListedAs, IsLeftOut, AreListed, IsPutBehind}
 use Rattle.xlsx_core.specs.Opened.{path_listed}
-use Rattle.xlsx_core.specs.Worksheets.{RangeFails, RangeCause, ReadsValues}
+use Rattle.xlsx_core.specs.Worksheets.{ReadsValues}
 use Rattle.xlsx_core.proofs.RangesRead.{values_never}
 
 -- ---- the first sheet of a name
@@ -72,25 +67,6 @@ first_further name sheet sheets path paths kept found own there is named placed 
     path_listed name sheets paths) placed
 
 -- ---- why a range isn't read
-
-pub listing_ends : (name : List ℕ) (wants : Wants) (grounds : Grounds)
-    (path : Option (List ℕ)) (old new : PackageState) (error : XlsxError)
-    → ends_listing error ≡ true → RangeFails name wants grounds path old new error
-    → SoundFails old new error
-listing_ends name wants grounds path old new Io ends fails = fails
-listing_ends name wants grounds path old new OutOfMemory ends fails = tt
-listing_ends name wants grounds path old new (NotAWorksheet other) ends fails = absurd fails
-listing_ends name wants grounds path old new error ends fails = absurd (cc)
-
-pub range_cause : (name : List ℕ) (wants : Wants) (grounds : Grounds) (path : Option (List ℕ))
-    (old new : PackageState) (error : XlsxError) → ends_listing error ≡ false
-    → RangeFails name wants grounds path old new error → old.is_told ≡ true
-    → RangeCause name wants grounds path old.parts error
-range_cause name wants grounds path old new Io goes fails told = absurd (cc)
-range_cause name wants grounds path old new OutOfMemory goes fails told = absurd (cc)
-range_cause name wants grounds path old new (NotAWorksheet other) goes fails told = absurd fails
-range_cause name wants grounds path old new (WorksheetNotFound asked) goes fails told = fails told
-range_cause name wants grounds path old new error goes fails told = fails told
 
 -- ---- one sheet more
 

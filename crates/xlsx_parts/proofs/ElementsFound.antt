@@ -1,7 +1,7 @@
 -- What the first element of a name says, and when it is refused.
-use Rattle.std.proofs.Common.{◌≡◌, ℕ, List, [], ◌∷◌, Bool, true, Option, Some, None, Result, Ok}
+use Rattle.std.proofs.Common.{◌≡◌, ℕ, List, [], ◌∷◌, Bool, true, Option, Some, None, Result}
 use Rattle.std.proofs.Common.{refl, ap, ◌∙◌, sym, length, suc, false}
-use Rattle.std.specs.Prelude.{option_map, option_and_then, if◌then◌else◌}
+use Rattle.std.specs.Prelude.{option_map, if◌then◌else◌}
 use Rattle.std.specs.Option.{option_map_or}
 use Rattle.part_events.specs.Event.{Tag, Event, start, end, leaf}
 use Rattle.part_events.specs.Nesting.{whole}
@@ -12,15 +12,14 @@ use Rattle.part_events.specs.declared.fault.XmlFault.TheVariants.{EndMismatch}
 use Rattle.xlsx_error.specs.declared.error.XlsxError.{XlsxError}
 use Rattle.xlsx_error.specs.declared.error.XlsxError.TheVariants.{Xml}
 use Rattle.xlsx_sections.specs.Failing.{FailsBy}
-use Rattle.xlsx_sections.specs.PartSection.{PartSection, section_in, section_from, inside_of}
-use Rattle.xlsx_sections.specs.PartSection.{has_end, last_of, always, StartCause, SectionCause}
+use Rattle.xlsx_sections.specs.PartSection.{PartSection, section_in, section_from}
+use Rattle.xlsx_sections.specs.PartSection.{last_of, always, StartCause, SectionCause}
 use Rattle.xlsx_sections.specs.Refusal.{Refusal}
 use Rattle.xlsx_sections.specs.SectionEvents.{section_events}
 use Rattle.xlsx_sections.proofs.Failing.{fails_by_weaker, same_parts}
 use Rattle.xlsx_parts.specs.FirstElement.{StartAhead, PartElement, first_start, element_with}
-use Rattle.xlsx_parts.specs.FirstElement.{element_from, element_in, said_of_element, first_said}
+use Rattle.xlsx_parts.specs.FirstElement.{element_from, element_in}
 use Rattle.xlsx_parts.specs.FirstElement.{IsElementRefused, FirstElementCause}
-use Rattle.xlsx_parts.specs.PartSaid.{ok_or_none}
 use Rattle.xlsx_parts.specs.WholePart.{IsBroken, FindSectionFails}
 
 behind_first : (wanted : Tag → Bool) (events : List Event)
@@ -75,16 +74,6 @@ pub element_events : (name : List ℕ) (events : List Event) (element : PartElem
 element_events name events element is =
     ap (λ (found : Option PartSection). option_map_or (λ s. suc (last_of s)) found (length events))
     (section_of_element name events element is)
-
--- what it says
-pub element_says : {A : Type 0} {tag : Tag} {s : PartSection} {own : A} (name : List ℕ)
-    (events : List Event) (meaning : Tag → List Event → Result A Refusal)
-    → element_in name events ≡ Some (element_with tag s) → has_end s ≡ true
-    → meaning tag (inside_of s) ≡ Ok own → first_said name meaning events ≡ Some own
-element_says {tag = tag} {s = s} name events meaning there closed is =
-    ap (option_and_then (said_of_element meaning)) there
-    ∙ ap (λ (b : Bool). if b then ok_or_none (meaning tag (inside_of s)) else None) closed
-    ∙ ap ok_or_none is
 
 broken_start : (ended : List ℕ) (events : List Event) (error : XlsxError)
     → IsBroken events error → StartCause ended events error

@@ -5,20 +5,19 @@ use Rattle.std.proofs.Common.{length, ◌∙◌, eq-eqb}
 use Rattle.std.specs.Prelude.{option_map, option_and_then, if◌then◌else◌}
 use Rattle.part_events.specs.Event.{Event}
 use Rattle.part_events.specs.Nesting.{whole}
-use Rattle.part_events.specs.Package.{PackageState, SameParts, part_of}
+use Rattle.part_events.specs.Package.{PackageState, SameParts}
 use Rattle.part_events.specs.Reading.{Reading, events_of}
 use Rattle.part_events.specs.Section.{behind_start, is_named, content}
 use Rattle.xlsx_error.specs.declared.error.XlsxError.{XlsxError}
-use Rattle.xlsx_error.specs.declared.error.XlsxError.TheVariants.{OutOfMemory, Io}
-use Rattle.xlsx_sections.specs.Failing.{FailsBy, SoundFails}
+use Rattle.xlsx_sections.specs.Failing.{FailsBy}
 use Rattle.xlsx_sections.specs.PartSection.{PartSection, Ending, Refusing, SectionCause}
 use Rattle.xlsx_sections.specs.PartSection.{section_left, section_from, section_in}
 use Rattle.xlsx_sections.specs.PartSection.{if_closed, inside_of, has_end}
 use Rattle.xlsx_sections.specs.Refusal.{Refusal}
-use Rattle.xlsx_sections.proofs.Failing.{fails_by_weaker, same_parts}
+use Rattle.xlsx_sections.proofs.Failing.{fails_by_weaker}
 use Rattle.xlsx_parts.specs.PartSaid.{ok_or_none, section_said, section_said_or, is_whole}
 use Rattle.xlsx_parts.specs.PartSaid.{lacking_or, whole_said}
-use Rattle.xlsx_parts.specs.WholePart.{OpensPart, IsBroken, LackingCause, IfThere, FindSectionFails}
+use Rattle.xlsx_parts.specs.WholePart.{LackingCause}
 
 closed_there : (events : List Event) (found : Option (List Event)) (s : PartSection)
     → option_map (section_from events) found ≡ Some s → has_end s ≡ true
@@ -54,15 +53,6 @@ said_or_there lacking name events meaning there closed is =
 pub is_whole_part : (events : List Event) → whole events ≡ events → is_whole events ≡ true
 is_whole_part events same = eq-eqb (length (whole events)) (length events) (ap length same)
 
--- and that lacks it
-pub said_or_lacking : {A : Type 0} (lacking : A) (name : List ℕ) (events : List Event)
-    (meaning : List Event → Result A Refusal) → section_in name events ≡ None
-    → whole events ≡ events → section_said_or lacking name meaning events ≡ Some lacking
-said_or_lacking lacking name events meaning none same =
-    ap (λ (found : Option PartSection). lacking_or lacking events found
-    (section_said name meaning events)) none
-    ∙ ap (λ (b : Bool). if b then Some lacking else None) (is_whole_part events same)
-
 -- what a whole part says
 pub whole_there : {A : Type 0} {events : List Event} {own : A}
     (meaning : List Event → Result A Refusal) → whole events ≡ events
@@ -84,29 +74,3 @@ section_lacking_refused name old mid ending refused new error same found fails =
     fails_by_weaker (LackingCause name ending refused (events_of old))
     (SectionCause ending refused (section_left (length mid.names) mid)) new error same
     (λ told cause. rw (found told) cause) fails
-
--- its start isn't found, since the nesting breaks
-pub find_lacking_refused : (name : List ℕ) (ending : Ending) (refused : Refusing)
-    (old new : Reading) (error : XlsxError) → FindSectionFails name old new error
-    → FailsBy (LackingCause name ending refused (events_of old)) old.source new.source error
-find_lacking_refused name ending refused old new error fails =
-    fails_by_weaker (LackingCause name ending refused (events_of old))
-    (λ own. (section_in name (events_of old) ≡ None) × IsBroken (events_of old) own) new.source
-    error
-    (same_parts old.source) (λ told both. rw both.0 both.1) fails
-
--- a part that was opened is refused, and so is the one at its path
-pub there_refused : {path : List ℕ} {old : PackageState} {mid : Reading}
-    (cause : List Event → XlsxError → Type 0) (new : PackageState) (error : XlsxError)
-    → OpensPart path old mid → FailsBy (cause (events_of mid)) mid.source new error
-    → FailsBy (IfThere cause (part_of old.parts path)) old new error
-there_refused {path = path} {old = old} {mid = mid} cause new error opens fails =
-    fails_by_weaker (IfThere cause (part_of old.parts path)) (cause (events_of mid)) new error
-    opens.parts (λ told is. rw (opens.part told) is) fails
-
--- a refusal that needs no cause in the parts
-pub sound_refused : (cause : XlsxError → Type 0) (old new : PackageState) (error : XlsxError)
-    → SoundFails old new error → FailsBy cause old new error
-sound_refused cause old new Io fails = fails
-sound_refused cause old new OutOfMemory fails = tt
-sound_refused cause old new error fails = absurd fails

@@ -40,11 +40,6 @@ open_at_end : (name first : List ℕ) (names : List (List ℕ)) (past : List Eve
     → AreOpen (first ∷ names) past → AreOpen names (end name ∷ past)
 open_at_end name first names past are outside = are (suc outside)
 
-open_at_leaf : (event : Event) (names : List (List ℕ)) (past : List Event)
-    → AreOpen names past → ((outside : ℕ) → open_name outside (event ∷ past)
-    ≡ open_name outside past) → AreOpen names (event ∷ past)
-open_at_leaf event names past are same outside = same outside ∙ are outside
-
 -- no end of a part lies outside its elements, up to the first that breaks the nesting
 pub record IsInsidePart (within : ℕ) (events : List Event) : Type 0 where
   pub content : content within events ≡ events

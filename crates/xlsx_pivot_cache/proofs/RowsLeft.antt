@@ -1,26 +1,20 @@
 -- What a cursor has left goes on with its steps.
-use Rattle.std.proofs.Common.{◌≡◌, ◌∙◌, ℕ, List, [], ◌∷◌, length, Bool, true, false, Option, Some}
-use Rattle.std.proofs.Common.{None, Result, Ok, Err, refl, sym, ap, subst, arith}
+use Rattle.std.proofs.Common.{◌≡◌, List, [], ◌∷◌, length, Bool, true, false, Option, Some}
+use Rattle.std.proofs.Common.{None, Result, refl, ap, subst, arith}
 use Rattle.std.specs.Prelude.{option_map, option_and_then, if◌then◌else◌}
 use Rattle.part_events.specs.Event.{Tag, Event, start, end, leaf, IsStartAnd}
 use Rattle.part_events.specs.Nesting.{whole}
 use Rattle.part_events.specs.Reading.{Reading, IsReading, events_of}
-use Rattle.part_events.specs.Section.{Element, content, is_closed, behind_start, is_named}
-use Rattle.part_events.specs.Walk.{section_ahead, is_closed_ahead}
-use Rattle.cell_data.specs.CellValue.{CellValue}
-use Rattle.part_events.specs.declared.fault.XmlFault.TheVariants.{EndMismatch, Unclosed}
+use Rattle.part_events.specs.Section.{content, is_closed, behind_start, is_named}
+use Rattle.part_events.specs.declared.fault.XmlFault.TheVariants.{EndMismatch}
 use Rattle.xlsx_error.specs.declared.error.XlsxError.{XlsxError}
-use Rattle.xlsx_error.specs.declared.error.XlsxError.TheVariants.{Xml, XmlEof}
-use Rattle.xlsx_sections.specs.Answers.{with_first, and_others, all_answers}
-use Rattle.xlsx_sections.specs.ElementLists.{element_said}
-use Rattle.xlsx_sections.specs.Elements.{IsInsideRefused}
+use Rattle.xlsx_error.specs.declared.error.XlsxError.TheVariants.{Xml}
 use Rattle.xlsx_sections.specs.Failing.{FailsBy}
 use Rattle.xlsx_sections.specs.PartSection.{PartSection, section_in, section_from, section_left}
-use Rattle.xlsx_sections.specs.PartSection.{inside_of, has_end, last_of, if_closed, always}
-use Rattle.xlsx_sections.specs.PartSection.{SectionCause, StartCause}
+use Rattle.xlsx_sections.specs.PartSection.{inside_of, has_end, if_closed}
+use Rattle.xlsx_sections.specs.PartSection.{StartCause}
 use Rattle.xlsx_sections.specs.Refusal.{Refusal}
 use Rattle.xlsx_sections.proofs.Failing.{fails_by_weaker, same_parts}
-use Rattle.xlsx_sections.proofs.Refused.{refused_weaker}
 use Rattle.xlsx_sections.proofs.SectionsRead.{start_there}
 use Rattle.xlsx_parts.specs.PartSaid.{ok_or_none, section_said}
 use Rattle.xlsx_parts.specs.FirstElement.{StartAhead, first_start, element_in, element_from}
@@ -28,13 +22,12 @@ use Rattle.xlsx_parts.specs.FirstElement.{element_with}
 use Rattle.xlsx_parts.specs.WholePart.{FindSectionFails, IsBroken}
 use Rattle.xlsx_parts.proofs.ElementsFound.{section_of_element}
 use Rattle.xlsx_pivot_cache.specs.CacheFields.{FieldSaid}
-use Rattle.xlsx_pivot_cache.specs.CacheRecords.{records_name, row_said, rows_in, names_first}
+use Rattle.xlsx_pivot_cache.specs.CacheRecords.{records_name, rows_in, names_first}
 use Rattle.xlsx_pivot_cache.specs.CacheRecords.{RowsCause}
-use Rattle.xlsx_pivot_cache.specs.PivotRows.{IsLeftOf, IsInRecords, TakesRecord, EndsRecords}
-use Rattle.xlsx_pivot_cache.specs.PivotRows.{IsNextRefused, NextRecordCause, RowCauseAt}
+use Rattle.xlsx_pivot_cache.specs.PivotRows.{IsInRecords}
+use Rattle.xlsx_pivot_cache.specs.PivotRows.{RowCauseAt}
 use Rattle.xlsx_pivot_cache.specs.PivotRows.{records_left}
 use Rattle.xlsx_pivot_cache.specs.declared.pivot_cursor.RecordsPlace.TheVariants.{Before}
-use Rattle.xlsx_pivot_cache.proofs.RowsRead.{rows_taken, rows_refused}
 
 -- what a section says, where its end is there
 abbrev said_by_section : {A : Type 0} → (List Event → Result A Refusal) → PartSection → Option A
@@ -89,97 +82,6 @@ in_records fields new is there = record {
     },
   );
 }
-
-first_of_all : (row : List CellValue) (closed : Bool)
-    (others : Result (List (List CellValue)) Refusal)
-    → (if closed then ok_or_none (and_others (Ok row) others) else None)
-    ≡ option_map (λ (rows : List (List CellValue)). row ∷ rows)
-    (if closed then ok_or_none others else None)
-first_of_all row true (Ok others) = refl
-first_of_all row true (Err refusal) = refl
-first_of_all row false others = refl
-
--- a record was read
-pub rows_further : {base : ℕ} {row : List CellValue} {old new : Reading}
-    (fields : List FieldSaid) → TakesRecord fields base row old new → old.source.is_told ≡ true
-    → records_left fields base old
-    ≡ option_map (λ (rows : List (List CellValue)). row ∷ rows) (records_left fields base new)
-rows_further {base = base} {row = row} {old = old} {new = new} fields takes told =
-    ap (λ (closed : Bool). if closed then ok_or_none (rows_in fields (section_ahead base old))
-    else None) (sym (takes.keeps.section.closed told))
-    ∙ ap (λ (all : Result (List (List CellValue)) Refusal). if is_closed_ahead base new
-    then ok_or_none all else None) (rows_taken fields (takes.first told))
-    ∙ first_of_all row (is_closed_ahead base new) (rows_in fields (section_ahead base new))
-
--- and the reader still stands in the records
-pub still_in_records : {base : ℕ} {row : List CellValue} {old new : Reading}
-    (fields : List FieldSaid) → TakesRecord fields base row old new → IsInRecords fields base old
-    → IsInRecords fields base new
-still_in_records {base = base} {row = row} {old = old} {new = new} fields takes is = record {
-  reading = takes.keeps.section.reads.stays.reading;
-  within = takes.keeps.section.within;
-  left = λ told_new.
-      let told = sym takes.keeps.section.reads.moves.parts.is_told ∙ told_new in
-      let left = is.left told in (
-        left.0,
-        record {
-          there =
-              subst (λ (events : List Event). section_in records_name events ≡ Some left.0)
-              (sym (takes.keeps.section.reads.stays.part told)) left.1.there;
-          closed = left.1.closed ∙ sym (takes.keeps.section.closed told);
-          last = left.1.last ∙ sym (takes.keeps.section.last told);
-          refused = λ refusal refuses. left.1.refused refusal
-              (rows_taken fields (takes.first told) ∙ ap (with_first row) refuses);
-        },
-      );
-}
-
--- no record is left
-pub rows_ended : {base : ℕ} {old new : Reading} (fields : List FieldSaid)
-    → EndsRecords base old new → records_left fields base old ≡ Some []
-rows_ended {base = base} {old = old} fields ends =
-    ap (λ (closed : Bool). if closed then ok_or_none (rows_in fields (section_ahead base old))
-    else None) ends.reaches.closed
-    ∙ ap (λ (all : List Element). ok_or_none (all_answers (element_said (row_said fields)) all))
-    ends.none
-
-events_there : (events : List Event) (found : Option (List Event)) (s : PartSection)
-    → option_map (section_from events) found ≡ Some s → s.events ≡ events
-events_there events None s is = absurd (cc)
-events_there events (Some there) s is =
-    let same : section_from events there ≡ s = cc in
-    sym (ap (λ (own : PartSection). own.events) same)
-
--- why what is left of the records can't be taken is why they can't
-left_cause : {base : ℕ} {r : Reading} {s : PartSection} (fields : List FieldSaid)
-    (error : XlsxError) → s.events ≡ events_of r → IsLeftOf fields base r s
-    → SectionCause (always records_name) (IsNextRefused fields) (section_left base r) error
-    → SectionCause (always records_name) (IsInsideRefused (rows_in fields)) s error
-left_cause fields (Xml (EndMismatch at)) same left cause =
-    rw same (cause.0, left.closed ∙ cause.1)
-left_cause fields (Xml (Unclosed at)) same left cause =
-    let never : Some records_name ≡ None = cause.1 in absurd (cc)
-left_cause fields (XmlEof element) same left cause =
-    rw same ((cause.0.0, left.closed ∙ cause.0.1), cause.1)
-left_cause {base = base} {r = r} {s = s} fields error same left cause =
-    refused_weaker (last_of (section_left base r)) (last_of s)
-    (IsInsideRefused (rows_in fields) s) (IsNextRefused fields (section_left base r)) error
-    (λ refusal is. left.refused refusal (rows_refused fields (section_left base r) refusal is))
-    (sym left.last) cause
-
--- the next record is refused, and so is the part
-pub record_fails : {base : ℕ} {old : Reading} (fields : List FieldSaid) (new : Reading)
-    (error : XlsxError) → IsInRecords fields base old
-    → FailsBy (NextRecordCause fields base old) old.source new.source error
-    → FailsBy (RowsCause fields (events_of old)) old.source new.source error
-record_fails {base = base} {old = old} fields new error is fails =
-    fails_by_weaker (RowsCause fields (events_of old))
-    (NextRecordCause fields base old) new.source error (same_parts old.source)
-    (λ told cause.
-    let left = is.left told in
-    let same = events_there (events_of old)
-    (behind_start (is_named (records_name ∷ [])) (whole (events_of old))) left.0 left.1.there in
-    rw left.1.there (left_cause fields error same left.1 cause.0)) fails
 
 broken_start : (events : List Event) (error : XlsxError) → IsBroken events error
     → StartCause records_name events error

@@ -1,4 +1,3 @@
 pub mod PivotsRead
 pub mod PivotsTaken
 pub mod SoundPivots
-pub mod TargetsKept

@@ -1,7 +1,6 @@
 -- Which refusals of the layers below are refusals of pivot tables.
-use Rattle.std.proofs.Common.{◌≡◌, ◌⊎◌, ℕ, List, Option, Some, Result, Err, true, codes, inl}
-use Rattle.std.proofs.Common.{refl, subst, sym, ap}
-use Rattle.std.specs.Prelude.{IsSomeAnd}
+use Rattle.std.proofs.Common.{◌≡◌, ◌⊎◌, ℕ, List, Option, Result, Err, codes, inl}
+use Rattle.std.proofs.Common.{ap}
 use Rattle.part_events.specs.Package.{PackageState}
 use Rattle.part_events.specs.declared.fault.XmlFault.TheVariants.{EndMismatch, Entity}
 use Rattle.xlsx_error.specs.declared.error.XlsxError.{XlsxError}
@@ -10,13 +9,13 @@ use Rattle.xlsx_error.specs.declared.error.XlsxError.TheVariants.{XmlAttr, Unexp
 use Rattle.xlsx_sections.specs.Failing.{FailsBy}
 use Rattle.xlsx_sections.specs.Names.{IsNameError}
 use Rattle.xlsx_sections.specs.PartSection.{IsStepError}
-use Rattle.xlsx_sections.specs.Refusal.{Refusal, PlainRefusal, ElementFails, plain, plain_told}
+use Rattle.xlsx_sections.specs.Refusal.{Refusal, ElementFails}
 use Rattle.xlsx_sections.proofs.Failing.{fails_by_weaker, same_parts}
 use Rattle.xlsx_sections.proofs.Refused.{refused_at_weaker}
 use Rattle.xlsx_parts.specs.WholePart.{IsBreakError}
 use Rattle.xlsx_relationships.specs.RelationshipErrors.{IsRelatedError}
 use Rattle.xlsx_pivots.specs.PivotErrors.{IsSingleError, IsPivotsError}
-use Rattle.xlsx_pivots.specs.Singles.{many, kept_with, single_kept_by}
+use Rattle.xlsx_pivots.specs.Singles.{single_kept_by}
 use Rattle.xlsx_pivots.specs.Targets.{counted_target}
 use Rattle.xlsx_pivots.specs.declared.single.Single.{Single}
 
@@ -53,15 +52,6 @@ pub single_error : (error : XlsxError) → IsSingleError error → IsPivotsError
 single_error (Unexpected text) is = is
 single_error _ is = absurd is
 
--- a second one is refused
-pub many_fails : (single : Single) (at behind : ℕ) (first own : List ℕ) (error : XlsxError)
-    → IsSingleError error → plain_told error ≡ Some (many single)
-    → ElementFails (kept_with single (Some first) (Some own)) at behind error
-many_fails single at behind first own (Unexpected text) is told =
-    subst (λ (found : Option PlainRefusal). IsSomeAnd found (λ (why : PlainRefusal).
-    kept_with single (Some first) (Some own) ≡ Err (plain why))) (sym told) refl
-many_fails single at behind first own _ is told = absurd is
-
 -- what gives one more is refused, and so is what is kept of it
 pub kept_fails : (single : Single) (at behind : ℕ) (kept : Option (List ℕ))
     (answer : Result (Option (List ℕ)) Refusal) (error : XlsxError)
@@ -82,12 +72,6 @@ target_fails single at behind kept target error fails =
     (refused_at_weaker at behind (λ (refusal : Refusal). counted_target kept target ≡ Err refusal)
     (λ (refusal : Refusal). target ≡ Err refusal) error
     (λ refusal is. ap (counted_target kept) is) fails)
-
--- such an error has its cause in the parts
-pub single_refused : (cause : XlsxError → Type 0) (old new : PackageState) (error : XlsxError)
-    → IsSingleError error → (old.is_told ≡ true → cause error) → FailsBy cause old new error
-single_refused cause old new (Unexpected text) is why = why
-single_refused cause old new _ is why = absurd is
 
 -- a call is refused for one of two causes
 pub first_refused : (first second : XlsxError → Type 0) (old new : PackageState)

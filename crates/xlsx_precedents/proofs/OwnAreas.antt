@@ -5,7 +5,6 @@ use Rattle.std.proofs.Common.{refl, sym, ap, ◌∙◌}
 use Rattle.std.specs.Prelude.{ℤ}
 use Rattle.std.specs.List.{slice_get}
 use Rattle.std.proofs.lemmas.List.{map-append, append_assoc}
-use Rattle.std.proofs.lemmas.Option.{slice_get-get_or}
 use Rattle.cell_refs.specs.declared.dimensions.Dimensions.{Dimensions}
 use Rattle.formula_shift.specs.Areas.{area_named, own_references, last_byte}
 use Rattle.formula_shift.specs.Pieces.{PieceText, pieces}
@@ -24,12 +23,6 @@ areas-moved text offset = ap (map area_named) (own_references-moved text offset)
 last_byte-at : (b : ℕ) (bs : List ℕ) → last_byte (Some b) bs ≡ slice_get (b ∷ bs) (length bs)
 last_byte-at b [] = refl
 last_byte-at b (c ∷ cs) = last_byte-at c cs
-
-pub last_byte-none : (before : Option ℕ) (bs : List ℕ) → slice_get bs (length bs - 1) ≡ None →
-    last_byte before bs ≡ before
-last_byte-none before [] none = refl
-last_byte-none before (b ∷ bs) none =
-    let past = slice_get-get_or (b ∷ bs) (length (b ∷ bs) - 1) b (omega arith) in cc
 
 pub last_byte-some : (before : Option ℕ) (bs : List ℕ) (b : ℕ) →
     slice_get bs (length bs - 1) ≡ Some b → last_byte before bs ≡ Some b

@@ -5,7 +5,7 @@ use Rattle.xlsx_sections.specs.Changes.{all_changes, changed_by}
 use Rattle.xlsx_sections.specs.Refusal.{Refusal}
 use Rattle.xlsx_sections.specs.Answers.{or_earlier, or_later, with_first, and_others}
 use Rattle.xlsx_sections.specs.Answers.{and_others_if}
-use Rattle.xlsx_sections.specs.Answers.{all_answers, prepended, last_answer, some_answers}
+use Rattle.xlsx_sections.specs.Answers.{prepended, last_answer, some_answers}
 
 -- what the last of some gives, with one before them
 pub or_earlier-or_later : {A : Type 0} (kept next : Option A)
@@ -133,22 +133,6 @@ some_and_more answer (x ∷ front) more passed is =
     some_first passed (answer x) (some_answers answer front)
     (some_answers answer (front ++ more)) (some_answers answer more) is
     (λ rest own. some_and_more answer front more rest own)
-
--- with one of those that are left, what all give is the same
-pub all_further : {X A : Type 0} {x : X} {xs rest : List X} {all : Result (List A) Refusal}
-    (answer : X → Result A Refusal) (kept : List A) (own : A) → xs ≡ x ∷ rest → answer x ≡ Ok own
-    → prepended kept (all_answers answer xs) ≡ all
-    → prepended (kept ++ own ∷ []) (all_answers answer rest) ≡ all
-all_further {x = x} {rest = rest} answer kept own same is holds =
-    prepended-and_others kept own (answer x) (all_answers answer rest) is ∙ (rw same at holds)
-
--- one of those that are left is refused
-pub all_refused : {X A : Type 0} {x : X} {xs rest : List X} {all : Result (List A) Refusal}
-    {refusal : Refusal} (answer : X → Result A Refusal) (kept : List A) → xs ≡ x ∷ rest
-    → answer x ≡ Err refusal → prepended kept (all_answers answer xs) ≡ all → all ≡ Err refusal
-all_refused {xs = xs} {refusal = refusal} answer kept same refuses holds =
-    let here : prepended kept (all_answers answer xs) ≡ Err refusal = rw (same, refuses) refl in
-    sym holds ∙ here
 
 -- what stands behind what was kept is refused
 pub behind_refused : {A : Type 0} {refusal : Refusal} (kept : List A)
