@@ -58,8 +58,8 @@ leads_on {X = X} {whole = whole} {before = before} {now = now} {next = next} {fi
       faults = step.uses.faults ∙ leads.faults;
       forward = omega (arith, leads.forward, step.uses.forward);
       most = λ told.
-          sum_further (λ (own : X). (ask own).most first.parts) x xs first.taken here.taken new.taken
-          (whole.most first.parts) (leads.most told)
+          sum_further (λ (own : X). (ask own).most first.parts) x xs first.taken here.taken
+          new.taken (whole.most first.parts) (leads.most told)
           (rw leads.same.parts at (step.uses.taken (leads.same.is_told ∙ told)));
       exact = λ told.
           counts_further (λ (own : X). (ask own).exact first.parts) x xs first.taken here.taken

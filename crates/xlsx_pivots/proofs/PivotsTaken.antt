@@ -1,9 +1,11 @@
 -- How many events are taken where a pivot table is read: of its part, of its relationships and of
 -- those beside its definitions, in turn.
-use Rattle.std.proofs.Common.{◌≡◌, ◌+◌, ◌∙◌, ℕ, List, true, Option, Some, Result, Ok, Err, arith, ap}
+use Rattle.std.proofs.Common.{◌≡◌, ◌+◌, ◌∙◌, ℕ, List, true, Option, Some}
+use Rattle.std.proofs.Common.{Result, Ok, Err, arith, ap}
 use Rattle.std.proofs.Common.{sym, subst, codes}
 use Rattle.std.specs.Option.{option_map_or}
-use Rattle.part_events.specs.Package.{Part, PackageState, Uses, UsesPackage, LeavesPackage, CountsUp}
+use Rattle.part_events.specs.Package.{Part, PackageState, Uses, UsesPackage, LeavesPackage}
+use Rattle.part_events.specs.Package.{CountsUp}
 use Rattle.part_events.specs.Package.{event_count}
 use Rattle.part_events.proofs.Uses.{uses_then, leaves_then}
 use Rattle.xlsx_error.specs.declared.error.XlsxError.{XlsxError}

@@ -38,8 +38,8 @@ numbered sheet parts None = refl
 numbered sheet parts (Some paths) = all_said_mapped (on_sheet sheet) (table_at parts) paths
 
 -- what is kept of each part is what is kept of the sheet
-pub tables_by_number : {R : Type 0} (sheet : ℕ) (path : List ℕ) {before after : List (ℕ × TableSaid)}
-    (result : Result R XlsxError) {old new : PackageState}
+pub tables_by_number : {R : Type 0} (sheet : ℕ) (path : List ℕ)
+    {before after : List (ℕ × TableSaid)} (result : Result R XlsxError) {old new : PackageState}
     → Appends (each_related IsTablesError (λ own. map_each (on_sheet sheet) (table_ask own))
     table_type path) before after result old new
     → Appends (map_each (on_sheet sheet) (tables_ask path)) before after result old new

@@ -59,7 +59,8 @@ returns-in_err-keep g c =
     let rest : c.sheets.rest.now ≡ path ∷ more = search rules in
     let there : c.as_str.result.now ≡ path_kept path =
     c.as_str.ensures.value ∙ c.in_ok-path.ensures in
-    let named = named_there sheets c.sheets.number sheet others (c.sheets.invariant.behind ∙ left) in
+    let named =
+    named_there sheets c.sheets.number sheet others (c.sheets.invariant.behind ∙ left) in
     let handed = err_from_is_err_and c.from_residual-in_err-keep.result
     c.from_residual-in_err-keep.ensures.1 in
     rw (handed.1, handed.2)

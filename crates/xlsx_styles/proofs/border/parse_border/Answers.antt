@@ -23,7 +23,8 @@ returns-in_err-_at g c =
       borders = refused_inside c.from_residual.result c.from_residual.ensures.1
           (leaves_further c.sides.invariant.keeps.section.reads c.in_err-_at.ensures.reads)
           (own_step_refused old end_in_border refused c.next_element_in.new.xml.source _
-          c.depth-base.ensures (c.in_err-_at.ensures.refused old end_in_side c.sides.invariant.keeps))
+          c.depth-base.ensures
+          (c.in_err-_at.ensures.refused old end_in_side c.sides.invariant.keeps))
           (border_step _ c.in_err-_at.ensures.kind);
     }
 
@@ -56,7 +57,8 @@ returns-in_err-border g c =
     (rw c.in-Some.is at (c.in_ok-_at.ensures.step old c.sides.invariant.keeps)) in
     let error = c.in_err-border.field-0.0 in
     record {
-      borders = refused_inside c.from_residual-in_err-border.result c.from_residual-in_err-border.ensures.1
+      borders = refused_inside c.from_residual-in_err-border.result
+          c.from_residual-in_err-border.ensures.1
           (leaves_further c.sides.invariant.keeps.section.reads
           (leaves_further c.in_ok-_at.ensures.reads c.in_err-border.ensures.reads))
           (own_refused old end_in_border (IsInsideRefused (border_of theme down up)) last error

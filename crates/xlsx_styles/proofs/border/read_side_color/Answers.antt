@@ -21,8 +21,8 @@ returns g c =
       reads = search rules;
       says = λ told. MatchResult-weaker c.keep_last.result (c.keep_last.ensures.kept told)
           (λ item is. sym (ap (λ (n : ℕ). meaning (content n (ahead old))) none) ∙ is
-          ∙ ap (λ (own : Option Color). let answer : Result (Option Color) Refusal = Ok own in answer)
-          (own_item item))
+          ∙ ap (λ (own : Option Color).
+          let answer : Result (Option Color) Refusal = Ok own in answer) (own_item item))
           (λ _ _. tt);
       err = MatchResult-weaker c.keep_last.result c.keep_last.ensures.err (λ _ _. tt)
           (λ error fails. own_refused old (always (codes "border side")) (IsInsideRefused meaning)

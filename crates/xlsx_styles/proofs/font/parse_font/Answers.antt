@@ -8,7 +8,8 @@ returns-in_err-keep_in_element g c =
     let fresh : c.default.result ≡ default_font = search rules in
     record {
       font = refused_inside c.from_residual.result c.from_residual.ensures.1
-          c.in_err-keep_in_element.ensures.reads (rw fresh at (c.in_err-keep_in_element.ensures.err tt))
+          c.in_err-keep_in_element.ensures.reads
+          (rw fresh at (c.in_err-keep_in_element.ensures.err tt))
           c.in_err-keep_in_element.ensures.kind;
     }
 
