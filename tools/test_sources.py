@@ -1,5 +1,6 @@
 """Tries the sources for what no clause can say: where want of memory is told of, that each public
-type with `==` or copies has its law, and that functions and files are short enough to be read."""
+type with `==` or copies has its law, that functions and files are short enough to be read, and that
+each example in a doc comment is code."""
 
 import pathlib
 import re
@@ -45,6 +46,9 @@ EXPORTED = re.compile(r"^pub use (?:crate::)?(?:\w+::)*(\{[^}]*\}|\w+);", re.M)
 TYPE = re.compile(r"^((?:#\[.*\]\n)*)pub (?:struct|enum) (\w+)", re.M)
 WRITTEN = re.compile(r"^impl\b.*?\b(PartialEq|Clone) for (\w+)", re.M)
 LAW = re.compile(r"⟦<(\w+)(?:<[^⟧]*>)? as (PartialEq|Clone)>⟧")
+# What a line of a doc comment begins with, and the line before and behind an example.
+DOCS = ("///", "//!")
+FENCE = "/// ```"
 
 
 def text(path):
@@ -113,6 +117,35 @@ def exported(root):
     }
 
 
+def bare_lines(path):
+    return [line.strip() for line in text(path).splitlines()]
+
+
+def examples(lines):
+    """The examples in doc comments, each as its lines. One that nothing ends has all lines left."""
+    example = None
+    for line in lines:
+        if example is None:
+            example = [] if line == FENCE else None
+        elif line == FENCE:
+            yield example
+            example = None
+        else:
+            example.append(line[len("///") :].strip())
+    if example is not None:
+        yield example
+
+
+def coded(lines):
+    """The lines as one text, in which those of doc comments can't be part of an example."""
+    return "".join(f"\n{'///' if line.startswith(DOCS) else line}" for line in [*lines, ""])
+
+
+def stands_in(example, code):
+    """Whether all lines of an example stand in a code, one directly behind the other."""
+    return "".join(f"\n{line}" for line in [*example, ""]) in code
+
+
 class Sources(unittest.TestCase):
     def test_want_of_memory_is_told_of_in_these_places_alone(self):
         found = set()
@@ -159,6 +192,24 @@ class Sources(unittest.TestCase):
                 wanted |= {(name, trait) for trait, name in WRITTEN.findall(code)}
                 absent = {law for law in wanted if law[0] in public} - laws
                 self.assertEqual(absent, set(), path.name)
+
+    def test_every_example_stands_in_code(self):
+        sources = {path: bare_lines(path) for path in sorted(TOP.glob("crates/*/src/*.rt"))}
+        codes = [coded(lines) for lines in sources.values()]
+        found = [(path.name, one) for path, lines in sources.items() for one in examples(lines)]
+        self.assertGreaterEqual(len(found), 20)
+        for name, example in found:
+            stands = any(stands_in(example, code) for code in codes)
+            self.assertTrue(example and stands, "\n".join([f"{name}: no code is", *example]))
+
+    def test_an_example_that_is_no_code_is_found(self):
+        code = ["fn one() {", "let a = 1;", "/// a doc", "let b = 2;", "", "a + b", "}"]
+        doc = ["/// Adds.", FENCE, "/// let b = 2;", "///", "///     a + b", FENCE, "fn two() {}"]
+        self.assertEqual(list(examples(doc)), [["let b = 2;", "", "a + b"]])
+        self.assertEqual(list(examples(doc[:4])), [["let b = 2;", ""]])
+        self.assertTrue(stands_in(["let b = 2;", "", "a + b"], coded(code)))
+        for other in (["let b = 2;", "a + b"], ["let a = 1;", "let b = 2;"], ["a +"], ["a doc"]):
+            self.assertFalse(stands_in(other, coded(code + doc)), other)
 
 
 if __name__ == "__main__":

@@ -55,6 +55,19 @@ impl<T> Range<T> {
 
     /// The range of these cells: the last of them at each position, in the least area that has them
     /// all. Without a cell the range is empty.
+    ///
+    /// # Examples
+    ///
+    /// Two cells, as far apart as a worksheet has them:
+    ///
+    /// ```
+    /// let ends = [Cell::new((0, 0), 1), Cell::new((1_048_575, 16_383), 2)];
+    /// let range: Range<u8> = Range::from_sparse(alloc, Vec::from_array(alloc, ends)?, 0)?;
+    /// assert!(rt; range.used_count() == 2);
+    /// assert!(rt; range.used_cells().count() == 2);
+    /// assert!(rt; range.get_size() == (1_048_576, 16_384));
+    /// assert!(rt; range.get((1_048_575, 16_383)) == Some(&2));
+    /// ```
     pub fn from_sparse(alloc: Global, cells: Vec<Cell<T>>, blank: T) -> Result<Range<T>, AllocError>
     where
         T: Drop,
@@ -184,6 +197,15 @@ impl<T> Range<T> {
     }
 
     /// The value at a row and a column, counted from 0 on the sheet; none outside the area.
+    ///
+    /// # Examples
+    ///
+    /// Of A2 with 1 and B4 with 2, the value of B4, and none of A1, which lies outside their area:
+    ///
+    /// ```
+    /// assert!(rt; range.get_value((3, 1)) == Some(&2));
+    /// assert!(rt; range.get_value((0, 0)) == None);
+    /// ```
     pub fn get_value(&self, pos: (u32, u32)) -> Option<&T>
         ensures { option_copied result ≡ value_at self.now pos }
     {
@@ -274,6 +296,17 @@ impl<T> Range<T> {
 
     /// The used cells: their row and column, counted from the first ones of the area, and their
     /// value, row by row.
+    ///
+    /// # Examples
+    ///
+    /// Of J1 with 4 and F6 with 3, in the area from F1 to J6:
+    ///
+    /// ```
+    /// for (row, column, value) in range.used_cells() {
+    ///     write!(out, "{row} {column} {value};")?;
+    /// }
+    /// assert_text(&out, "0 4 4;5 0 3;", "used cells")?;
+    /// ```
     pub fn used_cells(&self) -> UsedCells<'_, T>
         ensures cells { used_left result ≡ used_items self.now }
         ensures fits { length (used_items self.now) < 2 ^ 64 }
@@ -290,6 +323,19 @@ impl<T> Range<T> {
     }
 
     /// The rows of the area, with the values of all their cells.
+    ///
+    /// # Examples
+    ///
+    /// Of A2 with 1 and B4 with 2, else 0, these are ` 1 0; 0 0; 0 2;`:
+    ///
+    /// ```
+    /// for row in range.rows() {
+    ///     for value in row {
+    ///         write!(out, " {value}")?;
+    ///     }
+    ///     write!(out, ";")?;
+    /// }
+    /// ```
     pub fn rows(&self) -> Rows<'_, T>
         ensures { rows_left result ≡ row_items self.now }
     {

@@ -109,6 +109,21 @@ impl FromStr for CellErrorType {
 }
 
 /// What a cell holds.
+///
+/// # Examples
+///
+/// The arms of a `match` that writes each kind of value:
+///
+/// ```
+/// Data::Int(number) => write!(out, "int:{number}")?,
+/// Data::Decimal(number) => push_decimal(out, number)?,
+/// Data::DateTime(time) => push_time(out, time)?,
+/// Data::String(text) => write!(out, "s:{text}")?,
+/// Data::DateTimeIso(text) => write!(out, "i:{text}")?,
+/// Data::Bool(truth) => write!(out, "b:{truth}")?,
+/// Data::Error(error) => write!(out, "e:{}", error.as_str())?,
+/// Data::Empty => out.push_str("Empty")?,
+/// ```
 #[derive(Debug, PartialEq, Eq, Drop)]
 pub enum Data {
     /// A whole number. Only the records of a pivot table have one.

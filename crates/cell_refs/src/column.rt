@@ -37,6 +37,18 @@ impl ColumnName {
 /// The name of a column, which is counted from 0, as `A` for 0.
 ///
 /// Fails with `ColumnNumberOverflow` past the last column of a worksheet.
+///
+/// # Examples
+///
+/// Columns, counted from 0, with their names, and one past the last:
+///
+/// ```
+/// let names = [(0, "A"), (25, "Z"), (26, "AA"), (27, "AB"), (16_383, "XFD")];
+/// for (num, want) in names {
+///     assert!(rt; column_number_to_name(num)?.as_str() == want, "of {num}");
+/// }
+/// assert!(rt; column_number_to_name(MAX_COLUMNS).is_err());
+/// ```
 pub fn column_number_to_name(num: u32) -> Result<ColumnName, RefError>
     ensures { result ≡ (if nat_lt num column_limit then Ok (column_name num)
         else Err RefError.ColumnNumberOverflow) }

@@ -9,6 +9,15 @@ use crate::{RefError, get_row_column};
 ///
 /// The ends stay as they are written: `start` may lie below or to the right of `end`, and the area
 /// then has no cell.
+///
+/// # Examples
+///
+/// D35 lies in the area, and neither D36 nor B35 does:
+///
+/// ```
+/// let area = get_dimension("C2:D35")?;
+/// assert!(rt; area.contains(34, 3) && !area.contains(35, 3) && !area.contains(34, 1));
+/// ```
 #[derive(Clone, Copy, Debug, PartialEq, Eq, Hash)]
 pub struct Dimensions {
     pub start: (u32, u32),
@@ -83,6 +92,19 @@ fn count_parts(dimension: &str) -> Result<usize, RefError>
 ///
 /// Each part between colons is read in order, and the first that is no reference is the refusal;
 /// more than two parts are refused after that as `DimensionCount`, with their number.
+///
+/// # Examples
+///
+/// Texts, and what is answered, where `area` makes an area of its corners:
+///
+/// ```
+/// ("C2:D35", area((1, 2), (34, 3))),
+/// ("D35:C2", area((34, 3), (1, 2))),
+/// ("A1:XFD1048576", area((0, 0), (1_048_575, 16_383))),
+/// ("B3", area((2, 1), (2, 1))),
+/// ("A1:B2:C3", Err(RefError::DimensionCount(3))),
+/// ("A1:", Err(RefError::RangeWithoutRowComponent)),
+/// ```
 #[tactic(auto, unfolding(crate::specs::A1::area))]
 pub fn get_dimension(dimension: &str) -> Result<Dimensions, RefError>
     ensures { result ≡ area dimension.now }

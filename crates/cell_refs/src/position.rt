@@ -79,6 +79,19 @@ fn scan_text(range: &str) -> Result<Scan, RefError>
 /// The position that a text such as `C107` names, a row and a column counted from 0.
 ///
 /// The text is letters of either case, then decimal digits; see `RefError` for what is refused.
+///
+/// # Examples
+///
+/// Texts, and what is answered:
+///
+/// ```
+/// ("A1", Ok((0, 0))),
+/// ("C107", Ok((106, 2))),
+/// ("a01", Ok((0, 0))),
+/// ("XFD1048576", Ok((1_048_575, 16_383))),
+/// ("XFE1", Err(RefError::ColumnNumberOverflow)),
+/// ("A1048577", Err(RefError::RowNumberOverflow)),
+/// ```
 #[tactic(auto, unfolding(crate::specs::A1::corner), using(crate::proofs::Scans::whole_scan))]
 pub fn get_row_column(range: &str) -> Result<(u32, u32), RefError>
     ensures value { result ≡ corner range.now }

@@ -20,6 +20,18 @@ use std::sync::ledger::{Blank, Ledger};
 ///
 /// Positions are a row and a column, counted from 0 in the worksheet. A position of the area that
 /// has no style of its own has entry 0 of the palette.
+///
+/// # Examples
+///
+/// Three positions with a style, and what is told of them: the corners of the area, how many rows
+/// and columns it has, and how many runs:
+///
+/// ```
+/// let cells = vec![in alloc; (3, 1, 2), (1, 3, 1), (1, 1, 1)]?;
+/// let range = StyleRange::from_style_ids(alloc, cells, palette(alloc)?)?;
+/// let told = area_told(alloc, &range)?;
+/// assert_text(&told, "1,1 to 3,3: 3 by 3 in 6", "told")?;
+/// ```
 #[derive(Debug, Drop)]
 pub struct StyleRange {
     bounds: Option<Dimensions>,

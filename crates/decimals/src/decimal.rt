@@ -18,6 +18,16 @@ const LONGEST_TEXT: usize = 61;
 ///
 /// The whole number has no trailing zeros, and zero has the power 0, so that equal numbers have one
 /// form, and `==` compares numbers.
+///
+/// # Examples
+///
+/// The number that `-120.500e-3` writes:
+///
+/// ```
+/// assert!(rt; number.mantissa() == -1205);
+/// assert!(rt; number.exponent() == -4);
+/// assert!(rt; Decimal::parse("-0.1205") == Some(number));
+/// ```
 #[derive(Debug, Clone, Copy, PartialEq, Eq)]
 pub struct Decimal {
     mantissa: i128,

@@ -12,6 +12,22 @@ use escaped_text::or_cut_back;
 use std::alloc::AllocError;
 
 /// What is asked of the number of days of a date cell.
+///
+/// # Examples
+///
+/// The parts of a date and its text: of the serial 45292.5 from 1900 on `2024 1 1 12 0 0 0` and
+/// `2024-01-01T12:00:00`:
+///
+/// ```
+/// let parts = match date.to_ymd_hms_milli() {
+///     Some((year, month, day, hour, minute, second, milli)) => {
+///         format!(in alloc; "{year} {month} {day} {hour} {minute} {second} {milli}")?
+///     }
+///     None => String::from_str(alloc, "none")?,
+/// };
+/// let mut text = String::new(alloc);
+/// date.push_iso(&mut text)?;
+/// ```
 pub trait ExcelDates {
     /// Whether the days are counted from the first day of a calendar.
     fn is_datetime(&self) -> bool;

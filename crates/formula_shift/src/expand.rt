@@ -23,6 +23,18 @@ enum MovedReference {
 /// The formula of the cell at `start`, a row and a column counted from 0, as it stands in the cell
 /// at `end`: each reference is moved by the way between them and spelled anew, or becomes `#REF!`
 /// where a part of it leaves the worksheet. All else stays.
+///
+/// # Examples
+///
+/// Formulas, the cells that they stand in and are moved to, and what they are there:
+///
+/// ```
+/// ("B3+$B$3", (4, 2), (5, 1), "A4+$B$3"),
+/// ("B3:C4", (7, 7), (5, 6), "A1:B2"),
+/// ("A1", (3, 0), (2, 0), "#REF!"),
+/// ("A1:B3", (3, 0), (2, 0), "#REF!"),
+/// ("Sheet1!A1*$A$1", (1, 0), (0, 0), "Sheet1!#REF!*$A$1"),
+/// ```
 pub fn expand_shared_formula(
     alloc: Global,
     formula: &str,

@@ -20,6 +20,16 @@ pub struct Place {
 }
 
 /// Parts in memory. No call of it as a package fails.
+///
+/// # Examples
+///
+/// A package of one part, in which an element is begun:
+///
+/// ```
+/// let mut held = MemoryPackage::new(alloc);
+/// held.add_part(name)?;
+/// held.push_event(start(root, ""))?;
+/// ```
 #[derive(Debug, Drop)]
 pub struct MemoryPackage {
     alloc: Global,

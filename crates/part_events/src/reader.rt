@@ -16,6 +16,18 @@ use std::marker::Model;
 
 /// Reads the parts of a package that it owns, one after the other, and keeps the names of the
 /// elements that are open in the part.
+///
+/// # Examples
+///
+/// How many events the part of a name has, where there is one:
+///
+/// ```
+/// if !xml.open(name)? {
+///     return Ok(None);
+/// }
+/// 'events: while xml.next()? {}
+/// Ok(Some(xml.at()))
+/// ```
 #[derive(Drop)]
 pub struct XlReader<P: Package> {
     package: P,

@@ -34,17 +34,16 @@ use xlsx_values::Book;
 ///
 /// # Examples
 ///
-/// How many cells the part at a path has:
+/// How many of the cells that are left have all that a cell can have:
 ///
 /// ```
-/// let Some((sheet, _)) = open_data(xml, path)? else {
-///     return Ok(0);
-/// };
-/// let mut sheet = sheet;
 /// let mut count = 0u64;
-/// 'cells: while let Some(_) = sheet.next(xml, asked)? {
-///     count = count.saturating_add(1);
+/// 'cells: while let Some(cell) = sheet.next(xml, asked)? {
+///     if is_full(&cell) {
+///         count = count.saturating_add(1);
+///     }
 /// }
+/// Ok(count)
 /// ```
 #[derive(Drop)]
 pub struct SheetCursor {

@@ -18,6 +18,19 @@ impl<P: Package> Xlsx<P> {
     ///
     /// Fails with `WorksheetNotFound` where no sheet has the name, and else as
     /// `read_sheet_comments`. Whether the package has the part of the sheet isn't asked.
+    ///
+    /// # Examples
+    ///
+    /// A line of a `comment`, whose author is asked of its `part`:
+    ///
+    /// ```
+    /// push_comment_line(
+    ///     out,
+    ///     comment.position(),
+    ///     part.author(comment),
+    ///     comment.text(),
+    /// )
+    /// ```
     pub fn comments_by_sheet_name(&mut self, name: &str) -> Result<Vec<Comments>, XlsxError>
         ensures answers { let ask = named_comments_ask name.now (path_of self.old name.now) in
             Answers ask (λ all. map comments_kept all.items) result self.old.xml.source

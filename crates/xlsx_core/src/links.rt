@@ -55,6 +55,18 @@ impl<P: Package> Xlsx<P> {
     /// `XmlEof("hyperlinks")`. An end that breaks the nesting up to the end of
     /// one of these sections is `Xml(EndMismatch)`. A start that can't be looked up, whose text
     /// can't be decoded, or whose `ref` names no area has its refusal.
+    ///
+    /// # Examples
+    ///
+    /// What a link says: its cells, and four texts that may be absent:
+    ///
+    /// ```
+    /// push_area(out, link.range)?;
+    /// push_optional(out, &link.target)?;
+    /// push_optional(out, &link.location)?;
+    /// push_optional(out, &link.displayed_text)?;
+    /// push_optional(out, &link.tooltip)?;
+    /// ```
     pub fn hyperlinks_by_sheet_name(&mut self, name: &str) -> Result<Vec<Hyperlink>, XlsxError>
         ensures uses { Uses (placed_link_events (path_of self.old name.now)
             self.old.xml.source.parts) Io result self.old.xml.source self.new.xml.source }

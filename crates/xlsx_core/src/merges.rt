@@ -130,6 +130,17 @@ impl<P: Package> Xlsx<P> {
     /// part. Else an end that breaks the nesting up to the section's end is `Xml(EndMismatch)`, a
     /// part that ends in the section `XmlEof("")`, and a start in it that can't be looked up, or
     /// whose `ref` names no area, has its refusal.
+    ///
+    /// # Examples
+    ///
+    /// The merged cells of a sheet, by a workbook that is needed no more:
+    ///
+    /// ```
+    /// let mut xlsx = Xlsx::new(alloc, package)?;
+    /// let areas = xlsx.merge_cells_by_sheet_name(name);
+    /// drop(xlsx.into_package());
+    /// Ok(areas?)
+    /// ```
     pub fn merge_cells_by_sheet_name(&mut self, name: &str) -> Result<Vec<Dimensions>, XlsxError>
         ensures uses { Uses (placed_events (path_of self.old name.now) self.old.xml.source.parts)
             Io result self.old.xml.source self.new.xml.source }
@@ -275,6 +286,16 @@ impl<P: Package> Xlsx<P> {
     }
 
     /// Those of the sheets of this name. It can be called once `merged_regions_loaded`.
+    ///
+    /// # Examples
+    ///
+    /// Each region of the sheets whose name is the second word:
+    ///
+    /// ```
+    /// for region in xlsx.merged_regions_by_sheet(word(words, 1)) {
+    ///     push_region(out, region)?;
+    /// }
+    /// ```
     pub fn merged_regions_by_sheet<'a>(&'a self, name: &'a str) -> MergedRegions<'a>
         requires { IsSome self.now.lists.regions }
         ensures { IsSomeAnd self.now.lists.regions (λ kept.

@@ -63,6 +63,21 @@ impl<P: Package> Xlsx<P> {
     /// them.
     ///
     /// Fails as `find_pivot_tables`. A pivot table whose cache keeps no records refuses all.
+    ///
+    /// # Examples
+    ///
+    /// What is found, kept beside the workbook:
+    ///
+    /// ```
+    /// match opened.xlsx.pivot_tables() {
+    ///     Ok(pivots) => {
+    ///         push_pivots(out, &pivots)?;
+    ///         opened.pivots = Some(pivots);
+    ///         Ok(())
+    ///     }
+    ///     Err(error) => push_refusal(out, &error),
+    /// }
+    /// ```
     pub fn pivot_tables(&mut self) -> Result<PivotTables, XlsxError>
         ensures answers { let folder = arc_str_bytes self.old.folder in
             Answers (pivots_ask folder (sheets_of_book self.old)) pivots_kept result
@@ -81,6 +96,16 @@ impl<P: Package> Xlsx<P> {
     ///
     /// Fails with `PivotTableNotFound` of the name where there is none, and else as
     /// `PivotCacheIter::open`.
+    ///
+    /// # Examples
+    ///
+    /// Each row, or why it isn't read:
+    ///
+    /// ```
+    /// for row in rows {
+    ///     push_row(out, row)?;
+    /// }
+    /// ```
     pub fn pivot_table_data(
         &mut self,
         pivot_tables: &PivotTables,

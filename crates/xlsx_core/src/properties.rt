@@ -19,6 +19,21 @@ use xlsx_properties::{WorkbookProperties, read_properties};
 impl<P: Package> Xlsx<P> {
     /// The properties of the workbook, as `read_properties` reads them. They are read once and then
     /// kept, and each call answers a copy. A refusal keeps none.
+    ///
+    /// # Examples
+    ///
+    /// The properties that a workbook says, and those that its users named:
+    ///
+    /// ```
+    /// for (name, property) in NAMED {
+    ///     if let Some(text) = properties.get(property) {
+    ///         write!(out, "{name}={text};")?;
+    ///     }
+    /// }
+    /// for (name, text) in properties.custom_properties.iter() {
+    ///     write!(out, "{name}:{text};")?;
+    /// }
+    /// ```
     pub fn workbook_properties(&mut self) -> Result<WorkbookProperties, XlsxError>
         ensures keeps { SameParts self.old.xml.source self.new.xml.source }
         ensures book { KeepsBook self.old self.new }

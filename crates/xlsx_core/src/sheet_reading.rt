@@ -42,6 +42,19 @@ pub type ValuesAnswer<P> = SheetAnswer<P, Range<Data>>;
 /// no sheet of this name or the first such sheet no part. Else the first start, row or cell of the
 /// part that can't be read gives the refusal. The package is handed back, with the same parts.
 /// Where nothing is refused, each section was read to its end and no further.
+///
+/// # Examples
+///
+/// How many positions of a sheet have a formula:
+///
+/// ```
+/// let SheetAnswer { result, package } = read_sheet(alloc, package, name);
+/// drop(package);
+/// match result {
+///     Ok(reading) => Ok(reading.formulas.used_count()),
+///     Err(error) => Err(error),
+/// }
+/// ```
 pub fn read_sheet<P: Package>(alloc: Global, package: P, name: &str) -> SheetAnswer<P>
     ensures keeps { SameParts (P.state «package») (P.state result.package) }
     ensures faults { OnOk result.result

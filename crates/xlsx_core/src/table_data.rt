@@ -162,6 +162,17 @@ impl<P: Package> Xlsx<P> {
     ///
     /// Fails with `TableNotFound` where no loaded table has the name. Else it is refused as
     /// `worksheet_range` of its sheet's name is, where the area has a cell.
+    ///
+    /// # Examples
+    ///
+    /// A table, by a workbook whose tables were loaded and which is needed no more:
+    ///
+    /// ```
+    /// let mut xlsx = with_tables(alloc, package)?;
+    /// let table = xlsx.table_by_name(name);
+    /// drop(xlsx.into_package());
+    /// Ok(table?)
+    /// ```
     pub fn table_by_name(&mut self, table_name: &str) -> Result<Table<Data>, XlsxError>
         requires { IsSome self.old.lists.tables }
         ensures uses { let most = table_data_events self.old table_name.now

@@ -127,6 +127,21 @@ impl<P: Package> Xlsx<P> {
     ///
     /// Fails by the relationships of a sheet or by the part of a table, as `read_sheet_tables`. A
     /// refusal leaves what was loaded as it was.
+    ///
+    /// # Examples
+    ///
+    /// A workbook whose tables are loaded:
+    ///
+    /// ```
+    /// let mut xlsx = Xlsx::new(alloc, package)?;
+    /// match xlsx.load_tables() {
+    ///     Ok(()) => Ok(xlsx),
+    ///     Err(error) => {
+    ///         drop(xlsx.into_package());
+    ///         Err(ToolError::from(error))
+    ///     }
+    /// }
+    /// ```
     pub fn load_tables(&mut self) -> Result<(), XlsxError>
         ensures answers { let ask = all_tables_ask (sheets_of_book self.old) in
             Answers ask (λ _. loaded_tables self.new) result self.old.xml.source
@@ -221,6 +236,19 @@ impl<P: Package> Xlsx<P> {
     }
 
     /// The names of the tables, in order. It can be called once `tables_loaded`.
+    ///
+    /// # Examples
+    ///
+    /// The names, where the tables were loaded:
+    ///
+    /// ```
+    /// if !xlsx.tables_loaded() {
+    ///     return Ok(out.push_str("not loaded")?);
+    /// }
+    /// for name in xlsx.table_names() {
+    ///     write!(out, "{name} ")?;
+    /// }
+    /// ```
     pub fn table_names(&self) -> TableNames<'_>
         requires { IsSome self.now.lists.tables }
         ensures { table_names_left result

@@ -40,6 +40,18 @@ pub struct Workbook {
 /// A workbook and the reader of its package, apart and together.
 impl<P: Package> Xlsx<P> {
     /// The reader of the package, and what is known of the workbook beside it.
+    ///
+    /// # Examples
+    ///
+    /// A sheet is read by a reader that borrows the workbook, and then a table of the same
+    /// workbook:
+    ///
+    /// ```
+    /// let (mut xml, workbook) = xlsx.into_parts();
+    /// let place = first_place(&mut xml, &workbook, sheet_name);
+    /// let mut xlsx = Xlsx::from_parts(xml, workbook);
+    /// let table = xlsx.table_by_name(table_name);
+    /// ```
     pub fn into_parts(self) -> (XlReader<P>, Workbook)
         ensures kept { result.0 ≡ self.xml }
         ensures workbook { result.1 ≡ workbook_of self }

@@ -164,6 +164,18 @@ impl<P: Package> Xlsx<P> {
     /// For each sheet in order its name, and what `worksheet_range` answers for that name. Two
     /// sheets of one name both have the range of the first. A sheet whose range is refused is left
     /// out, but a fault of the package (`Io`) and want of memory are answered.
+    ///
+    /// # Examples
+    ///
+    /// The name and the range of each sheet that is read:
+    ///
+    /// ```
+    /// for (name, range) in &sheets {
+    ///     write!(out, "{name} ")?;
+    ///     push_range(out, range)?;
+    ///     out.push_str(";")?;
+    /// }
+    /// ```
     pub fn worksheets(&mut self) -> Result<Vec<(String, Range<Data>)>, XlsxError>
         ensures uses { let sheets = self.old.metadata.sheets.items in
             Uses (listed_events (path_of self.old) self.old.xml.source.parts sheets) Io result

@@ -135,6 +135,18 @@ impl<P: Package> Xlsx<P> {
     /// A part that is no worksheet, as that of a chart sheet, has the empty range. Fails with
     /// `WorksheetNotFound` where no sheet has the name or the first such sheet has no part. Else
     /// the first start, row or cell that can't be read gives the refusal.
+    ///
+    /// # Examples
+    ///
+    /// Each value of the range, with its row and its column:
+    ///
+    /// ```
+    /// for (position, value) in range.used() {
+    ///     write!(out, "({},{} ", position.0, position.1)?;
+    ///     value.push_to(out)?;
+    ///     out.push_str(")")?;
+    /// }
+    /// ```
     pub fn worksheet_range(&mut self, name: &str) -> Result<Range<Data>, XlsxError>
         ensures uses { Uses (placed_events (path_of self.old name.now) self.old.xml.source.parts)
             Io result self.old.xml.source self.new.xml.source }
@@ -183,6 +195,19 @@ impl<P: Package> Xlsx<P> {
     ///
     /// A part that is no worksheet has the empty range. Refused as `worksheet_range` is, but by
     /// what formulas say in place of values.
+    ///
+    /// # Examples
+    ///
+    /// The cells of the range whose formula names the cell at a position, counted from 0:
+    ///
+    /// ```
+    /// for (cell, formula) in formulas.used() {
+    ///     let areas = areas_of(alloc, formula)?;
+    ///     if areas.iter().any(|area| area.contains(pos.0, pos.1)) {
+    ///         found.push(cell)?;
+    ///     }
+    /// }
+    /// ```
     pub fn worksheet_formula(&mut self, name: &str) -> Result<Range<String>, XlsxError>
         ensures uses { Uses (placed_events (path_of self.old name.now) self.old.xml.source.parts)
             Io result self.old.xml.source self.new.xml.source }
@@ -208,6 +233,16 @@ impl<P: Package> Xlsx<P> {
     /// Fails with `WorksheetNotFound` where no sheet has the name or the first such sheet has no
     /// part, with `NotAWorksheet` where its part is none, and else as
     /// `XlsxCellReader::next_style_id`.
+    ///
+    /// # Examples
+    ///
+    /// The positions of the range that have a style id above 0:
+    ///
+    /// ```
+    /// for (row, column, id) in range.styled() {
+    ///     write!(out, "({row},{column} {id})")?;
+    /// }
+    /// ```
     pub fn worksheet_style(&mut self, name: &str) -> Result<StyleRange, XlsxError>
         ensures uses { Uses (placed_events (path_of self.old name.now) self.old.xml.source.parts)
             Io result self.old.xml.source self.new.xml.source }
@@ -248,6 +283,17 @@ impl<P: Package> Xlsx<P> {
     ///
     /// Fails with `WorksheetNotFound` where no sheet has the name or the first such sheet has no
     /// part, with `NotAWorksheet` where its part is none, and else as `XlsxCellReader::new`.
+    ///
+    /// # Examples
+    ///
+    /// The dimensions of a sheet, none of whose cells is read:
+    ///
+    /// ```
+    /// match opened.xlsx.enter_worksheet(name) {
+    ///     Ok((_, dimensions)) => push_area(out, dimensions),
+    ///     Err(error) => push_refusal(out, &error),
+    /// }
+    /// ```
     pub fn enter_worksheet(&mut self, name: &str) -> Result<(SheetCursor, Dimensions), XlsxError>
         ensures uses { Uses (placed_events (path_of self.old name.now) self.old.xml.source.parts)
             Io result self.old.xml.source self.new.xml.source }
@@ -293,6 +339,17 @@ impl<P: Package> Xlsx<P> {
     /// has to know what a refusal leaves makes these two calls.
     ///
     /// It is refused as `enter_worksheet` is.
+    ///
+    /// # Examples
+    ///
+    /// Calls of the reader, or why there is none:
+    ///
+    /// ```
+    /// match opened.xlsx.worksheet_cells_reader(word(words, 1)) {
+    ///     Ok(mut reader) => push_calls(out, strings, &mut reader, words_behind(words, 2)),
+    ///     Err(error) => push_refusal(out, &error),
+    /// }
+    /// ```
     pub fn worksheet_cells_reader<'a>(
         &'a mut self,
         name: &str,

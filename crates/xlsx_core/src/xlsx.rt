@@ -54,6 +54,20 @@ impl<P: Package> Xlsx<P> {
     /// Fails with `RelationshipNotFound` where no relationship leads to a workbook or to one of its
     /// sheets, and with `Unrecognized` where the state or the type of a sheet is none. Else a part
     /// that can't be read gives the refusal, which is `Xml`, `XmlAttr` or `XmlEof`.
+    ///
+    /// # Examples
+    ///
+    /// A program keeps the workbook, or else the package of one that doesn't open:
+    ///
+    /// ```
+    /// match Xlsx::new(alloc, package) {
+    ///     Ok(xlsx) => Ok(Held::Book(Opened { xlsx, pivots: None })),
+    ///     Err(OpenFailure { error, package }) => {
+    ///         push_refusal(out, &error)?;
+    ///         Ok(Held::Package(package))
+    ///     }
+    /// }
+    /// ```
     pub fn new(alloc: Global, package: P) -> Result<Xlsx<P>, OpenFailure<P>>
         ensures uses { MatchResult result
             (λ xlsx. OpensFrom (P.state «package») xlsx.xml.source)
@@ -98,6 +112,17 @@ impl<P: Package> Xlsx<P> {
 
     /// Sets where ranges of values begin: with their first row that has a value, as after opening,
     /// or with a row counted from 0.
+    ///
+    /// # Examples
+    ///
+    /// The header row that a text asks for by a number, counted from 0:
+    ///
+    /// ```
+    /// match row.parse::<u32>() {
+    ///     Ok(row) => HeaderRow::Row(row),
+    ///     Err(_) => HeaderRow::FirstNonEmptyRow,
+    /// }
+    /// ```
     pub fn with_header_row(&mut self, header_row: HeaderRow) -> &mut Self
         ensures same_reference { result.ghost_name ≡ self.entry.ghost_name }
         ensures sets { SetsHeaderRow header_row self.old result.now }
@@ -161,6 +186,16 @@ impl<P: Package> Xlsx<P> {
     }
 
     /// The sheets, in order, and the defined names.
+    ///
+    /// # Examples
+    ///
+    /// A line for each of its `names`, with the text that the name stands for:
+    ///
+    /// ```
+    /// for name in names {
+    ///     push_pair_line(&mut out, name.0.as_str(), name.1.as_str())?;
+    /// }
+    /// ```
     pub fn metadata(&self) -> &Metadata
         ensures { result.now ≡ self.now.metadata }
     {

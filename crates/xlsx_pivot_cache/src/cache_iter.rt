@@ -14,9 +14,16 @@ use xlsx_error::XlsxError;
 ///
 /// # Examples
 ///
+/// How many rows there are, those that are refused among them:
+///
 /// ```
-/// let rows = PivotCacheIter::open(&mut xml, definitions, records)?;
-/// let rows: Vec<Result<Vec<Data>, XlsxError>> = rows.collect(alloc)?;
+/// match PivotCacheIter::open(xml, word(words, 1), word(words, 2)) {
+///     Ok(rows) => {
+///         let rows: Vec<Result<Vec<Data>, XlsxError>> = rows.collect(alloc)?;
+///         Ok(write!(out, "{}", rows.len())?)
+///     }
+///     Err(error) => push_refusal(out, &error),
+/// }
 /// ```
 pub struct PivotCacheIter<'a, P: Package, C: Drop = PivotCursor> {
     xml: &'a mut XlReader<P>,

@@ -34,14 +34,17 @@ pub enum RecordsPlace {
 ///
 /// # Examples
 ///
-/// A line of each row:
+/// The reader is lent for this call alone, and gives the package back behind a refusal:
 ///
 /// ```
-/// let mut rows = PivotCursor::open(&mut xml, definitions, records)?;
-/// 'rows: while let Some(next) = rows.next(&mut xml) {
-///     let row = next?;
-///     push_row_line(&mut out, &row)?;
-/// }
+/// let mut xml = XlReader::new(alloc, package);
+/// let mut cursor = match PivotCursor::open(&mut xml, definitions, records) {
+///     Ok(cursor) => cursor,
+///     Err(error) => {
+///         drop(xml.into_package());
+///         return Err(ToolError::from(error));
+///     }
+/// };
 /// ```
 #[derive(Debug, Drop)]
 pub struct PivotCursor {
