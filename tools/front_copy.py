@@ -20,8 +20,8 @@ STAND_IN = """\
 echo "$*: $(wc -c | tr -d ' ')"
 exit "$2"
 """
-# Proves a crate, builds the program of this folder, or runs it unproved. As the real one it keeps
-# others out of the crates below: here of `low`.
+# Proves a crate, builds the program of this folder, or runs it unproved. As the real one it wants
+# each crate that is listed, and keeps others out of the crates below: here of `low`.
 RT = """\
 #!/bin/sh
 if [ "$1" = try ]; then
@@ -38,6 +38,9 @@ if [ "$1" = try ]; then
 fi
 name=$(basename "$PWD")
 echo "rt $* speaks of $name"
+for listed in $(cut -d : -f 1 ../../crates.txt); do
+    [ -d "../$listed" ] || { echo "there is no $listed"; exit 1; }
+done
 exec 9<../low
 flock 9
 [ ! -e "$WAITING" ] || { echo "checked xlsx_tool::run, 3 of 7"; sleep 2; }
@@ -74,7 +77,8 @@ class FrontCopy(unittest.TestCase):
         self.source = self.crate / "src" / "main.rt"
         self.source.write_text("")
         (self.folder / "top" / "crates.txt").write_text("xlsx_tool: low\nlow:\nbeside: low\n")
-        (self.folder / "top" / "crates" / "low").mkdir()
+        for name in ("low", "beside"):
+            (self.folder / "top" / "crates" / name).mkdir()
         (self.folder / "top" / "tools").mkdir()
         for name in FILES:
             shutil.copy(TOP / name, self.folder / "top" / name)

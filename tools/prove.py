@@ -9,6 +9,7 @@ The status is 0 where all is proved and built, and else 1.
 """
 
 import contextlib
+import fcntl
 import os
 import re
 import shutil
@@ -76,6 +77,21 @@ def side_by_side():
     return max(1, most)
 
 
+def lock(folder):
+    """Waits until no other run works here, and answers what keeps others out while it is open."""
+    os.makedirs(folder, exist_ok=True)
+    held = os.open(folder, os.O_RDONLY)
+    try:
+        fcntl.flock(held, fcntl.LOCK_EX | fcntl.LOCK_NB)
+    except BlockingIOError:
+        print("xlsx: another proof is at work here, and this one waits for it", flush=True)
+        fcntl.flock(held, fcntl.LOCK_EX)
+    except OSError:
+        # Some file systems have no locks.
+        pass
+    return held
+
+
 def link(old, new):
     """Has a file in a second place, as the same one where the file system allows that."""
     try:
@@ -120,13 +136,22 @@ class Lane:
     def __init__(self, name, needs, folder):
         self.name, self.top = name, os.path.join(folder, name)
         os.makedirs(os.path.join(self.top, "crates"))
-        for file in filter(os.path.exists, ("crates.txt", "HANDLES")):
-            link(file, os.path.join(self.top, file))
-        for need in below(name, needs):
+        if os.path.exists("HANDLES"):
+            link("HANDLES", os.path.join(self.top, "HANDLES"))
+        used = below(name, needs)
+        self.list({name, *used})
+        for need in used:
             self.copy(need)
             copy(place(".", need, "out", "rlib"), place(self.top, need, "out", "rlib"))
         self.copy(name)
         move_out(name, ".", self.top)
+
+    def list(self, names):
+        """Lists these crates alone, since `rt` wants each that is listed to be there."""
+        with open("crates.txt") as table:
+            lines = [line for line in table if line.split(":")[0].split(" ")[0] in names]
+        with open(os.path.join(self.top, "crates.txt"), "w") as table:
+            table.writelines(lines)
 
     def copy(self, name):
         """Copies a crate without what is built of it."""
@@ -142,7 +167,7 @@ class Lane:
 class Work:
     """The proof of a crate that is at work in a folder, and what `rt` says of it."""
 
-    def __init__(self, words, folder, lane=None):
+    def __init__(self, words, folder, held, lane=None):
         self.lane = lane
         self.said = tempfile.TemporaryFile()
         self.child = subprocess.Popen(
@@ -151,6 +176,8 @@ class Work:
             stdin=subprocess.DEVNULL,
             stdout=self.said,
             stderr=self.said,
+            # So others are kept out while it works, also where this process is killed.
+            pass_fds=(held,),
         )
 
     def text(self):
@@ -174,8 +201,8 @@ class Work:
 class Proving:
     """The proofs of the crates below a program, some of them at work, each with its processors."""
 
-    def __init__(self, program, needs, log):
-        self.program, self.needs, self.log = program, needs, log
+    def __init__(self, program, needs, log, held):
+        self.program, self.needs, self.log, self.held = program, needs, log, held
         self.heights = heights(needs)
         self.lanes = place(".", program, "out", "lanes")
         self.proved, self.at_work, self.jobs = set(), {}, {}
@@ -186,11 +213,11 @@ class Proving:
         self.jobs[name] = jobs
         if name == self.program:
             words = ["rt", "run", "--jobs", str(jobs), "--", "--version"]
-            self.at_work[name] = Work(words, place(".", name))
+            self.at_work[name] = Work(words, place(".", name), self.held)
         else:
             lane = Lane(name, self.needs, self.lanes)
             words = ["rt", "lib", "--jobs", str(jobs)]
-            self.at_work[name] = Work(words, place(lane.top, name), lane)
+            self.at_work[name] = Work(words, place(lane.top, name), self.held, lane)
 
     def begin_some(self, most):
         """Begins what can be proved now, with the processors that are left. One processor takes the
@@ -198,7 +225,7 @@ class Proving:
         free = most - sum(self.jobs[name] for name in self.at_work)
         ready = self.ready()
         for at, name in enumerate(ready[:free]):
-            jobs = free // (len(ready) - at) or 1
+            jobs = min(2, free // (len(ready) - at)) or 1
             self.begin(name, jobs)
             free -= jobs
 
@@ -270,8 +297,9 @@ def main(program, path):
         needs = needs_of(program, table.read())
     signal.signal(signal.SIGTERM, lambda number, frame: sys.exit(128 + number))
     signal.signal(signal.SIGHUP, lambda number, frame: sys.exit(128 + number))
+    held = lock(place(".", program, "out"))
     with open(path, "wb") as log:
-        proving = Proving(program, needs, log)
+        proving = Proving(program, needs, log, held)
         try:
             return 0 if proving.run(side_by_side()) else 1
         finally:

@@ -119,6 +119,20 @@ class Wrapper(FrontCopy):
         self.assertEqual(self.log().read_text().splitlines()[-3:], built)
         self.assertFalse((self.crate / "out" / "lanes").is_dir())
 
+    def test_a_second_proof_waits_for_the_first(self):
+        self.written("waiting", "")
+        words = [self.folder / "top" / "xlsx", "cells", "0"]
+        path = f"{self.folder / 'bin'}:{os.environ['PATH']}"
+        about = {"STAND_IN": self.folder / "program", "WAITING": self.folder / "waiting"}
+        about |= {"FAILING": self.folder / "failing", "MEETING": self.folder / "meeting"}
+        given = {"env": {**os.environ, **about, "PATH": path}, "stdin": subprocess.DEVNULL}
+        given |= {"stdout": subprocess.PIPE, "stderr": subprocess.PIPE}
+        runs = [subprocess.Popen(words, **given) for _ in range(2)]
+        said = [run.communicate() for run in runs]
+        self.assertEqual([lines for lines, _ in said], [b"cells 0: 0\n"] * 2)
+        waits = b"xlsx: another proof is at work here, and this one waits for it\n"
+        self.assertEqual(sum(waits in error for _, error in said), 1, said)
+
     def test_what_an_ended_proof_left_is_no_hindrance(self):
         left = self.crate / "out" / "lanes" / "low" / "crates" / "low" / "out"
         left.mkdir(parents=True)
