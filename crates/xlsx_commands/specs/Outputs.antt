@@ -100,26 +100,9 @@ RefusedWorkbookCause (sample rows) parts error = SheetCause parts sample_name er
 
 -- why it is refused because an area has too many cells
 unfoldable pub IsTooLarge : Command → List Part → Type 0
-IsTooLarge (cells name) parts = ⊥
-IsTooLarge sheets parts = ⊥
-IsTooLarge names parts = ⊥
-IsTooLarge (merges name) parts = ⊥
-IsTooLarge (links name) parts = ⊥
-IsTooLarge (comments name) parts = ⊥
-IsTooLarge props parts = ⊥
 IsTooLarge (csv name asked) parts = HasLargeArea parts name asked.from_a1
 IsTooLarge (csv_table name options) parts = HasLargeTable parts name
-IsTooLarge tables parts = ⊥
-IsTooLarge (table name) parts = ⊥
-IsTooLarge pivots parts = ⊥
-IsTooLarge (pivot sheet name) parts = ⊥
-IsTooLarge (precedents name) parts = ⊥
-IsTooLarge (dependents name position) parts = ⊥
-IsTooLarge (check name) parts = ⊥
-IsTooLarge (part name) parts = ⊥
-IsTooLarge upgrade parts = ⊥
-IsTooLarge (resave name) parts = ⊥
-IsTooLarge (sample rows) parts = ⊥
+IsTooLarge _ parts = ⊥
 
 -- ---- what the rows make
 

@@ -253,24 +253,7 @@ large_over (csv_table name options) one two same large = record {
   has = table_over one two name large.table same large.has;
   large = large.large;
 }
-large_over (cells name) one two same large = large
-large_over sheets one two same large = large
-large_over names one two same large = large
-large_over (merges name) one two same large = large
-large_over (links name) one two same large = large
-large_over (comments name) one two same large = large
-large_over props one two same large = large
-large_over tables one two same large = large
-large_over (table name) one two same large = large
-large_over pivots one two same large = large
-large_over (pivot sheet name) one two same large = large
-large_over (precedents name) one two same large = large
-large_over (dependents name position) one two same large = large
-large_over (check name) one two same large = large
-large_over (part name) one two same large = large
-large_over upgrade one two same large = large
-large_over (resave name) one two same large = large
-large_over (sample rows) one two same large = large
+large_over _ one two same large = absurd large
 
 pub output_cause_over : (command : Command) (one two : List Part) (error : ToolError)
     → HaveSameWay command one two → OutputCause command one error → OutputCause command two error
