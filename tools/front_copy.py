@@ -43,7 +43,7 @@ for listed in $(cut -d : -f 1 ../../crates.txt); do
 done
 exec 9<../low
 flock 9
-[ ! -e "$WAITING" ] || { echo "checked xlsx_tool::run, 3 of 7"; sleep 2; }
+[ ! -e "$WAITING" ] || { echo "so far: 3 of 7 functions checked"; sleep 2; }
 [ ! -e "$FAILING" ] || [ "$1" != run ] || exit 1
 if [ "$1" = run ]; then
     ls -d ../*/out/rlib

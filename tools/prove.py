@@ -25,8 +25,8 @@ MEMORY = 4 * 1024 * 1024
 # After so many seconds without a line those at work are told.
 QUIET = 60
 
-# What `rt` says of each function that is proved: how many are by then, of how many.
-CHECKED = re.compile(rb"^checked .*, (\d+) of (\d+)$", re.MULTILINE)
+# What `rt` says of functions that are proved: how many are by then, of how many.
+CHECKED = re.compile(rb"^so far: (\d+) of (\d+) functions checked", re.MULTILINE)
 
 
 def needs_of(program, table):
