@@ -141,14 +141,14 @@ class Lane:
         if os.path.exists("HANDLES"):
             link("HANDLES", os.path.join(self.top, "HANDLES"))
         used = below(name, needs)
-        self.list({name, *used})
+        self.list_crates({name, *used})
         for need in used:
             self.copy(need)
             copy(place(".", need, "out", "rlib"), place(self.top, need, "out", "rlib"))
         self.copy(name)
         move_out(name, ".", self.top)
 
-    def list(self, names):
+    def list_crates(self, names):
         """Lists these crates alone, since `rt` wants each that is listed to be there."""
         with open("crates.txt") as table:
             lines = [line for line in table if line.split(":")[0].split(" ")[0] in names]
