@@ -19,7 +19,7 @@ PROGRAM = os.path.join(CRATE, "out", "xlsx_tool")
 LIMIT = 64 * 1024 * 1024
 
 # How long the first proof takes, and an answer without one, on four processors.
-PROVING = "twenty to forty minutes"
+PROVING = "about half an hour"
 UNPROVED = "a minute or two"
 
 ANSWERS = f"--unproved answers in {UNPROVED}"
