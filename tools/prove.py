@@ -65,10 +65,8 @@ def heights(needs):
 
 
 def side_by_side():
-    """How many proofs the machine has processors and memory for. Of more than two processors one
-    is left for other work."""
-    processors = os.cpu_count() or 1
-    most = processors - 1 if processors > 2 else processors
+    """How many processors the machine has, and memory for as many proofs."""
+    most = os.cpu_count() or 1
     try:
         with open("/proc/meminfo") as lines:
             for line in lines:
@@ -201,26 +199,36 @@ class Work:
 
 
 class Proving:
-    """The proofs of the crates below a program, some of them at work."""
+    """The proofs of the crates below a program, some of them at work, each with its processors."""
 
     def __init__(self, program, needs, log, held):
         self.program, self.needs, self.log, self.held = program, needs, log, held
         self.heights = heights(needs)
         self.lanes = place(".", program, "out", "lanes")
-        self.proved, self.at_work = set(), {}
+        self.proved, self.at_work, self.jobs = set(), {}, {}
         self.began = self.told = time.monotonic()
 
-    def begin(self, name):
-        """Begins the proof of a crate in a copy, and that of the program where it is to be. Each
-        has one processor: several of them at one crate take much more of processor time, since
-        each reads the libraries below, and end little earlier."""
+    def begin(self, name, jobs):
+        """Begins the proof of a crate with so many processors, in a copy but for the program's."""
+        self.jobs[name] = jobs
         if name == self.program:
-            words = ["rt", "run", "--jobs", "1", "--", "--version"]
+            words = ["rt", "run", "--jobs", str(jobs), "--", "--version"]
             self.at_work[name] = Work(words, place(".", name), self.held)
         else:
             lane = Lane(name, self.needs, self.lanes)
-            words = ["rt", "lib", "--jobs", "1"]
+            words = ["rt", "lib", "--jobs", str(jobs)]
             self.at_work[name] = Work(words, place(lane.top, name), self.held, lane)
+
+    def begin_some(self, most):
+        """Begins what can be proved now, each with one processor, or with two where no crate waits
+        for the second. More take more of processor time, since each reads the libraries below, and
+        end little earlier."""
+        free = most - sum(self.jobs[name] for name in self.at_work)
+        ready = self.ready()
+        for at, name in enumerate(ready[:free]):
+            jobs = min(2, free // (len(ready) - at)) or 1
+            self.begin(name, jobs)
+            free -= jobs
 
     def ready(self):
         """The crates that can be proved now, those with the longest chain above them first."""
@@ -276,11 +284,10 @@ class Proving:
             shutil.rmtree(self.lanes, ignore_errors=True)
 
     def run(self, most):
-        """Whether all is proved, with at most so many proofs at work."""
+        """Whether all is proved, with at most so many processors."""
         self.clear()
         while len(self.proved) < len(self.needs):
-            for name in self.ready()[: most - len(self.at_work)]:
-                self.begin(name)
+            self.begin_some(most)
             if not self.take_ended():
                 return False
         return True
