@@ -142,7 +142,9 @@ class Lane:
         self.list_crates({name, *used})
         for need in used:
             self.copy(need)
-            copy(place(".", need, "out", "rlib"), place(self.top, need, "out", "rlib"))
+            # Where another `rt` took it away since it was built, this one builds it again.
+            if os.path.isdir(place(".", need, "out", "rlib")):
+                copy(place(".", need, "out", "rlib"), place(self.top, need, "out", "rlib"))
         self.copy(name)
         move_out(name, ".", self.top)
 
