@@ -102,19 +102,23 @@ class FrontCopy(unittest.TestCase):
         self.program.parent.mkdir(exist_ok=True)
         shutil.copy(program or self.folder / "program", self.program)
 
-    def run_on(self, *words, data=b"", path=None, memory=None, **given):
+    def environment(self, path=None, memory=None):
+        """What the copy finds about it: the stand-ins, and the files by which they are told."""
         path = f"{self.folder / 'bin'}:{os.environ['PATH']}" if path is None else path
         about = {"STAND_IN": self.folder / "program", "FAILING": self.folder / "failing"}
         about["WAITING"] = self.folder / "waiting"
         about["MEETING"] = self.folder / "meeting"
         if memory is not None:
             about["XLSX_MEMORY"] = memory
+        return {**os.environ, **about, "PATH": path}
+
+    def run_on(self, *words, data=b"", path=None, memory=None, **given):
         if "stdin" not in given:
             given["input"] = data
         ran = subprocess.run(
             [self.folder / "top" / "xlsx", *words],
             stderr=subprocess.PIPE,
-            env={**os.environ, **about, "PATH": path},
+            env=self.environment(path, memory),
             cwd=self.folder,
             **{"stdout": subprocess.PIPE, **given},
         )

@@ -29,15 +29,15 @@ QUIET = 60
 CHECKED = re.compile(rb"^so far: (\d+) of (\d+) functions checked", re.MULTILINE)
 
 
-def needs_of(program, table):
-    """The crates of this repository below a program, itself included, each with those it stands on.
+def needs_of(top, table):
+    """The crates of this repository below one, itself included, each with those it stands on.
 
     `table` is the text of crates.txt: a line `NAME: CRATE ..` for each crate, and `#` before what
     isn't read.
     """
     lines = (line.split("#")[0].partition(":") for line in table.splitlines())
     below = {name.split()[0]: needs.split() for name, colon, needs in lines if colon}
-    found, waiting = {}, [program]
+    found, waiting = {}, [top]
     while waiting:
         name = waiting.pop()
         if name not in found:
@@ -115,17 +115,6 @@ def move_out(name, old, new):
         os.rename(place(old, name, "out"), place(new, name, "out"))
 
 
-def below(name, needs):
-    """The crates that a crate stands on, and those that these stand on."""
-    found, waiting = set(), list(needs[name])
-    while waiting:
-        need = waiting.pop()
-        if need not in found:
-            found.add(need)
-            waiting += needs[need]
-    return found
-
-
 class Lane:
     """A copy of the repository, as far as one crate needs it, in which that crate is proved.
 
@@ -133,32 +122,26 @@ class Lane:
     side by side in two copies alone.
     """
 
-    def __init__(self, name, needs, folder):
+    def __init__(self, name, table, folder):
         self.name, self.top = name, os.path.join(folder, name)
         os.makedirs(os.path.join(self.top, "crates"))
         if os.path.exists("HANDLES"):
             link("HANDLES", os.path.join(self.top, "HANDLES"))
-        used = below(name, needs)
-        self.list_crates({name, *used})
-        for need in used:
-            self.copy(need)
+        names = needs_of(name, table)
+        self.list_crates(names, table)
+        for need in names:
+            copy(place(".", need), place(self.top, need), ignore=shutil.ignore_patterns("out"))
+            built = place(".", need, "out", "rlib")
             # Where another `rt` took it away since it was built, this one builds it again.
-            if os.path.isdir(place(".", need, "out", "rlib")):
-                copy(place(".", need, "out", "rlib"), place(self.top, need, "out", "rlib"))
-        self.copy(name)
+            if need != name and os.path.isdir(built):
+                copy(built, place(self.top, need, "out", "rlib"))
         move_out(name, ".", self.top)
 
-    def list_crates(self, names):
+    def list_crates(self, names, table):
         """Lists these crates alone, since `rt` wants each that is listed to be there."""
-        with open("crates.txt") as table:
-            lines = [line for line in table if line.split(":")[0].split(" ")[0] in names]
-        with open(os.path.join(self.top, "crates.txt"), "w") as table:
-            table.writelines(lines)
-
-    def copy(self, name):
-        """Copies a crate without what is built of it."""
-        without = shutil.ignore_patterns("out")
-        copy(place(".", name), place(self.top, name), ignore=without)
+        lines = table.splitlines(keepends=True)
+        with open(os.path.join(self.top, "crates.txt"), "w") as own:
+            own.writelines(line for line in lines if line.split(":")[0].split(" ")[0] in names)
 
     def leave(self):
         """Brings back what is built of the crate."""
@@ -203,9 +186,10 @@ class Work:
 class Proving:
     """The proofs of the crates below a program, some of them at work, each with its processors."""
 
-    def __init__(self, program, needs, log, held):
-        self.program, self.needs, self.log, self.held = program, needs, log, held
-        self.heights = heights(needs)
+    def __init__(self, program, table, log, held):
+        self.program, self.table, self.log, self.held = program, table, log, held
+        self.needs = needs_of(program, table)
+        self.heights = heights(self.needs)
         self.lanes = place(".", program, "out", "lanes")
         self.proved, self.at_work, self.jobs = set(), {}, {}
         self.began = self.told = time.monotonic()
@@ -217,7 +201,7 @@ class Proving:
             words = ["rt", "run", "--jobs", str(jobs), "--", "--version"]
             self.at_work[name] = Work(words, place(".", name), self.held)
         else:
-            lane = Lane(name, self.needs, self.lanes)
+            lane = Lane(name, self.table, self.lanes)
             words = ["rt", "lib", "--jobs", str(jobs)]
             self.at_work[name] = Work(words, place(lane.top, name), self.held, lane)
 
@@ -296,13 +280,13 @@ class Proving:
 
 
 def main(program, path):
-    with open("crates.txt") as table:
-        needs = needs_of(program, table.read())
+    with open("crates.txt") as listed:
+        table = listed.read()
     signal.signal(signal.SIGTERM, lambda number, frame: sys.exit(128 + number))
     signal.signal(signal.SIGHUP, lambda number, frame: sys.exit(128 + number))
     held = lock(place(".", program, "out"))
     with open(path, "wb") as log:
-        proving = Proving(program, needs, log, held)
+        proving = Proving(program, table, log, held)
         try:
             return 0 if proving.run(side_by_side()) else 1
         finally:

@@ -121,11 +121,8 @@ class Wrapper(FrontCopy):
     def test_a_second_proof_waits_for_the_first(self):
         self.written("waiting", "")
         words = [self.folder / "top" / "xlsx", "cells", "0"]
-        path = f"{self.folder / 'bin'}:{os.environ['PATH']}"
-        about = {"STAND_IN": self.folder / "program", "WAITING": self.folder / "waiting"}
-        about |= {"FAILING": self.folder / "failing", "MEETING": self.folder / "meeting"}
-        given = {"env": {**os.environ, **about, "PATH": path}, "stdin": subprocess.DEVNULL}
-        given |= {"stdout": subprocess.PIPE, "stderr": subprocess.PIPE}
+        given = {"env": self.environment(), "stdin": subprocess.DEVNULL}
+        given.update(stdout=subprocess.PIPE, stderr=subprocess.PIPE)
         runs = [subprocess.Popen(words, **given) for _ in range(2)]
         said = [run.communicate() for run in runs]
         self.assertEqual([lines for lines, _ in said], [b"cells 0: 0\n"] * 2)
