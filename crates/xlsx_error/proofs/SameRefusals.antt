@@ -1,7 +1,7 @@
 -- `==` of refusals holds exactly where they are seen as the same. It compares the variants one by
 -- one, each with all that come behind it, and so does the proof.
-use Rattle.std.proofs.Common.{◌≡◌, sym, ◌∙◌, Bool, true, false, false, ◌&&◌, nat_eq, ℕ, List, refl, ap, rules, ◌⊎◌, inl, inr}
-use Rattle.std.proofs.Common.{Bor, ◌↔◌}
+use Rattle.std.proofs.Common.{◌≡◌, sym, ◌∙◌, Bool, true, false, ◌&&◌, nat_eq, ℕ, List, refl, ap}
+use Rattle.std.proofs.Common.{rules, ◌⊎◌, inl, inr, Bor, ◌↔◌}
 use Rattle.std.specs.Prelude.{String, string_bytes, string_eq}
 use Rattle.std.specs.Cmp.Lexicographic.{pointwise}
 use Rattle.std.specs.declared.alloc.Global.{Global}
@@ -69,9 +69,28 @@ of_both a b = of_pairs of_text of_text (both_seen a) (both_seen b)
 of_none : IsEqualityBy (λ (x : ⊥). x) (λ _ _. false)
 of_none a b = absurd a
 
--- what is seen of each variant
+-- five variants, and those behind them
+abbrev Five : Type 0 → Type 0 → Type 0 → Type 0 → Type 0 → Type 0 → Type 0
+Five A B C D E Others = A ⊎ (B ⊎ (C ⊎ (D ⊎ (E ⊎ Others))))
+
+abbrev behind : {A B C D E Others : Type 0} → Others → Five A B C D E Others
+behind others = inr (inr (inr (inr (inr others))))
+
+-- what is seen of each variant, those of names last
+abbrev NamesSeen : Type 0
+NamesSeen = Five (List ℕ) (List ℕ) (List ℕ) (List ℕ) (List ℕ) ⊥
+
+abbrev CellsSeen : Type 0
+CellsSeen = Five (Unit {0}) ℕ (List ℕ) (List ℕ) (List ℕ × List ℕ) NamesSeen
+
+abbrev ReferencesSeen : Type 0
+ReferencesSeen = Five (Unit {0}) ℕ (Unit {0}) (Unit {0}) (Unit {0}) CellsSeen
+
+abbrev PartsSeen : Type 0
+PartsSeen = Five (List ℕ) (List ℕ) (List ℕ) (List ℕ) (List ℕ) ReferencesSeen
+
 abbrev Seen : Type 0
-Seen = Unit {0} ⊎ (Unit {0} ⊎ (Unit {0} ⊎ (XmlFault ⊎ (AttrFault ⊎ (List ℕ ⊎ (List ℕ ⊎ (List ℕ ⊎ (List ℕ ⊎ (List ℕ ⊎ (Unit {0} ⊎ (ℕ ⊎ (Unit {0} ⊎ (Unit {0} ⊎ (Unit {0} ⊎ (Unit {0} ⊎ (ℕ ⊎ (List ℕ ⊎ (List ℕ ⊎ ((List ℕ × List ℕ) ⊎ (List ℕ ⊎ (List ℕ ⊎ (List ℕ ⊎ (List ℕ ⊎ (List ℕ ⊎ (⊥)))))))))))))))))))))))))
+Seen = Five (Unit {0}) (Unit {0}) (Unit {0}) XmlFault AttrFault PartsSeen
 
 abbrev values_seen : XlsxError → Seen
 values_seen a =
@@ -83,33 +102,57 @@ values_seen a =
     sum_seen string_seen (sum_seen string_seen (sum_seen string_seen (sum_seen string_seen (
     sum_seen string_seen (λ (x : ⊥). x))))))))))))))))))))))))) (as_values a)
 
+abbrev decode_names : NamesSeen → Refusal
+decode_names (inl text) = XlsxError.cell_error text
+decode_names (inr (inl text)) = XlsxError.worksheet_not_found text
+decode_names (inr (inr (inl text))) = XlsxError.table_not_found text
+decode_names (inr (inr (inr (inl text)))) = XlsxError.not_a_worksheet text
+decode_names (inr (inr (inr (inr (inl text))))) = XlsxError.pivot_table_not_found text
+decode_names (inr (inr (inr (inr (inr none))))) = absurd none
+
+abbrev decode_cells : CellsSeen → Refusal
+decode_cells (inl nothing) = XlsxError.row_number_overflow
+decode_cells (inr (inl number)) = XlsxError.dimension_count number
+decode_cells (inr (inr (inl text))) = XlsxError.cell_t_attribute text
+decode_cells (inr (inr (inr (inl text)))) = XlsxError.unexpected text
+decode_cells (inr (inr (inr (inr (inl (typ, val)))))) = XlsxError.unrecognized typ val
+decode_cells (inr (inr (inr (inr (inr others))))) = decode_names others
+
+abbrev decode_references : ReferencesSeen → Refusal
+decode_references (inl nothing) = XlsxError.relationship_not_found
+decode_references (inr (inl number)) = XlsxError.alphanumeric number
+decode_references (inr (inr (inl nothing))) = XlsxError.range_without_column_component
+decode_references (inr (inr (inr (inl nothing)))) = XlsxError.range_without_row_component
+decode_references (inr (inr (inr (inr (inl nothing))))) = XlsxError.column_number_overflow
+decode_references (inr (inr (inr (inr (inr others))))) = decode_cells others
+
+abbrev decode_parts : PartsSeen → Refusal
+decode_parts (inl text) = XlsxError.parse_float text
+decode_parts (inr (inl text)) = XlsxError.parse_int text
+decode_parts (inr (inr (inl text))) = XlsxError.xml_eof text
+decode_parts (inr (inr (inr (inl text)))) = XlsxError.unexpected_node text
+decode_parts (inr (inr (inr (inr (inl text))))) = XlsxError.file_not_found text
+decode_parts (inr (inr (inr (inr (inr others))))) = decode_references others
+
 abbrev decode : Seen → Refusal
 decode (inl nothing) = XlsxError.out_of_memory
 decode (inr (inl nothing)) = XlsxError.failed
 decode (inr (inr (inl nothing))) = XlsxError.io
 decode (inr (inr (inr (inl fault)))) = XlsxError.xml fault
 decode (inr (inr (inr (inr (inl fault))))) = XlsxError.xml_attr fault
-decode (inr (inr (inr (inr (inr (inl text)))))) = XlsxError.parse_float text
-decode (inr (inr (inr (inr (inr (inr (inl text))))))) = XlsxError.parse_int text
-decode (inr (inr (inr (inr (inr (inr (inr (inl text)))))))) = XlsxError.xml_eof text
-decode (inr (inr (inr (inr (inr (inr (inr (inr (inl text))))))))) = XlsxError.unexpected_node text
-decode (inr (inr (inr (inr (inr (inr (inr (inr (inr (inl text)))))))))) = XlsxError.file_not_found text
-decode (inr (inr (inr (inr (inr (inr (inr (inr (inr (inr (inl nothing))))))))))) = XlsxError.relationship_not_found
-decode (inr (inr (inr (inr (inr (inr (inr (inr (inr (inr (inr (inl number)))))))))))) = XlsxError.alphanumeric number
-decode (inr (inr (inr (inr (inr (inr (inr (inr (inr (inr (inr (inr (inl nothing))))))))))))) = XlsxError.range_without_column_component
-decode (inr (inr (inr (inr (inr (inr (inr (inr (inr (inr (inr (inr (inr (inl nothing)))))))))))))) = XlsxError.range_without_row_component
-decode (inr (inr (inr (inr (inr (inr (inr (inr (inr (inr (inr (inr (inr (inr (inl nothing))))))))))))))) = XlsxError.column_number_overflow
-decode (inr (inr (inr (inr (inr (inr (inr (inr (inr (inr (inr (inr (inr (inr (inr (inl nothing)))))))))))))))) = XlsxError.row_number_overflow
-decode (inr (inr (inr (inr (inr (inr (inr (inr (inr (inr (inr (inr (inr (inr (inr (inr (inl number))))))))))))))))) = XlsxError.dimension_count number
-decode (inr (inr (inr (inr (inr (inr (inr (inr (inr (inr (inr (inr (inr (inr (inr (inr (inr (inl text)))))))))))))))))) = XlsxError.cell_t_attribute text
-decode (inr (inr (inr (inr (inr (inr (inr (inr (inr (inr (inr (inr (inr (inr (inr (inr (inr (inr (inl text))))))))))))))))))) = XlsxError.unexpected text
-decode (inr (inr (inr (inr (inr (inr (inr (inr (inr (inr (inr (inr (inr (inr (inr (inr (inr (inr (inr (inl (typ, val))))))))))))))))))))) = XlsxError.unrecognized typ val
-decode (inr (inr (inr (inr (inr (inr (inr (inr (inr (inr (inr (inr (inr (inr (inr (inr (inr (inr (inr (inr (inl text))))))))))))))))))))) = XlsxError.cell_error text
-decode (inr (inr (inr (inr (inr (inr (inr (inr (inr (inr (inr (inr (inr (inr (inr (inr (inr (inr (inr (inr (inr (inl text)))))))))))))))))))))) = XlsxError.worksheet_not_found text
-decode (inr (inr (inr (inr (inr (inr (inr (inr (inr (inr (inr (inr (inr (inr (inr (inr (inr (inr (inr (inr (inr (inr (inl text))))))))))))))))))))))) = XlsxError.table_not_found text
-decode (inr (inr (inr (inr (inr (inr (inr (inr (inr (inr (inr (inr (inr (inr (inr (inr (inr (inr (inr (inr (inr (inr (inr (inl text)))))))))))))))))))))))) = XlsxError.not_a_worksheet text
-decode (inr (inr (inr (inr (inr (inr (inr (inr (inr (inr (inr (inr (inr (inr (inr (inr (inr (inr (inr (inr (inr (inr (inr (inr (inl text))))))))))))))))))))))))) = XlsxError.pivot_table_not_found text
-decode (inr (inr (inr (inr (inr (inr (inr (inr (inr (inr (inr (inr (inr (inr (inr (inr (inr (inr (inr (inr (inr (inr (inr (inr (inr (nothing)))))))))))))))))))))))))) = absurd nothing
+decode (inr (inr (inr (inr (inr others))))) = decode_parts others
+
+abbrev of_parts : PartsSeen → Seen
+of_parts others = behind others
+
+abbrev of_references : ReferencesSeen → Seen
+of_references others = of_parts (behind others)
+
+abbrev of_cells : CellsSeen → Seen
+of_cells others = of_references (behind others)
+
+abbrev of_names : NamesSeen → Seen
+of_names others = of_cells (behind others)
 
 abbrev encode : Refusal → Seen
 encode XlsxError.out_of_memory = inl tt
@@ -117,26 +160,26 @@ encode XlsxError.failed = inr (inl tt)
 encode XlsxError.io = inr (inr (inl tt))
 encode (XlsxError.xml fault) = inr (inr (inr (inl fault)))
 encode (XlsxError.xml_attr fault) = inr (inr (inr (inr (inl fault))))
-encode (XlsxError.parse_float text) = inr (inr (inr (inr (inr (inl text)))))
-encode (XlsxError.parse_int text) = inr (inr (inr (inr (inr (inr (inl text))))))
-encode (XlsxError.xml_eof text) = inr (inr (inr (inr (inr (inr (inr (inl text)))))))
-encode (XlsxError.unexpected_node text) = inr (inr (inr (inr (inr (inr (inr (inr (inl text))))))))
-encode (XlsxError.file_not_found text) = inr (inr (inr (inr (inr (inr (inr (inr (inr (inl text)))))))))
-encode XlsxError.relationship_not_found = inr (inr (inr (inr (inr (inr (inr (inr (inr (inr (inl tt))))))))))
-encode (XlsxError.alphanumeric number) = inr (inr (inr (inr (inr (inr (inr (inr (inr (inr (inr (inl number)))))))))))
-encode XlsxError.range_without_column_component = inr (inr (inr (inr (inr (inr (inr (inr (inr (inr (inr (inr (inl tt))))))))))))
-encode XlsxError.range_without_row_component = inr (inr (inr (inr (inr (inr (inr (inr (inr (inr (inr (inr (inr (inl tt)))))))))))))
-encode XlsxError.column_number_overflow = inr (inr (inr (inr (inr (inr (inr (inr (inr (inr (inr (inr (inr (inr (inl tt))))))))))))))
-encode XlsxError.row_number_overflow = inr (inr (inr (inr (inr (inr (inr (inr (inr (inr (inr (inr (inr (inr (inr (inl tt)))))))))))))))
-encode (XlsxError.dimension_count number) = inr (inr (inr (inr (inr (inr (inr (inr (inr (inr (inr (inr (inr (inr (inr (inr (inl number))))))))))))))))
-encode (XlsxError.cell_t_attribute text) = inr (inr (inr (inr (inr (inr (inr (inr (inr (inr (inr (inr (inr (inr (inr (inr (inr (inl text)))))))))))))))))
-encode (XlsxError.unexpected text) = inr (inr (inr (inr (inr (inr (inr (inr (inr (inr (inr (inr (inr (inr (inr (inr (inr (inr (inl text))))))))))))))))))
-encode (XlsxError.unrecognized typ val) = inr (inr (inr (inr (inr (inr (inr (inr (inr (inr (inr (inr (inr (inr (inr (inr (inr (inr (inr (inl (typ, val))))))))))))))))))))
-encode (XlsxError.cell_error text) = inr (inr (inr (inr (inr (inr (inr (inr (inr (inr (inr (inr (inr (inr (inr (inr (inr (inr (inr (inr (inl text))))))))))))))))))))
-encode (XlsxError.worksheet_not_found text) = inr (inr (inr (inr (inr (inr (inr (inr (inr (inr (inr (inr (inr (inr (inr (inr (inr (inr (inr (inr (inr (inl text)))))))))))))))))))))
-encode (XlsxError.table_not_found text) = inr (inr (inr (inr (inr (inr (inr (inr (inr (inr (inr (inr (inr (inr (inr (inr (inr (inr (inr (inr (inr (inr (inl text))))))))))))))))))))))
-encode (XlsxError.not_a_worksheet text) = inr (inr (inr (inr (inr (inr (inr (inr (inr (inr (inr (inr (inr (inr (inr (inr (inr (inr (inr (inr (inr (inr (inr (inl text)))))))))))))))))))))))
-encode (XlsxError.pivot_table_not_found text) = inr (inr (inr (inr (inr (inr (inr (inr (inr (inr (inr (inr (inr (inr (inr (inr (inr (inr (inr (inr (inr (inr (inr (inr (inl text))))))))))))))))))))))))
+encode (XlsxError.parse_float text) = of_parts (inl text)
+encode (XlsxError.parse_int text) = of_parts (inr (inl text))
+encode (XlsxError.xml_eof text) = of_parts (inr (inr (inl text)))
+encode (XlsxError.unexpected_node text) = of_parts (inr (inr (inr (inl text))))
+encode (XlsxError.file_not_found text) = of_parts (inr (inr (inr (inr (inl text)))))
+encode XlsxError.relationship_not_found = of_references (inl tt)
+encode (XlsxError.alphanumeric number) = of_references (inr (inl number))
+encode XlsxError.range_without_column_component = of_references (inr (inr (inl tt)))
+encode XlsxError.range_without_row_component = of_references (inr (inr (inr (inl tt))))
+encode XlsxError.column_number_overflow = of_references (inr (inr (inr (inr (inl tt)))))
+encode XlsxError.row_number_overflow = of_cells (inl tt)
+encode (XlsxError.dimension_count number) = of_cells (inr (inl number))
+encode (XlsxError.cell_t_attribute text) = of_cells (inr (inr (inl text)))
+encode (XlsxError.unexpected text) = of_cells (inr (inr (inr (inl text))))
+encode (XlsxError.unrecognized typ val) = of_cells (inr (inr (inr (inr (inl (typ, val))))))
+encode (XlsxError.cell_error text) = of_names (inl text)
+encode (XlsxError.worksheet_not_found text) = of_names (inr (inl text))
+encode (XlsxError.table_not_found text) = of_names (inr (inr (inl text)))
+encode (XlsxError.not_a_worksheet text) = of_names (inr (inr (inr (inl text))))
+encode (XlsxError.pivot_table_not_found text) = of_names (inr (inr (inr (inr (inl text)))))
 
 decoded : (a : XlsxError) → decode (values_seen a) ≡ refusal_seen a
 decoded is.OutOfMemory = refl
@@ -206,7 +249,8 @@ values_eq a b =
     sum_eq (λ a b. pointwise nat_eq a.0.now b.0.now && string_eq a.1.0 b.1.0) (
     sum_eq (λ a b. string_eq a.0 b.0) (sum_eq (λ a b. string_eq a.0 b.0) (
     sum_eq (λ a b. string_eq a.0 b.0) (sum_eq (λ a b. string_eq a.0 b.0) (
-    sum_eq (λ a b. string_eq a.0 b.0) (λ _ _. false))))))))))))))))))))))))) (as_values a) (as_values b)
+    sum_eq (λ a b. string_eq a.0 b.0) (λ _ _. false)))))))))))))))))))))))))
+    (as_values a) (as_values b)
 
 same_eq : (a b : XlsxError) → error.ghosts.eq a b ≡ values_eq a b
 same_eq is.OutOfMemory b = refl
@@ -242,7 +286,9 @@ by_values a b =
     of_sums of_str (of_sums of_string (of_sums of_nothing (of_sums of_count (
     of_sums of_nothing (of_sums of_nothing (of_sums of_nothing (of_sums of_nothing (
     of_sums of_count (of_sums of_string (of_sums of_str (of_sums of_both (of_sums of_string (
-    of_sums of_string (of_sums of_string (of_sums of_string (of_sums of_string of_none)))))))))))))))))))))))) (as_values a) (as_values b)
+    of_sums of_string (of_sums of_string (of_sums of_string (of_sums of_string
+    of_none))))))))))))))))))))))))
+    (as_values a) (as_values b)
 
 pub refusal_law : IsEqualityBy refusal_seen error.ghosts.eq
 refusal_law a b = (
