@@ -1,5 +1,6 @@
 -- `==` of what cells hold is true exactly where the values are the same.
-use Rattle.std.proofs.Common.{◌≡◌, Bool, true, ◌&&◌, ◌↔◌, nat_eq, refl, ap, rules}
+use Rattle.std.proofs.Common.{◌≡◌, ℕ, Bool, true, false, ◌&&◌, ◌↔◌, nat_eq, refl, sym, ◌∙◌}
+use Rattle.std.proofs.Common.{ap, rules}
 use Rattle.std.specs.Bool.{Decides}
 use Rattle.std.specs.Cmp.{booleans_Decides, signed_Decides, unsigned_Decides}
 use Rattle.std.specs.Prelude.{string_bytes}
@@ -21,10 +22,11 @@ use Rattle.cell_data.specs.declared.value.DataRef.{DataRef}
 use Rattle.cell_data.specs.declared.value.DataRef.TheVariants as shared
 use Rattle.decimals.specs.Decimal.{number_of}
 use Rattle.equalities.specs.Equality.{IsEquality}
-use Rattle.equalities.proofs.Equality.{of_pairs, of_image, of_bool, of_number}
+use Rattle.equalities.proofs.Equality.{of_pairs, of_image, of_bool, of_number, unequal}
 use Rattle.decimals.proofs.Equality.{same_decimal, of_decimal}
 use Rattle.cell_data.specs.declared.cell.Cell.{Cell}
-use Rattle.cell_data.specs.CellValue.{value_of_data, value_of_data_ref, time_value}
+use Rattle.cell_data.specs.CellValue.{CellValue, value_of_data, value_of_data_ref, time_value}
+use Rattle.cell_data.specs.CellValue.{nothing, time}
 use Rattle.cell_data.specs.CellValue.{integer, number, text, shared_text, truth}
 use Rattle.cell_data.specs.CellValue.{iso_time, failure}
 
@@ -68,6 +70,23 @@ same_time a b same =
 same_number : (a b : Decimal) → decimal_eq a b ≡ true → number_of a ≡ number_of b
 same_number a b same = ap number_of ((of_decimal a b).0 same)
 
+-- which kind of value it is
+abbrev kind_of : CellValue → ℕ
+kind_of nothing = 0
+kind_of (integer n) = 1
+kind_of (number n) = 2
+kind_of (text bytes) = 3
+kind_of (shared_text place) = 4
+kind_of (truth b) = 5
+kind_of (time n kind is_1904) = 6
+kind_of (iso_time bytes) = 7
+kind_of (failure error) = 8
+
+-- values of two kinds differ
+kinds_differ : (v w : CellValue) → nat_eq (kind_of v) (kind_of w) ≡ false → v ≡ w → ⊥
+kinds_differ v w differ same =
+    unequal (sym differ ∙ (of_number (kind_of v) (kind_of w)).1 (ap kind_of same))
+
 data_from : (a b : Data) → data_eq a b ≡ true → value_of_data a ≡ value_of_data b
 data_from (owned.Int m) (owned.Int n) same = ap integer ((signed_Decides m n).0 same)
 data_from (owned.Decimal d) (owned.Decimal e) same = ap number (same_number d e same)
@@ -79,7 +98,7 @@ data_from (owned.DateTimeIso s) (owned.DateTimeIso t) same =
     ap iso_time ((bytes_eq-Decides (string_bytes s) (string_bytes t)).0 same)
 data_from (owned.Error e) (owned.Error f) same = ap failure ((of_error e f).0 same)
 data_from owned.Empty owned.Empty same = refl
-data_from _ _ same = absurd (cc)
+data_from _ _ same = absurd (unequal same)
 
 data_to : (a b : Data) → value_of_data a ≡ value_of_data b → data_eq a b ≡ true
 data_to (owned.Int m) (owned.Int n) same = (signed_Decides m n).1 (cc)
@@ -93,7 +112,7 @@ data_to (owned.DateTimeIso s) (owned.DateTimeIso t) same =
 data_to (owned.Error e) (owned.Error f) same =
     (of_error e f).1 (cc)
 data_to owned.Empty owned.Empty same = refl
-data_to _ _ same = absurd (cc)
+data_to a b same = absurd (kinds_differ (value_of_data a) (value_of_data b) refl same)
 
 -- the values that an owned cell holds
 pub data_law : (a b : Data) → Decides (data_eq a b) (value_of_data a ≡ value_of_data b)
@@ -111,7 +130,7 @@ ref_from (shared.DateTimeIso s) (shared.DateTimeIso t) same =
     ap iso_time ((bytes_eq-Decides (string_bytes s) (string_bytes t)).0 same)
 ref_from (shared.Error e) (shared.Error f) same = ap failure ((of_error e f).0 same)
 ref_from shared.Empty shared.Empty same = refl
-ref_from _ _ same = absurd (cc)
+ref_from _ _ same = absurd (unequal same)
 
 ref_to : (a b : DataRef) → value_of_data_ref a ≡ value_of_data_ref b → ref_eq a b ≡ true
 ref_to (shared.Decimal d) (shared.Decimal e) same = (of_decimal d e).1 (same_decimal d e (cc))
@@ -125,7 +144,8 @@ ref_to (shared.DateTimeIso s) (shared.DateTimeIso t) same =
 ref_to (shared.Error e) (shared.Error f) same =
     (of_error e f).1 (cc)
 ref_to shared.Empty shared.Empty same = refl
-ref_to _ _ same = absurd (cc)
+ref_to a b same =
+    absurd (kinds_differ (value_of_data_ref a) (value_of_data_ref b) refl same)
 
 -- the values that a cell holds with shared texts
 pub data_ref_law : (a b : DataRef) →

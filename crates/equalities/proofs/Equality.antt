@@ -6,6 +6,10 @@ use Rattle.std.specs.Cmp.Lexicographic.{pointwise}
 use Rattle.std.specs.Option.{option_eq}
 use Rattle.equalities.specs.Equality.{IsEquality, IsEqualityBy}
 
+-- what is true and false at once isn't
+pub unequal : false ≡ true → ⊥
+unequal same = absurd (cc)
+
 both_true : (p q : Bool) → (p && q) ≡ true → (p ≡ true) × (q ≡ true)
 both_true true q h = (refl, h)
 both_true false q h = absurd (cc)

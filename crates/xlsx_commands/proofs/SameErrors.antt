@@ -1,8 +1,11 @@
 -- `==` of errors of the program holds exactly where they are seen as the same.
-use Rattle.std.proofs.Common.{◌≡◌, true, refl, ap}
+use Rattle.std.proofs.Common.{◌≡◌, ℕ, true, false, nat_eq, refl, sym, ◌∙◌, ap}
 use Rattle.equalities.specs.Equality.{IsEqualityBy}
+use Rattle.equalities.proofs.Equality.{of_number, unequal}
 use Rattle.xlsx_error.proofs.SameRefusals.{refusal_law}
-use Rattle.xlsx_commands.specs.Status.{error_seen, of_book}
+use Rattle.xlsx_commands.specs.Status.{SeenError, error_seen, of_book, usage, read_fault}
+use Rattle.xlsx_commands.specs.Status.{input_too_large, not_a_package, write_fault, out_of_memory}
+use Rattle.xlsx_commands.specs.Status.{box_too_large}
 use Rattle.xlsx_commands.specs.contracts.error.ToolErrorPartialEq.TheImpl as error
 use Rattle.xlsx_commands.specs.declared.error.ToolError.{ToolError}
 use Rattle.xlsx_commands.specs.declared.error.ToolError.TheVariants as is
@@ -16,7 +19,23 @@ same_from is.WriteFault is.WriteFault same = refl
 same_from is.OutOfMemory is.OutOfMemory same = refl
 same_from is.BoxTooLarge is.BoxTooLarge same = refl
 same_from (is.Workbook e) (is.Workbook f) same = ap of_book ((refusal_law e f).0 same)
-same_from _ _ same = absurd (cc)
+same_from _ _ same = absurd (unequal same)
+
+-- which kind of error is seen
+abbrev kind_of : SeenError → ℕ
+kind_of usage = 0
+kind_of read_fault = 1
+kind_of input_too_large = 2
+kind_of not_a_package = 3
+kind_of (of_book refusal) = 4
+kind_of write_fault = 5
+kind_of out_of_memory = 6
+kind_of box_too_large = 7
+
+-- errors of two kinds differ
+kinds_differ : (v w : SeenError) → nat_eq (kind_of v) (kind_of w) ≡ false → v ≡ w → ⊥
+kinds_differ v w differ same =
+    unequal (sym differ ∙ (of_number (kind_of v) (kind_of w)).1 (ap kind_of same))
 
 same_to : (a b : ToolError) → error_seen a ≡ error_seen b → error.ghosts.eq a b ≡ true
 same_to is.Usage is.Usage same = refl
@@ -27,7 +46,7 @@ same_to is.WriteFault is.WriteFault same = refl
 same_to is.OutOfMemory is.OutOfMemory same = refl
 same_to is.BoxTooLarge is.BoxTooLarge same = refl
 same_to (is.Workbook e) (is.Workbook f) same = (refusal_law e f).1 (cc)
-same_to _ _ same = absurd (cc)
+same_to a b same = absurd (kinds_differ (error_seen a) (error_seen b) refl same)
 
 pub error_law : IsEqualityBy error_seen error.ghosts.eq
 error_law a b = (same_from a b, same_to a b)

@@ -6,25 +6,17 @@ use Rattle.std.specs.Prelude.{◌||◌, if◌then◌else◌}
 use Rattle.std.specs.Str.{bytes_eq}
 use Rattle.attr_text.specs.Attributes.{local_name_of}
 use Rattle.part_events.specs.Event.{Tag, Event, start}
-use Rattle.part_events.specs.Package.{PackageState}
 use Rattle.part_events.specs.Reading.{Reading}
 use Rattle.part_events.specs.declared.fault.XmlFault.TheVariants.{EndMismatch}
 use Rattle.xlsx_error.specs.declared.error.XlsxError.{XlsxError}
 use Rattle.xlsx_error.specs.declared.error.XlsxError.TheVariants.{OutOfMemory, Io, Xml, XmlEof}
-use Rattle.xlsx_sections.specs.Answers.{prepended, and_others, all_answers}
-use Rattle.xlsx_sections.specs.ElementLists.{element_said}
-use Rattle.xlsx_sections.specs.Elements.{ElementReadFails, IsInsideRefused}
+use Rattle.xlsx_sections.specs.Elements.{ElementReadFails}
 use Rattle.xlsx_sections.specs.PartSection.{IsStepError, inside_of, section_left}
-use Rattle.xlsx_sections.specs.Refusal.{Refusal, ElementFails, plain, plain_told}
-use Rattle.xlsx_sections.proofs.ElementsSaid.{elements_refused, found_there, StepsFrom}
-use Rattle.xlsx_sections.proofs.Kept.{behind_refused}
-use Rattle.xlsx_sections.proofs.ListsRead.{KeepsList, list_behind, list_from}
-use Rattle.xlsx_sections.proofs.Refused.{refused_as, told_weaker}
+use Rattle.xlsx_sections.specs.Refusal.{ElementFails, plain, plain_told}
+use Rattle.xlsx_sections.proofs.Refused.{told_weaker}
 use Rattle.xlsx_sections.proofs.SectionsRead.{same_tag}
-use Rattle.xlsx_sections.proofs.StartsSaid.{FailsFrom}
 use Rattle.xlsx_strings.specs.Strings.{end_in_string}
-use Rattle.xlsx_comments.specs.CommentParts.{Entry, is_entry, is_author, entry_said, entries_in}
-use Rattle.xlsx_comments.specs.CommentParts.{end_in_entry, end_in_entries, comment_start}
+use Rattle.xlsx_comments.specs.CommentParts.{is_author, entry_said, end_in_entry, comment_start}
 use Rattle.xlsx_comments.specs.CommentParts.{comment_said, author_said, with_start}
 use Rattle.xlsx_comments.specs.Comments.{IsCommentStartError, IsCommentsError}
 
@@ -85,27 +77,3 @@ comment_fails tag old new error is fails =
     (λ (inside : List Event). if b then Some (codes "author") else end_in_string inside)
     (λ (inside : List Event). if b then author_said inside else comment_said tag inside) old new
     error) (sym is) fails
-
--- one of the elements is refused, and so are all
-pub entries_refused : {base place : ℕ} {step : Option ℕ} {before kept : List Entry}
-    {first old : Reading} (new : Reading) (last : PackageState) (error : XlsxError)
-    → step ≡ Some place → KeepsList is_entry entry_said base before kept first old
-    → StepsFrom is_entry base step old new
-    → ((tag : Tag) → start tag ≡ new.source.current
-    → FailsFrom (end_in_entry tag) (IsInsideRefused (entry_said tag)) (length new.names) new last
-    error)
-    → FailsFrom end_in_entries (IsInsideRefused entries_in) base first last error
-entries_refused {base = base} {before = before} {kept = kept} {first = first} new last error is
-    list steps fails =
-    let found = found_there is list.keeps steps in
-    refused_as base first end_in_entries
-    (IsInsideRefused (list_from is_entry entry_said before)) (IsInsideRefused entries_in)
-    (record first { source = last }) error
-    (λ refusal refuses. behind_refused before
-    (entries_in (inside_of (section_left base first))) refuses)
-    (elements_refused {meaning = list_from is_entry entry_said before} (codes "comments")
-    end_in_entry (entry_said found.0) (list_behind entry_said) last error
-    (record { keeps = list.keeps; same = list.said }) found.2
-    (λ rest refusal refuses. ap (λ (answer : Result Entry Refusal).
-    prepended kept (and_others answer (all_answers (element_said entry_said) rest))) refuses)
-    (fails found.0 found.1))

@@ -17,12 +17,12 @@ ghost use Rattle.xlsx_comments.specs.Comments.{AreSheetCommentsError, comments_a
 ghost use Rattle.xlsx_comments.specs.Comments.{sheet_comments_ask};
 
 use crate::comment::Comments;
-use crate::entry::{Entry, read_entry};
+use crate::entry::{Entry, EntryReader};
 use part_events::{Package, XlReader};
 use std::alloc::{AllocError, Global};
 use xlsx_error::XlsxError;
 use xlsx_relationships::{ReadsRelated, push_related};
-use xlsx_sections::{enter_part, next_element_in};
+use xlsx_sections::{enter_part, keep_elements_in};
 
 const COMMENTS_TYPE: &str =
     "http://schemas.openxmlformats.org/officeDocument/2006/relationships/comments";
@@ -44,9 +44,7 @@ fn entries_in<P: Package>(xml: &mut XlReader<P>, base: usize) -> Result<Vec<Entr
 {
     let mut entries = Vec::new(xml.alloc());
     let names = ["author", "comment"];
-    'entries: while let Some(_at) = next_element_in(xml, base, &names, "comments")? {
-        entries.push(read_entry(xml)?)?;
-    }
+    keep_elements_in(xml, base, &names, "comments", &EntryReader, &mut entries)?;
     Ok(entries)
 }
 

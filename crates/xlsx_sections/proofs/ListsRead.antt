@@ -8,7 +8,8 @@ use Rattle.part_events.specs.Section.{Element, content}
 use Rattle.part_events.specs.Walk.{section_ahead, element_at}
 use Rattle.xlsx_error.specs.declared.error.XlsxError.{XlsxError}
 use Rattle.xlsx_sections.specs.Answers.{prepended, all_answers, and_others}
-use Rattle.xlsx_sections.specs.ElementLists.{element_said, list_said, end_in_list, end_inside}
+use Rattle.xlsx_sections.specs.ElementLists.{element_said, list_said, end_inside}
+use Rattle.xlsx_sections.specs.ElementLists.{end_in_elements}
 use Rattle.xlsx_sections.specs.Elements.{KeepsElements, IsInsideRefused}
 use Rattle.xlsx_sections.specs.Elements.{end_among}
 use Rattle.xlsx_sections.specs.PartSection.{Ending, Never, inside_of, section_left}
@@ -18,7 +19,7 @@ use Rattle.xlsx_sections.proofs.ElementsSaid.{elements_refused, found_there}
 use Rattle.xlsx_sections.proofs.Kept.{behind_refused}
 use Rattle.xlsx_sections.proofs.Kept.{prepended-and_others}
 use Rattle.xlsx_sections.proofs.Refused.{refused_as}
-use Rattle.xlsx_sections.proofs.StartsSaid.{FailsFrom, own_refused, section_stopped}
+use Rattle.xlsx_sections.proofs.StartsSaid.{FailsFrom, section_stopped}
 
 -- the elements of a list were read up to here, and what they say was put behind what was kept
 -- before
@@ -70,22 +71,22 @@ list_added {wanted = wanted} {meaning = meaning} {base = base} {kept = kept} {ne
 -- one of them is refused, and so is the list
 pub list_refused : {A : Type 0} {wanted : Tag → Bool}
     {meaning : Tag → List Event → Result A Refusal} {base place : ℕ} {step : Option ℕ}
-    {before kept : List A} {first old : Reading} (name : List ℕ) (ending : Ending) (new : Reading)
+    {before kept : List A} {first old : Reading} (name : List ℕ) (ending : Tag → Ending) (new : Reading)
     (last : PackageState) (error : XlsxError) → step ≡ Some place
     → KeepsList wanted meaning base before kept first old → StepsFrom wanted base step old new
     → ((tag : Tag) → start tag ≡ new.source.current
-    → FailsFrom ending (IsInsideRefused (meaning tag)) (length new.names) new last error)
-    → FailsFrom (end_in_list wanted name ending) (IsInsideRefused (list_said wanted meaning)) base
+    → FailsFrom (ending tag) (IsInsideRefused (meaning tag)) (length new.names) new last error)
+    → FailsFrom (end_in_elements wanted name ending) (IsInsideRefused (list_said wanted meaning)) base
     first last error
 list_refused {wanted = wanted} {meaning = meaning} {base = base} {before = before} {kept =
     kept} {first = first} name ending new last error is list steps fails =
     let found = found_there is list.keeps steps in
-    refused_as base first (end_in_list wanted name ending)
+    refused_as base first (end_in_elements wanted name ending)
     (IsInsideRefused (list_from wanted meaning before))
     (IsInsideRefused (list_said wanted meaning)) (record first { source = last }) error
     (λ refusal refuses. behind_refused before
     (list_said wanted meaning (inside_of (section_left base first))) refuses)
-    (elements_refused name (λ tag. ending) (meaning found.0) (list_behind meaning) last error
+    (elements_refused name ending (meaning found.0) (list_behind meaning) last error
     (list_kept list) found.2
     (λ rest refusal refuses. ap (λ (answer : Result _ Refusal).
     prepended kept (and_others answer (all_answers (element_said meaning) rest))) refuses)
@@ -94,43 +95,14 @@ list_refused {wanted = wanted} {meaning = meaning} {base = base} {before = befor
 -- the step to the next one is refused, and so is the list
 pub list_stopped : {A : Type 0} {wanted : Tag → Bool}
     {meaning : Tag → List Event → Result A Refusal} {base : ℕ} {before kept : List A}
-    {first old : Reading} (name : List ℕ) (ending : Ending) (last : PackageState)
+    {first old : Reading} (name : List ℕ) (ending : Tag → Ending) (last : PackageState)
     (error : XlsxError) → KeepsList wanted meaning base before kept first old
     → ((from : Reading) (inner : Element → Option (List ℕ)) → KeepsElements wanted base from old
     → FailsFrom (end_among wanted name inner) Never base from last error)
-    → FailsFrom (end_in_list wanted name ending) (IsInsideRefused (list_said wanted meaning)) base
+    → FailsFrom (end_in_elements wanted name ending) (IsInsideRefused (list_said wanted meaning)) base
     first last error
 list_stopped {wanted = wanted} {meaning = meaning} {base = base} {first =
     first} name ending last error list fails =
-    section_stopped base first (end_in_list wanted name ending)
+    section_stopped base first (end_in_elements wanted name ending)
     (IsInsideRefused (list_said wanted meaning)) last error
     (fails first (end_inside ending) list.keeps)
-
--- where the list is all that stands in an element, that element is refused
-pub own_list_refused : {A : Type 0} {wanted : Tag → Bool}
-    {meaning : Tag → List Event → Result A Refusal} {base place : ℕ} {step : Option ℕ}
-    {before kept : List A} {first old : Reading} (name : List ℕ) (ending : Ending) (new : Reading)
-    (last : PackageState) (error : XlsxError) → base ≡ length first.names → step ≡ Some place
-    → KeepsList wanted meaning base before kept first old → StepsFrom wanted base step old new
-    → ((tag : Tag) → start tag ≡ new.source.current
-    → FailsFrom ending (IsInsideRefused (meaning tag)) (length new.names) new last error)
-    → FailsFrom (end_in_list wanted name ending) (IsInsideRefused (list_said wanted meaning))
-    (length first.names) first last error
-own_list_refused {wanted = wanted} {meaning = meaning} {first = first} name ending new last error
-    own is list steps fails =
-    own_refused first (end_in_list wanted name ending) (IsInsideRefused (list_said wanted meaning))
-    last error own (list_refused name ending new last error is list steps fails)
-
-pub own_list_stopped : {A : Type 0} {wanted : Tag → Bool}
-    {meaning : Tag → List Event → Result A Refusal} {base : ℕ} {before kept : List A}
-    {first old : Reading} (name : List ℕ) (ending : Ending) (last : PackageState)
-    (error : XlsxError) → base ≡ length first.names
-    → KeepsList wanted meaning base before kept first old
-    → ((from : Reading) (inner : Element → Option (List ℕ)) → KeepsElements wanted base from old
-    → FailsFrom (end_among wanted name inner) Never base from last error)
-    → FailsFrom (end_in_list wanted name ending) (IsInsideRefused (list_said wanted meaning))
-    (length first.names) first last error
-own_list_stopped {wanted = wanted} {meaning = meaning} {first = first} name ending last error own
-    list fails =
-    own_refused first (end_in_list wanted name ending) (IsInsideRefused (list_said wanted meaning))
-    last error own (list_stopped name ending last error list fails)

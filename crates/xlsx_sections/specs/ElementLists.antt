@@ -18,12 +18,17 @@ abbrev pub list_said :
     → Result (List A) Refusal
 list_said wanted meaning inside = all_answers (element_said meaning) (outermost wanted inside)
 
--- the end that is told missing inside an element
-abbrev pub end_inside : (List Event → Option (List ℕ)) → Element → Option (List ℕ)
-end_inside ending element = ending element.inside
+-- the end that is told missing inside an element, by its start and what stands in it
+abbrev pub end_inside : (Tag → List Event → Option (List ℕ)) → Element → Option (List ℕ)
+end_inside ending element = ending element.tag element.inside
 
--- how the end of the part is told in a list of this name: in one of its elements by what stands in
--- it, and elsewhere by the list's name
+-- how the end of the part is told in a list of this name: in one of its elements by its start and
+-- what stands in it, and elsewhere by the list's name
+abbrev pub end_in_elements :
+    (Tag → Bool) → List ℕ → (Tag → List Event → Option (List ℕ)) → List Event → Option (List ℕ)
+end_in_elements wanted name ending inside = end_among wanted name (end_inside ending) inside
+
+-- and where all its elements tell it in one way
 abbrev pub end_in_list :
     (Tag → Bool) → List ℕ → (List Event → Option (List ℕ)) → List Event → Option (List ℕ)
-end_in_list wanted name ending inside = end_among wanted name (end_inside ending) inside
+end_in_list wanted name ending inside = end_in_elements wanted name (λ tag. ending) inside

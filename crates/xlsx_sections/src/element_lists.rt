@@ -1,14 +1,17 @@
-ghost use Rattle.std.specs.Prelude.{◌≡◌, ℕ, List, map, true, Ok, Result, Option, IfOk, OnOk};
-ghost use Rattle.std.specs.Prelude.{IfErr};
+ghost use Rattle.std.specs.Prelude.{◌≡◌, ◌≤◌, ℕ, List, length, map, suc, true, Ok, Result};
+ghost use Rattle.std.specs.Prelude.{Option, IfOk, OnOk, IfErr};
 ghost use Rattle.part_events.specs.Event.{Tag, Event, start};
+ghost use Rattle.part_events.specs.Reading.{IsReading, ReadsPart};
 ghost use Rattle.part_events.specs.Reading.{IsReadingElement, ReadsElement, ahead};
 ghost use Rattle.part_events.specs.Section.{content};
+ghost use Rattle.part_events.specs.Walk.{section_ahead};
 ghost use Rattle.xlsx_error.specs.declared.error.XlsxError.{XlsxError};
 ghost use Rattle.xlsx_error.specs.declared.error.XlsxError.TheVariants.{Io};
 ghost use Rattle.xlsx_sections.specs.Answers.{prepended};
-ghost use Rattle.xlsx_sections.specs.ElementLists.{list_said, end_in_list};
-ghost use Rattle.xlsx_sections.specs.Elements.{ElementReadFails, named_among};
-ghost use Rattle.xlsx_sections.specs.PartSection.{IsStepError};
+ghost use Rattle.xlsx_sections.specs.ElementLists.{list_said, end_in_elements};
+ghost use Rattle.xlsx_sections.specs.Elements.{ElementReadFails, IsInsideRefused, ReachesEnd};
+ghost use Rattle.xlsx_sections.specs.Elements.{named_among};
+ghost use Rattle.xlsx_sections.specs.PartSection.{IsStepError, SectionFails};
 ghost use Rattle.xlsx_sections.specs.Refusal.{Refusal};
 
 use crate::elements::next_element_in;
@@ -25,7 +28,7 @@ pub trait ReadsEach {
 
     ghost meaning: { Self → Tag → List Event → Result Kept Refusal };
 
-    ghost ending: { List Event → Option (List ℕ) };
+    ghost ending: { Tag → List Event → Option (List ℕ) };
 
     ghost section: { List ℕ };
 
@@ -39,17 +42,49 @@ pub trait ReadsEach {
             start tag ≡ xml.old.source.current →
             meaning self.now tag (content 0 (ahead xml.old)) ≡ Ok (said item)) }
         ensures err { IfErr result (λ error. (tag : Tag) → start tag ≡ xml.old.source.current →
-            ElementReadFails ending (meaning self.now tag) xml.old xml.new error) }
+            ElementReadFails (ending tag) (meaning self.now tag) xml.old xml.new error) }
         ensures kind { IfErr result Kind };
 
     ghost kinds: { (error : XlsxError) → IsStepError section error → Kind error };
 }
 
-/// Appends what the outermost elements of these local names say in the element at whose start the
-/// package stands, which is read to its end.
+/// Appends what the outermost elements of these local names say in a section, whose element is
+/// number `base` of the open ones, counted from 1. Reads to the section's end.
 ///
 /// A part that ends between them is `XmlEof(section)`, and an end that breaks the nesting is
 /// `Xml(EndMismatch)` with its number in the part, counted from 0.
+pub fn keep_elements_in<P: Package, R: ReadsEach>(
+    xml: &mut XlReader<P>,
+    base: usize,
+    names: &[&str],
+    section: &'static str,
+    by: &R,
+    items: &mut Vec<R::Item>,
+) -> Result<(), XlsxError>
+    requires reading { IsReading xml.old }
+    requires within { base ≤ length xml.old.names }
+    requires section { section.now ≡ R.section }
+    ensures reads { ReadsPart Io result xml.old xml.new }
+    ensures depth { OnOk result (suc (length xml.new.names) ≡ base) }
+    ensures reaches { xml.old.source.is_told ≡ true →
+        OnOk result (ReachesEnd base xml.old xml.new) }
+    ensures kept { let list = list_said (named_among names.now) (R.meaning by.now) (section_ahead
+        base xml.old) in
+        xml.old.source.is_told ≡ true → OnOk result
+        (prepended (map R.said items.old.items) list ≡ Ok (map R.said items.new.items)) }
+    ensures err { let wanted = named_among names.now in
+        IfErr result (SectionFails (end_in_elements wanted section.now R.ending)
+        (IsInsideRefused (list_said wanted (R.meaning by.now))) base xml.old xml.new) }
+    ensures kind { IfErr result R.Kind }
+{
+    'elements: while let Some(_at) = next_element_in(xml, base, names, section)? {
+        items.push(by.read(xml)?)?;
+    }
+    Ok(())
+}
+
+/// Appends what the outermost elements of these local names say in the element at whose start the
+/// reader stands, which is read to its end. Is refused as `keep_elements_in`.
 pub fn keep_elements<P: Package, R: ReadsEach>(
     xml: &mut XlReader<P>,
     names: &[&str],
@@ -65,13 +100,10 @@ pub fn keep_elements<P: Package, R: ReadsEach>(
         xml.old.source.is_told ≡ true → OnOk result
         (prepended (map R.said items.old.items) list ≡ Ok (map R.said items.new.items)) }
     ensures err { let wanted = named_among names.now in
-        IfErr result (ElementReadFails (end_in_list wanted section.now R.ending)
+        IfErr result (ElementReadFails (end_in_elements wanted section.now R.ending)
         (list_said wanted (R.meaning by.now)) xml.old xml.new) }
     ensures kind { IfErr result R.Kind }
 {
     let base = xml.depth();
-    'elements: while let Some(_at) = next_element_in(xml, base, names, section)? {
-        items.push(by.read(xml)?)?;
-    }
-    Ok(())
+    keep_elements_in(xml, base, names, section, by, items)
 }

@@ -14,8 +14,8 @@
 //! **A list has no loop of its own.** A keeper (`Keeps`) says by a ghost function what a start
 //! makes of what is held, and `keep_starts` is the one loop over starts. `Reads` says what one
 //! start gives: of these `keep_all` keeps all, and `keep_last` the last. `ReadsEach` says what one
-//! element says, and `keep_elements` is the loop over these. A loop that keeps more than that asks
-//! for the next start, event or element, hands it on, and has one invariant: what is kept, with
+//! element says, and `keep_elements_in` is the loop over these. A loop that keeps more than that
+//! asks for the next start, event or element, hands it on, and has one invariant: what is kept, with
 //! what the rest says, is what the whole says.
 //!
 //! **Where a part ends is told by what stands in the section.** The text of `XmlEof` is a function
@@ -51,7 +51,7 @@ mod numbers;
 mod section;
 
 pub use decode::{decode_at, name_by, push_text_at};
-pub use element_lists::{ReadsEach, keep_elements};
+pub use element_lists::{ReadsEach, keep_elements, keep_elements_in};
 pub use elements::{
     next_child_in, next_element_in, read_element_text, read_to_end, skip_element_in,
 };

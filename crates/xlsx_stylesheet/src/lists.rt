@@ -45,7 +45,7 @@ impl ReadsEach for FontReader<'_> {
 
     ghost meaning = { λ r. font_said r.theme_colors.now };
 
-    ghost ending = { always (codes "font") };
+    ghost ending = { λ tag. always (codes "font") };
 
     ghost section = { codes "fonts" };
 
@@ -92,7 +92,7 @@ impl ReadsEach for FillReader<'_> {
 
     ghost meaning = { λ r. fill_said r.theme_colors.now };
 
-    ghost ending = { always (codes "fill") };
+    ghost ending = { λ tag. always (codes "fill") };
 
     ghost section = { codes "fills" };
 
@@ -168,7 +168,7 @@ impl ReadsEach for BorderReader<'_> {
 
     ghost meaning = { λ r. border_said r.theme_colors.now };
 
-    ghost ending = { end_in_border };
+    ghost ending = { λ tag. end_in_border };
 
     ghost section = { codes "borders" };
 
@@ -213,7 +213,7 @@ impl ReadsEach for FormatReader<'_> {
 
     ghost meaning = { λ r. formatting_of (named_kept r.lists.now) };
 
-    ghost ending = { always (codes "xf") };
+    ghost ending = { λ tag. always (codes "xf") };
 
     ghost section = { codes "cellXfs" };
 

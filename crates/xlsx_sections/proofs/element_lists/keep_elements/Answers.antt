@@ -1,40 +1,20 @@
-use Rattle.std.proofs.Common.{[], ◌∷◌}
-use Rattle.std.proofs.lemmas.List.{map-append}
-use Rattle.std.proofs.lemmas.Result.{err_from_is_err_and}
-use Rattle.xlsx_sections.proofs.Failing.{given_back}
-use Rattle.xlsx_sections.proofs.ListsRead.{list_added, own_list_refused, own_list_stopped}
-use Rattle.xlsx_sections.proofs.SectionsRead.{leaves_further}
+use Rattle.std.proofs.lemmas.Result.{IfErr-weaker}
+use Rattle.xlsx_sections.specs.ElementLists.{list_said, end_in_elements}
+use Rattle.xlsx_sections.specs.Elements.{IsInsideRefused, ElementReadFails, named_among}
+use Rattle.xlsx_sections.specs.PartSection.{SectionFails}
+use Rattle.xlsx_sections.proofs.StartsSaid.{own_refused}
 use Rattle.xlsx_sections.proofs.element_lists.keep_elements.Goals as goal
 
-pub returns-in_err-_at-clause-err : goal.returns-in_err-_at-clause-err
-returns-in_err-_at-clause-err g c =
-    given_back _ c.from_residual.result c.from_residual.ensures.1
-    (own_list_stopped c.args.section.now g.R.ReadsEach.ending
-    c.next_element_in.new.xml.source _ c.depth-base.ensures c.elements.invariant
-    c.in_err-_at.ensures.refused)
-
-pub returns-in_err-read-clause-err : goal.returns-in_err-read-clause-err
-returns-in_err-read-clause-err g c =
-    given_back _ c.from_residual-in_err-read.result c.from_residual-in_err-read.ensures.1
-    (own_list_refused c.args.section.now g.R.ReadsEach.ending _
-    c.read.new.xml.source _ c.depth-base.ensures c.in-Some.is
-    c.elements.invariant c.in_ok-_at.ensures.step c.in_err-read.ensures.err)
-
-pub elements-preserved : goal.elements-preserved
-elements-preserved g c =
-    let said = g.R.ReadsEach.said in
-    rw (
-      c.in_ok-push.ensures.items,
-      map-append said c.elements.items.items (c.in_ok-read.field-0 ∷ []),
-    )
-    (list_added (said c.in_ok-read.field-0) c.in-Some.is c.elements.invariant
-    c.in_ok-_at.ensures.step c.in_ok-read.ensures.reads
-    (λ told tag current. c.in_ok-read.ensures.said told tag current))
-
-pub returns-in_err-read-clause-reads : goal.returns-in_err-read-clause-reads
-returns-in_err-read-clause-reads g c =
-    let p = err_from_is_err_and c.from_residual-in_err-read.result
-    c.from_residual-in_err-read.ensures.1 in
-    rw (p.1, p.2)
-    (leaves_further c.elements.invariant.keeps.section.reads
-    (leaves_further c.in_ok-_at.ensures.reads c.in_err-read.ensures.reads))
+pub returns-clause-err : goal.returns-clause-err
+returns-clause-err g c =
+    let old = c.args.xml.now in
+    let new = c.keep_elements_in.new.xml in
+    let wanted = named_among c.args.names.now in
+    let ending = end_in_elements wanted c.args.section.now g.R.ReadsEach.ending in
+    let meaning = list_said wanted (g.R.ReadsEach.meaning c.args.by.now) in
+    IfErr-weaker c.keep_elements_in.result
+    (SectionFails ending (IsInsideRefused meaning) c.depth-base.result old new)
+    (ElementReadFails ending meaning old new)
+    (λ error. own_refused old ending (IsInsideRefused meaning) new.source error
+    c.depth-base.ensures)
+    c.keep_elements_in.ensures.err

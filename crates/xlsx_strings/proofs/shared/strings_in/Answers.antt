@@ -8,14 +8,14 @@ use Rattle.xlsx_strings.proofs.shared.strings_in.Goals as goal
 pub returns-in_err-_at-clause-err : goal.returns-in_err-_at-clause-err
 returns-in_err-_at-clause-err g c =
     given_back _ c.from_residual.result c.from_residual.ensures.1
-    (list_stopped (codes "sst") end_in_string c.next_element_in.new.xml.source _
+    (list_stopped (codes "sst") (λ tag. end_in_string) c.next_element_in.new.xml.source _
     c.strings.invariant c.in_err-_at.ensures.refused)
 
 pub returns-in_err-read_string-clause-err : goal.returns-in_err-read_string-clause-err
 returns-in_err-read_string-clause-err g c =
     given_back _ c.from_residual-in_err-read_string.result
     c.from_residual-in_err-read_string.ensures.1
-    (list_refused (codes "sst") end_in_string _ c.read_string.new.xml.source _
+    (list_refused (codes "sst") (λ tag. end_in_string) _ c.read_string.new.xml.source _
     c.in-Some.is c.strings.invariant c.in_ok-_at.ensures.step
     (λ tag current. c.in_err-read_string.ensures.err))
 

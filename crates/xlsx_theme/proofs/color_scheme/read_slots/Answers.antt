@@ -31,5 +31,5 @@ returns-in_err-read_slot-clause-err g c =
     given_back _ c.from_residual-in_err-read_slot.result c.from_residual-in_err-read_slot.ensures.1
     (told_by_number c.args.base (end_in_list is_slot [] (named_end None))
     (IsInsideRefused slot_colors) old last error c.in_err-read_slot.ensures.kind
-    (list_refused [] (named_end None) _ last.source error c.in-Some.is c.slots.invariant
+    (list_refused [] (λ tag. named_end None) _ last.source error c.in-Some.is c.slots.invariant
     c.in_ok-_at.ensures.step (λ tag current. c.in_err-read_slot.ensures.err)))

@@ -1,7 +1,7 @@
 use Rattle.std.proofs.Common.{map}
 use Rattle.xlsx_sections.specs.Elements.{named_among}
 use Rattle.xlsx_sections.proofs.ListsRead.{KeepsList}
-use Rattle.xlsx_sections.proofs.element_lists.keep_elements.Given as goal
+use Rattle.xlsx_sections.proofs.element_lists.keep_elements_in.Given as goal
 
 abbrev pub invariant-elements : goal.invariant-elements
 invariant-elements g l =
