@@ -1,7 +1,6 @@
 -- Cells in the order of positions, and the last of each position.
 use Rattle.std.proofs.Common.{◌≡◌, ℕ, Bool, true, false, cond, ◌&&◌}
-use Rattle.std.proofs.Common.{List, [], ◌∷◌, ◌++◌, length, Some, None, Option, refl, sym, ap, ◌∙◌}
-use Rattle.std.proofs.Common.{arith}
+use Rattle.std.proofs.Common.{List, [], ◌∷◌, ◌++◌, Some, None, Option, refl, sym, ap, ◌∙◌}
 use Rattle.std.specs.Prelude.{reverse}
 use Rattle.std.specs.declared.cmp.Ordering.{Ordering}
 use Rattle.std.specs.declared.cmp.Ordering.TheVariants.{Less, Equal, Greater}
@@ -12,13 +11,13 @@ use Rattle.std.specs.FinMap.{len-empty, same_map, get-from_entries, entries_sort
 use Rattle.std.specs.FinMap.Entries.{by_order, below_all}
 use Rattle.std.specs.Option.{option_or}
 use Rattle.std.specs.Ordering.{is_lt, eq_by_cmp, match_ordering}
-use Rattle.std.proofs.lemmas.List.{append_assoc, reverse-append, map-append}
+use Rattle.std.proofs.lemmas.List.{append_assoc, reverse-append, map-append, nil_from_length}
 use Rattle.cell_data.specs.declared.cell.Cell.{Cell}
 use Rattle.cell_data.specs.Cells.{cell_entry, placed_cells}
 use Rattle.cell_refs.specs.Positions.{position_cmp, last_of_each, is_rising}
 use Rattle.cell_refs.proofs.PositionOrder.{position_total, position_same, to_T, from_T, and_both}
-use Rattle.cell_refs.proofs.PositionOrder.{less_from, equal_from}
-use Rattle.sorted_cells.proofs.Finding.{found_in_two, none_behind}
+use Rattle.cell_refs.proofs.PositionOrder.{less_from, equal_from, none_behind}
+use Rattle.sorted_cells.proofs.Finding.{found_in_two}
 
 module _ {X : Type 0} where
   order_alike : (o : Ordering) (a b c d : List ((ℕ × ℕ) × X)) → c ≡ d →
@@ -35,15 +34,12 @@ module _ {X : Type 0} where
       (e ∷ insert_entry position_cmp es k v) (e ∷ put position_cmp k v es)
       (ap (λ fs. e ∷ fs) (inserted_is_put es k v))
 
-  no_length : (es : List ((ℕ × ℕ) × X)) → length es ≡ 0 → es ≡ []
-  no_length [] none = refl
-  no_length (e ∷ es) none = absurd (omega arith)
-
   -- no cell
   pub nothing_last : last_of_each {X = X} [] ≡ []
   unfolding last_of_each
   nothing_last =
-      no_length _ (sym (len-entries (empty {X = X} {R = position_cmp})) ∙ len-empty position_cmp X)
+      nil_from_length _
+      (sym (len-entries (empty {X = X} {R = position_cmp})) ∙ len-empty position_cmp X)
 
   pub none_placed : entries (empty {X = X} {R = position_cmp}) ≡ []
   unfolding last_of_each

@@ -10,8 +10,8 @@ use Rattle.std.specs.FinMap.Entries.{below_all}
 use Rattle.std.specs.Ordering.{is_lt, is_le, is_eq, ordering_reverse, eq_by_cmp}
 use Rattle.cell_refs.specs.Positions.{position_cmp, is_rising}
 use Rattle.cell_refs.proofs.PositionOrder.{position_total, tied_same, and_both, less_from}
+use Rattle.cell_refs.proofs.PositionOrder.{none_behind}
 use Rattle.sorted_cells.specs.Placed.{value_first, left_behind}
-use Rattle.sorted_cells.proofs.Finding.{none_behind}
 use Rattle.cell_data.specs.Splitting.{AreInOrder, given, none_earlier, Splits}
 use Rattle.cell_data.proofs.Placing.{below_further}
 

@@ -11,6 +11,7 @@ use Rattle.std.specs.FinMap.{len-empty, get-entries, get-from_entries, entries_s
 use Rattle.std.specs.FinMap.Entries.{by_order, below_all, same_entries}
 use Rattle.std.specs.Option.{option_map, option_or, unwrap_or}
 use Rattle.std.specs.Ordering.{is_lt, is_le, is_eq, eq_by_cmp}
+use Rattle.std.proofs.lemmas.List.{nil_from_length}
 use Rattle.cell_refs.specs.Positions.{position_cmp}
 use Rattle.cell_refs.specs.declared.TheConstants.{MAX_ROWS, MAX_COLUMNS}
 use Rattle.cell_refs.proofs.PositionOrder.{position_total, position_same, and_both, to_T, from_T}
@@ -222,15 +223,11 @@ first_entries p some whole rest adds is below =
     (and_true (eq_by_cmp position_cmp q p))
     ∙ ap (cond (eq_by_cmp position_cmp q p) (Some tt)) (sym (found_entries q rest)))
 
-no_entries : (es : List ((ℕ × ℕ) × Unit {0})) → length es ≡ 0 → es ≡ []
-no_entries [] none = refl
-no_entries (e ∷ es) none = absurd (omega arith)
-
 -- without entries there is no position
 pub no_positions : positions_of [] ≡ []
 no_positions =
     ap (map (λ e. e.0))
-    (no_entries (entries (empty {X = Unit {0}} {R = position_cmp}))
+    (nil_from_length (entries (empty {X = Unit {0}} {R = position_cmp}))
     (sym (len-entries (empty {X = Unit {0}} {R = position_cmp}))
     ∙ len-empty position_cmp (Unit {0})))
 

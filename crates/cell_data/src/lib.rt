@@ -22,8 +22,8 @@
 //! do `cells` and `rows`: at a place the cells left are those of the range that stand there or
 //! behind it (`AreLeftAt`), so the first of them has the value, or the blank has it. A row takes a
 //! copy of where `rows` stands, and `rows` passes its cells at once. What goes through several
-//! lists steps along `used` by `next_at`, from the earliest of their next positions (`earlier`), and
-//! looks none up.
+//! lists steps along `used` by `next_at`, from the earliest of their next positions (`earlier`),
+//! and looks none up.
 //!
 //! Its lemma files: `Areas` and `LeastAreas` (the areas of cells), `Placing` and `Passing` (the
 //! last of each position, also among those that pass a test), `Splitting` (a step through cells in

@@ -1,12 +1,12 @@
 -- The order of positions, and tests of it.
 use Rattle.std.proofs.Common.{◌≡◌, ℕ, Bool, true, false, ◌&&◌, T, refl, sym, ap, ◌∙◌}
 use Rattle.std.proofs.Common.{subst}
-use Rattle.std.proofs.Common.{List, [], ◌∷◌, map}
+use Rattle.std.proofs.Common.{List, [], ◌∷◌, map, cond, Some, None}
 use Rattle.std.specs.List.{list_all}
 use Rattle.std.specs.declared.cmp.Ordering.{Ordering}
 use Rattle.std.specs.declared.cmp.Ordering.TheVariants.{Less, Equal, Greater}
 use Rattle.std.specs.Cmp.{IsTotalOrder}
-use Rattle.std.specs.FinMap.{IsAntisymmetric, nat_cmp-IsAntisymmetric}
+use Rattle.std.specs.FinMap.{find, IsAntisymmetric, nat_cmp-IsAntisymmetric}
 use Rattle.std.specs.FinMap.Entries.{below_all}
 use Rattle.std.specs.Ordering.{nat_cmp, ordering_then, is_lt, is_eq, eq_by_cmp}
 use Rattle.std.proofs.lemmas.Cmp.{then_total, on_total, nat_cmp_total}
@@ -48,6 +48,16 @@ pub less_from : (o : Ordering) → is_lt o ≡ true → o ≡ Less
 less_from Less yields = refl
 less_from Equal yields = absurd (cc)
 less_from Greater yields = absurd (cc)
+
+-- what stands behind a key does not tie with it
+pub none_behind : {K X : Type 0} (cmp : K → K → Ordering) → IsTotalOrder cmp → (q x : K)
+    (es : List (K × X)) → cmp q x ≡ Equal → below_all cmp x es ≡ true → find cmp q es ≡ None
+none_behind cmp total q x [] same below = refl
+none_behind cmp total q x (e ∷ es) same below =
+    let (first, rest) = and_both (is_lt (cmp x e.0)) (below_all cmp x es) below in
+    let apart : eq_by_cmp cmp q e.0 ≡ false =
+    ap is_eq (total.congr q x e.0 same ∙ less_from _ first) in
+    ap (λ t. cond t (Some e.1) (find cmp q es)) apart ∙ none_behind cmp total q x es same rest
 
 -- each of these positions lies behind the one before it
 abbrev pub positions_rise : List (ℕ × ℕ) → Bool

@@ -5,17 +5,16 @@ use Rattle.std.proofs.Common.{None}
 use Rattle.std.proofs.Common.{refl, sym, ◌∙◌, ap, subst, inl, inr, arith}
 use Rattle.std.specs.Cmp.{tied_itself}
 use Rattle.std.specs.FinMap.{find}
-use Rattle.std.specs.FinMap.Entries.{below_all}
 use Rattle.std.specs.Borrow.{Bor}
 use Rattle.std.specs.Prelude.{length, nat_lt, is_some, IfSome}
 use Rattle.std.specs.Option.{option_copied, unwrap_or}
 use Rattle.std.proofs.lemmas.Option.{slice_get_past, slice_get_read}
-use Rattle.std.specs.Ordering.{is_lt, is_eq, ordering_reverse, eq_by_cmp}
+use Rattle.std.specs.Ordering.{is_eq, ordering_reverse, eq_by_cmp}
 use Rattle.std.proofs.lemmas.Bool.Decides.{eqb_tells, nat_tests}
 use Rattle.cell_refs.specs.Dimensions.{IsInArea}
 use Rattle.cell_refs.specs.Positions.{is_in_area, position_cmp}
 use Rattle.cell_refs.specs.declared.dimensions.Dimensions.{Dimensions}
-use Rattle.cell_refs.proofs.PositionOrder.{position_total, and_both, less_from}
+use Rattle.cell_refs.proofs.PositionOrder.{position_total, none_behind}
 use Rattle.cell_styles.specs.StyleItems.{styled_along, styled_in, styled_of, styled_entry}
 use Rattle.cell_styles.specs.StyleItems.{id_among, style_by, style_named}
 use Rattle.cell_styles.specs.StyleMap.{StyleMap, IsSound, position_in, place_in, width_in}
@@ -25,16 +24,6 @@ use Rattle.cell_styles.proofs.CellLists.{position_of_place}
 use Rattle.cell_styles.proofs.Lookups.{inside_test}
 use Rattle.cell_styles.proofs.StyledLists.{styled_are}
 use Rattle.cell_styles.proofs.StyledOrder.{places_rise, below_styled}
-
-none_below : (p : ℕ × ℕ) (es : List ((ℕ × ℕ) × ℕ)) → below_all position_cmp p es ≡ true
-    → find position_cmp p es ≡ None
-none_below p [] below = refl
-none_below p (e ∷ es) below =
-    let (first, rest) =
-    and_both (is_lt (position_cmp p e.0)) (below_all position_cmp p es) below in
-    ap (λ o. cond (is_eq o) (Some e.1) (find position_cmp p es))
-    (less_from (position_cmp p e.0) first)
-    ∙ none_below p es rest
 
 module _ (area : Dimensions) (some : 0 < width_in area) where
   apart : (p q : ℕ) → p < q
@@ -57,7 +46,8 @@ module _ (area : Dimensions) (some : 0 < width_in area) where
       let later = listed (place + 1) ids in
       ap (λ n. unwrap_or (find position_cmp (position_in area n) (listed place (id ∷ ids))) 0) here
       ∙ elim (eqb_tells id 0) [
-        | inl none ↦ rw (none.0) (ap (λ (o : Option ℕ). unwrap_or o 0) (none_below p later
+        | inl none ↦ rw (none.0) (ap (λ (o : Option ℕ). unwrap_or o 0)
+            (none_behind position_cmp position_total p p later (tied_itself position_total p)
             (below_styled area place (place + 1) ids some (omega arith))) ∙ sym none.1)
         | inr other ↦ rw (other.0)
             (ap (λ t. unwrap_or (cond t (Some id) (find position_cmp p later)) 0)

@@ -7,11 +7,12 @@ use Rattle.std.proofs.lemmas.Bool.Decides.{nat_tests}
 use Rattle.std.proofs.lemmas.List.Elements.{All-head, All-tail, All-cons}
 use Rattle.cell_refs.specs.Dimensions.{IsInArea}
 use Rattle.cell_refs.specs.declared.dimensions.Dimensions.{Dimensions}
+use Rattle.cell_refs.proofs.PositionOrder.{and_both}
 use Rattle.cell_styles.specs.declared.style.Style.{Style}
 use Rattle.cell_styles.specs.StyleMap.{StyledCell, is_explicit, is_at, first_id_at, widened}
 use Rattle.cell_styles.specs.StyleMap.{covering_area, position_in, places, styles_in, styles_of}
 use Rattle.cell_styles.specs.StyleMap.{IsInBounds}
-use Rattle.cell_styles.proofs.Meaning.{both_true, kept, dropped, widened_has, widened_keeps}
+use Rattle.cell_styles.proofs.Meaning.{kept, dropped, widened_has, widened_keeps}
 
 abbrev explicit : ℕ → List StyledCell → List StyledCell
 explicit count cells = filter (is_explicit count) cells
@@ -22,7 +23,7 @@ positive false x y first second = second
 
 explicit_positive : (count : ℕ) (cell : StyledCell) → is_explicit count cell ≡ true → 0 < cell.2
 explicit_positive count cell h =
-    let test : nat_lt 0 cell.2 ≡ true = (both_true (nat_lt 0 cell.2) (nat_lt cell.2 count) h).0 in
+    let test : nat_lt 0 cell.2 ≡ true = (and_both (nat_lt 0 cell.2) (nat_lt cell.2 count) h).0 in
     grind (arith, nat_tests)
 
 still_positive : (count : ℕ) (cell : StyledCell) (cells : List StyledCell) (position : ℕ × ℕ)
@@ -31,7 +32,7 @@ still_positive count cell cells position h =
     positive (is_explicit count cell && is_at position cell) cell.2
     (first_id_at count cells position)
     (λ b. explicit_positive count cell
-    (both_true (is_explicit count cell) (is_at position cell) b).0) h
+    (and_both (is_explicit count cell) (is_at position cell) b).0) h
 
 abbrev HasId : ℕ → List StyledCell → StyledCell → Type 0
 HasId count cells cell = 0 < first_id_at count cells (cell.0, cell.1)
@@ -76,9 +77,9 @@ go_inside : (count : ℕ) (cell : StyledCell) (cells : List StyledCell) (positio
     → IsInBounds (covering_area (explicit count (cell ∷ cells))) position
 go_inside count cell cells position true true e a rest h =
     let row : cell.0 ≡ position.0 =
-    eqb-true _ _ (both_true (cell.0 == position.0) (cell.1 == position.1) a).0 in
+    eqb-true _ _ (and_both (cell.0 == position.0) (cell.1 == position.1) a).0 in
     let column : cell.1 ≡ position.1 =
-    eqb-true _ _ (both_true (cell.0 == position.0) (cell.1 == position.1) a).1 in
+    eqb-true _ _ (and_both (cell.0 == position.0) (cell.1 == position.1) a).1 in
     let area = widened (covering_area (explicit count cells)) cell in
     subst (λ es. IsInBounds (covering_area es) position)
     (sym (kept (is_explicit count) cell cells e))

@@ -2,7 +2,8 @@ ghost use Rattle.std.specs.Prelude.{◌≡◌, ◌≤◌, ◌++◌, false, lengt
 ghost use Rattle.std.specs.Prelude.{OnOk, OnErr, IsUtf8};
 ghost use Rattle.std.specs.List.{prefix_len};
 ghost use Rattle.std.specs.String.Boundary.{IsSplitPoint};
-ghost use Rattle.escaped_text.specs.Escaped.{escaped_byte, escaped, is_unescaped, StartsEscaped, Extends};
+ghost use Rattle.escaped_text.specs.Escaped.{escaped_byte, escaped, is_unescaped, StartsEscaped};
+ghost use Rattle.escaped_text.specs.Escaped.{Extends};
 
 use std::alloc::AllocError;
 
@@ -40,8 +41,8 @@ fn split_unescaped(text: &str) -> (&str, &str)
     text.split_at(unescaped_len(text.as_bytes()))
 }
 
-/// Appends the pieces of the text, those that are escaped among them. A refusal may leave a front of
-/// them behind.
+/// Appends the pieces of the text, those that are escaped among them. A refusal may leave a front
+/// of them behind.
 fn push_pieces(out: &mut String, text: &str) -> Result<(), AllocError>
     ensures ok { OnOk result (string_bytes out.new ≡ string_bytes out.old ++ escaped text.now) }
     ensures err { OnErr result (Extends (string_bytes out.old) (string_bytes out.new)) }
@@ -77,8 +78,8 @@ pub fn or_cut_back(
     appended
 }
 
-/// Appends the text, with `\`, tab, LF and CR in two characters each. A refusal leaves the text that
-/// it is appended to as it was.
+/// Appends the text, with `\`, tab, LF and CR in two characters each. A refusal leaves the text
+/// that it is appended to as it was.
 #[tactic(auto, using(crate::proofs::Extending::cut_back))]
 pub fn push_escaped(out: &mut String, text: &str) -> Result<(), AllocError>
     ensures ok { OnOk result (string_bytes out.new ≡ string_bytes out.old ++ escaped text.now) }

@@ -3,3 +3,4 @@ pub mod DayLaws
 pub mod Found
 pub mod SerialOrder
 pub mod SerialSteps
+pub mod WholeText

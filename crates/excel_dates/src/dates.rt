@@ -85,7 +85,7 @@ impl ExcelDates for ExcelDateTime {
     /// and of what has no date the number.
     ///
     /// A refusal leaves the text as it was.
-    #[tactic(auto, using(escaped_text::proofs::Extending::cut_back), unfolding(crate::specs::IsoText::iso_text))]
+    #[tactic(auto, using(crate::proofs::WholeText::whole_text))]
     fn push_iso(&self, out: &mut String) -> Result<(), AllocError>
         ensures ok { OnOk result (string_bytes out.new ≡ string_bytes out.old
             ++ iso_text (number_of self.now.value) self.now.kind self.now.is_1904) }

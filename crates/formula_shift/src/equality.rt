@@ -17,6 +17,8 @@ pub fn copies_are_the_same<'a>()
     ensures corner { CopiesItself ⟦<Corner as Clone>⟧.is_clone ⟦<Corner as Clone>⟧.is_infallible }
     ensures reference { CopiesItself ⟦<Reference as Clone>⟧.is_clone
         ⟦<Reference as Clone>⟧.is_infallible }
-    ensures piece { CopiesItself ⟦<Piece<'a> as Clone>⟧.is_clone ⟦<Piece<'a> as Clone>⟧.is_infallible }
-    ensures pieces { CopiesItself ⟦<Pieces<'a> as Clone>⟧.is_clone ⟦<Pieces<'a> as Clone>⟧.is_infallible }
+    ensures piece { CopiesItself ⟦<Piece<'a> as Clone>⟧.is_clone
+        ⟦<Piece<'a> as Clone>⟧.is_infallible }
+    ensures pieces { CopiesItself ⟦<Pieces<'a> as Clone>⟧.is_clone
+        ⟦<Pieces<'a> as Clone>⟧.is_infallible }
 {}

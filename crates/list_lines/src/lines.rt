@@ -55,8 +55,8 @@ fn push_text_end(out: &mut String, text: &str) -> Result<(), AllocError>
     out.push_str("\n")
 }
 
-/// Appends the line of a text alone, escaped: of the name of a part. A refusal leaves the text as it
-/// was.
+/// Appends the line of a text alone, escaped: of the name of a part. A refusal leaves the text as
+/// it was.
 #[tactic(auto, using(escaped_text::proofs::Extending::cut_back))]
 pub fn push_text_line(out: &mut String, text: &str) -> Result<(), AllocError>
     ensures ok { OnOk result (string_bytes out.new ≡ string_bytes out.old ++ text_line text.now) }

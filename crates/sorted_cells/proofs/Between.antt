@@ -8,7 +8,6 @@ use Rattle.std.specs.FinMap.Entries.{is_sorted-where_key}
 use Rattle.std.specs.List.{filter}
 use Rattle.std.specs.List.Sorted.{IsPartitionedBy, IsPartitionPoint}
 use Rattle.std.specs.Ordering.{nat_cmp}
-use Rattle.std.proofs.lemmas.Bool.Decides.{nat_tests}
 use Rattle.std.proofs.lemmas.List.{map-append, take-append-drop}
 use Rattle.std.proofs.lemmas.List.Elements.{filter-append}
 use Rattle.cell_refs.specs.Positions.{position_cmp, is_rising}
@@ -21,6 +20,7 @@ use Rattle.sorted_cells.specs.Rows.{row_entry, row_size, cells_by, are_rows, fir
 use Rattle.sorted_cells.specs.Rows.{column_entry, columns_rise}
 use Rattle.sorted_cells.specs.Thinned.{is_between, cells_between}
 use Rattle.sorted_cells.proofs.Cutting.{parted_behind, parted_before, placed_first}
+use Rattle.sorted_cells.proofs.Cutting.{le_fails, le_passes}
 use Rattle.sorted_cells.proofs.Filters.{filter_both, filter_front, filter_back}
 use Rattle.sorted_cells.proofs.Orders.{sorted_parts}
 use Rattle.sorted_cells.proofs.Parts.{rises_by_column}
@@ -32,10 +32,6 @@ and_turned true true = refl
 and_turned true false = refl
 and_turned false true = refl
 and_turned false false = refl
-
-pub without_any : {A : Type 0} (xs : List A) → length xs ≡ 0 → xs ≡ []
-without_any [] none = refl
-without_any (x ∷ xs) none = absurd (omega (arith, none))
 
 module _ {X : Type 0} where
   -- what a search for the place of a column says
@@ -67,20 +63,14 @@ module _ {X : Type 0} where
       let lower = before (parted_before column_entry first front rises) in
       let above : filter (λ (cell : ColumnCell X). nat_le first cell.column) front ≡ drop n front =
       filter_back (λ (cell : ColumnCell X). nat_le first cell.column) front n
-      (λ i d inside less. fails first (get_or front i d).column (lower.0 i d (omega arith) less))
-      (λ i d inside more. passes first (get_or front i d).column (lower.1 i d more inside)) in
+      (λ i d inside less. le_fails first (get_or front i d).column (lower.0 i d (omega arith) less))
+      (λ i d inside more. le_passes first (get_or front i d).column (lower.1 i d more inside)) in
       left_is
       ∙ (sym above
       ∙ (ap (filter (λ (cell : ColumnCell X). nat_le first cell.column)) (sym below)
       ∙ filter_both (λ (cell : ColumnCell X). nat_le first cell.column)
       (λ (cell : ColumnCell X). nat_le cell.column last)
       (λ (cell : ColumnCell X). is_between first last cell.column) (λ cell. refl) cells))
-    where
-      fails : (a b : ℕ) → nat_lt b a ≡ true → nat_le a b ≡ false
-      fails a b less = grind (arith, nat_tests, less)
-
-      passes : (a b : ℕ) → nat_lt b a ≡ false → nat_le a b ≡ true
-      passes a b more = grind (arith, nat_tests, more)
 
   -- rows up to a number, and of these the rows from a number on
   pub rows_cut : (first last : ℕ) (rows up_to left : List Row)

@@ -289,6 +289,13 @@ numbers_cut k rows rise =
     (sym (map-append row_place (take k rows) (drop k rows)))
     ∙ (ap numbers_rise (take-append-drop k rows) ∙ rise))
 
+-- a number is up to another just where the other isn't below it
+pub le_fails : (a b : ℕ) → nat_lt b a ≡ true → nat_le a b ≡ false
+le_fails a b less = grind (arith, nat_tests, less)
+
+pub le_passes : (a b : ℕ) → nat_lt b a ≡ false → nat_le a b ≡ true
+le_passes a b more = grind (arith, nat_tests, more)
+
 -- elements whose keys go up to a number, and those behind it
 pub parted_behind : {A Y : Type 0} (key : A → ℕ × Y) (last : ℕ) (xs : List A) →
     is_sorted nat_cmp (map key xs) ≡ true → IsPartitionedBy (λ (x : A). nat_le (key x).0 last) xs
@@ -359,9 +366,9 @@ module _ {X : Type 0} (k end : ℕ) (rows seen left : List Row) (cells others : 
           shared = cut.back;
           numbers = (numbers_cut k rows rise).1;
           cells_are = back_passes (λ n. nat_le first n) 0 k rows cells end end cut
-              (λ i d inside below. fails first (get_or rows i d).number
+              (λ i d inside below. le_fails first (get_or rows i d).number
               (parted.0 i d (omega arith) below))
-              (λ i d inside above. passes first (get_or rows i d).number
+              (λ i d inside above. le_passes first (get_or rows i d).number
               (parted.1 i d above inside));
         } in
         let moved : AreLeft (λ n. nat_le first n) end rows left cells others =
@@ -374,12 +381,6 @@ module _ {X : Type 0} (k end : ℕ) (rows seen left : List Row) (cells others : 
           numbers = moved.numbers;
           cells_are = moved.cells_are;
         }
-      where
-        fails : (a b : ℕ) → nat_lt b a ≡ true → nat_le a b ≡ false
-        fails a b less = grind (arith, nat_tests, less)
-
-        passes : (a b : ℕ) → nat_lt b a ≡ false → nat_le a b ≡ true
-        passes a b more = grind (arith, nat_tests, more)
 
     pub fits_cells : are_rows 0 rows (length cells) ≡ true → k ≤ length rows →
         end ≡ rows_end (drop k rows) (length cells) → end ≤ length cells

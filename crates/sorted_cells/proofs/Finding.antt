@@ -36,16 +36,6 @@ module _ {K X : Type 0} (cmp : K → K → Ordering) where
       ap (λ o. cond (eq_by_cmp cmp q e.0) (Some e.1) o) (found_in_two q es fs)
       ∙ sym (or_found (eq_by_cmp cmp q e.0) e.1 (find cmp q es) (find cmp q fs))
 
-  -- what stands behind a key does not tie with it
-  pub none_behind : IsTotalOrder cmp → (q x : K) (es : List (K × X)) → cmp q x ≡ Equal →
-      below_all cmp x es ≡ true → find cmp q es ≡ None
-  none_behind total q x [] same below = refl
-  none_behind total q x (e ∷ es) same below =
-      let (first, rest) = and_both (is_lt (cmp x e.0)) (below_all cmp x es) below in
-      let apart : eq_by_cmp cmp q e.0 ≡ false =
-      ap is_eq (total.congr q x e.0 same ∙ less_from _ first) in
-      ap (λ t. cond t (Some e.1) (find cmp q es)) apart ∙ none_behind total q x es same rest
-
 -- a list searched by the keys of its elements
 module _ {E K X : Type 0} (cmp : K → K → Ordering) (total : IsTotalOrder cmp)
     (same : IsAntisymmetric cmp) (entry : E → K × X) where

@@ -18,9 +18,9 @@ use Rattle.sorted_cells.specs.declared.row.ColumnCell.{ColumnCell}
 use Rattle.sorted_cells.specs.Rows.{row_entry, row_size, cells_by, are_rows, row_place}
 use Rattle.sorted_cells.specs.Rows.{numbers_rise, rows_end, cells_of_row, column_entry}
 use Rattle.sorted_cells.specs.Rows.{columns_rise}
-use Rattle.sorted_cells.proofs.Finding.{found_in_two, none_behind, not_searched}
+use Rattle.sorted_cells.proofs.Finding.{found_in_two, not_searched}
 use Rattle.sorted_cells.proofs.Orders.{sorted_parts}
-use Rattle.cell_refs.proofs.PositionOrder.{and_both, less_from}
+use Rattle.cell_refs.proofs.PositionOrder.{and_both, less_from, none_behind}
 use Rattle.sorted_cells.proofs.Pushing.{shared, rest_shared}
 
 tied_row : (a b c d : ℕ) → nat_cmp a b ≡ Equal →

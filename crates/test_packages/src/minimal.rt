@@ -18,15 +18,17 @@ const WORKBOOK_NAME: &str = "xl/workbook.xml";
 pub const SHEET_NAME: &str = "xl/worksheets/sheet1.xml";
 
 /// The markup of the package's relationships: one, to the workbook.
-const ROOT_MARKUP: &str =
-    r#"<Relationships><Relationship Id="rId1" Type="http://schemas.openxmlformats.org/officeDocument/2006/relationships/officeDocument" Target="xl/workbook.xml"></Relationship></Relationships>"#;
+const ROOT_MARKUP: &str = "<Relationships><Relationship Id=\"rId1\" \
+    Type=\"http://schemas.openxmlformats.org/officeDocument/2006/relationships/officeDocument\" \
+    Target=\"xl/workbook.xml\"></Relationship></Relationships>";
 
 /// The part of the package's relationships.
 const ROOT: Part<'static> = (ROOT_NAME, ROOT_MARKUP);
 
 /// The markup of the workbook's relationships: one, to the sheet, whose Id is `rId1`.
-const RELATIONSHIPS_MARKUP: &str =
-    r#"<Relationships><Relationship Id="rId1" Type="http://schemas.openxmlformats.org/officeDocument/2006/relationships/worksheet" Target="worksheets/sheet1.xml"></Relationship></Relationships>"#;
+const RELATIONSHIPS_MARKUP: &str = "<Relationships><Relationship Id=\"rId1\" \
+    Type=\"http://schemas.openxmlformats.org/officeDocument/2006/relationships/worksheet\" \
+    Target=\"worksheets/sheet1.xml\"></Relationship></Relationships>";
 
 /// The part of the workbook's relationships.
 const RELATIONSHIPS: Part<'static> = (RELATIONSHIPS_NAME, RELATIONSHIPS_MARKUP);
@@ -38,8 +40,8 @@ const WORKBOOK: Part<'static> = (
 );
 
 /// The markup of the sheet: one cell, A1, with the text `nut`.
-const SHEET_MARKUP: &str =
-    r#"<worksheet><sheetData><row r="1"><c r="A1" t="str"><v>nut</v></c></row></sheetData></worksheet>"#;
+const SHEET_MARKUP: &str = "<worksheet><sheetData>\
+    <row r=\"1\"><c r=\"A1\" t=\"str\"><v>nut</v></c></row></sheetData></worksheet>";
 
 /// The sheet's part.
 const SHEET: Part<'static> = (SHEET_NAME, SHEET_MARKUP);

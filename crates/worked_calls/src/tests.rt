@@ -28,8 +28,8 @@ fn formulas_are_counted_by_their_positions(rt: HostRuntime) -> Result<(), Fail> 
 #[test]
 fn full_cells_are_counted_in_one_pass(rt: HostRuntime) -> Result<(), Fail> {
     let alloc = rt.alloc();
-    let data =
-        r#"<c s="1"><f>B1</f><v>1</v></c><c s="1"><f>B1</f></c><c s="1"><v>1</v></c><c><f>B1</f><v>1</v></c>"#;
+    let data = "<c s=\"1\"><f>B1</f><v>1</v></c><c s=\"1\"><f>B1</f></c><c s=\"1\"><v>1</v></c>\
+        <c><f>B1</f><v>1</v></c>";
     let sheet = sheet_part(alloc, data)?;
     let package = package_with(alloc, (SHEET_NAME, sheet.as_str()))?;
     let mut xml = XlReader::new(alloc, package);
@@ -68,11 +68,15 @@ fn formulas_tell_their_group_and_equal_their_copies(rt: HostRuntime) -> Result<(
 const WITH_TABLE: [Part<'static>; 6] = [
     (
         "_rels/.rels",
-        r#"<Relationships><Relationship Type="http://schemas.openxmlformats.org/officeDocument/2006/relationships/officeDocument" Target="xl/workbook.xml"></Relationship></Relationships>"#,
+        "<Relationships><Relationship Type=\
+        \"http://schemas.openxmlformats.org/officeDocument/2006/relationships/officeDocument\" \
+        Target=\"xl/workbook.xml\"></Relationship></Relationships>",
     ),
     (
         "xl/_rels/workbook.xml.rels",
-        r#"<Relationships><Relationship Id="a" Type="http://schemas.openxmlformats.org/officeDocument/2006/relationships/worksheet" Target="s.xml"></Relationship></Relationships>"#,
+        "<Relationships><Relationship Id=\"a\" \
+        Type=\"http://schemas.openxmlformats.org/officeDocument/2006/relationships/worksheet\" \
+        Target=\"s.xml\"></Relationship></Relationships>",
     ),
     (
         "xl/workbook.xml",
@@ -80,15 +84,19 @@ const WITH_TABLE: [Part<'static>; 6] = [
     ),
     (
         "xl/s.xml",
-        r#"<worksheet><sheetData><row r="1"><c r="B1"><v>7</v></c></row><row r="2"><c r="A2"><v>8</v></c></row></sheetData></worksheet>"#,
+        "<worksheet><sheetData><row r=\"1\"><c r=\"B1\"><v>7</v></c></row>\
+        <row r=\"2\"><c r=\"A2\"><v>8</v></c></row></sheetData></worksheet>",
     ),
     (
         "xl/_rels/s.xml.rels",
-        r#"<Relationships><Relationship Type="http://schemas.openxmlformats.org/officeDocument/2006/relationships/table" Target="xl/t.xml"></Relationship></Relationships>"#,
+        "<Relationships><Relationship \
+        Type=\"http://schemas.openxmlformats.org/officeDocument/2006/relationships/table\" \
+        Target=\"xl/t.xml\"></Relationship></Relationships>",
     ),
     (
         "xl/t.xml",
-        r#"<table displayName="T" ref="A1:A2"><tableColumns><tableColumn name="N"></tableColumn></tableColumns></table>"#,
+        "<table displayName=\"T\" ref=\"A1:A2\">\
+        <tableColumns><tableColumn name=\"N\"></tableColumn></tableColumns></table>",
     ),
 ];
 

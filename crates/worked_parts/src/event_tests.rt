@@ -313,7 +313,8 @@ fn texts_are_joined(rt: HostRuntime) -> Result<(), Fail> {
 
 /// The texts of faults, each twice, and of the other errors of a stream.
 const TEXTS: &str =
-    "end tag mismatch at 4, end tag mismatch at 4;unclosed element at 0, unclosed element at 0;unknown entity at 12, unknown entity at 12;the package could not be read;out of memory;";
+    "end tag mismatch at 4, end tag mismatch at 4;unclosed element at 0, unclosed element at 0;\
+    unknown entity at 12, unknown entity at 12;the package could not be read;out of memory;";
 
 #[test]
 fn each_refusal_has_its_text(rt: HostRuntime) -> Result<(), Fail> {

@@ -29,19 +29,30 @@ fn markup_of(package: &mut MemoryPackage, alloc: Global, name: &str) -> Result<S
 const PARTS: [(&str, &str); 6] = [
     (
         "_rels/.rels",
-        r#"<Relationships><Relationship Id="rId1" Type="http://schemas.openxmlformats.org/officeDocument/2006/relationships/officeDocument" Target="xl/workbook.xml"></Relationship></Relationships>"#,
+        "<Relationships><Relationship Id=\"rId1\" Type=\
+        \"http://schemas.openxmlformats.org/officeDocument/2006/relationships/officeDocument\" \
+        Target=\"xl/workbook.xml\"></Relationship></Relationships>",
     ),
     (
         "xl/_rels/workbook.xml.rels",
-        r#"<Relationships><Relationship Id="rId1" Type="http://schemas.openxmlformats.org/officeDocument/2006/relationships/worksheet" Target="worksheets/sheet1.xml"></Relationship></Relationships>"#,
+        "<Relationships><Relationship Id=\"rId1\" \
+        Type=\"http://schemas.openxmlformats.org/officeDocument/2006/relationships/worksheet\" \
+        Target=\"worksheets/sheet1.xml\"></Relationship></Relationships>",
     ),
     (
         "xl/workbook.xml",
-        r#"<workbook><sheets><sheet name="Sample" sheetId="1" r:id="rId1"></sheet></sheets></workbook>"#,
+        "<workbook><sheets>\
+        <sheet name=\"Sample\" sheetId=\"1\" r:id=\"rId1\"></sheet></sheets></workbook>",
     ),
     (
         "xl/worksheets/sheet1.xml",
-        r#"<worksheet><sheetData><row r="1"><c r="A1"><v>1</v></c><c r="B1"><f t="shared" ref="B1:B3" si="0">A1*2</f><v>2</v></c><c r="C1" s="1" t="s"><v>1</v></c></row><row r="2"><c r="A2"><v>2</v></c><c r="B2"><f t="shared" si="0"></f><v>4</v></c><c r="C2" t="s"><v>2</v></c></row><row r="3"><c r="A3"><v>3</v></c><c r="B3"><f t="shared" si="0"></f><v>6</v></c><c r="C3" s="1" t="s"><v>0</v></c></row></sheetData></worksheet>"#,
+        "<worksheet><sheetData><row r=\"1\"><c r=\"A1\"><v>1</v></c>\
+        <c r=\"B1\"><f t=\"shared\" ref=\"B1:B3\" si=\"0\">A1*2</f><v>2</v></c>\
+        <c r=\"C1\" s=\"1\" t=\"s\"><v>1</v></c></row><row r=\"2\"><c r=\"A2\"><v>2</v></c>\
+        <c r=\"B2\"><f t=\"shared\" si=\"0\"></f><v>4</v></c>\
+        <c r=\"C2\" t=\"s\"><v>2</v></c></row><row r=\"3\"><c r=\"A3\"><v>3</v></c>\
+        <c r=\"B3\"><f t=\"shared\" si=\"0\"></f><v>6</v></c>\
+        <c r=\"C3\" s=\"1\" t=\"s\"><v>0</v></c></row></sheetData></worksheet>",
     ),
     (
         "xl/sharedStrings.xml",
@@ -49,7 +60,11 @@ const PARTS: [(&str, &str); 6] = [
     ),
     (
         "xl/styles.xml",
-        r#"<styleSheet><fills><fill><patternFill patternType="none"></patternFill></fill><fill><patternFill patternType="gray125"></patternFill></fill><fill><patternFill patternType="solid"><fgColor rgb="FFFFFF00"></fgColor></patternFill></fill></fills><cellXfs><xf fillId="0"></xf><xf fillId="2"></xf></cellXfs></styleSheet>"#,
+        "<styleSheet><fills><fill><patternFill patternType=\"none\"></patternFill></fill>\
+        <fill><patternFill patternType=\"gray125\"></patternFill></fill>\
+        <fill><patternFill patternType=\"solid\"><fgColor rgb=\"FFFFFF00\"></fgColor>\
+        </patternFill></fill></fills>\
+        <cellXfs><xf fillId=\"0\"></xf><xf fillId=\"2\"></xf></cellXfs></styleSheet>",
     ),
 ];
 

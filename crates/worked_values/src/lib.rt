@@ -1,5 +1,5 @@
-//! What values are: tests of decimals, dates, number formats, cells kept by rows, ranges, styles and
-//! their lines by their public calls.
+//! What values are: tests of decimals, dates, number formats, cells kept by rows, ranges, styles
+//! and their lines by their public calls.
 #![tactic(auto)]
 
 #[cfg(test)]

@@ -17,7 +17,9 @@ use Rattle.xlsx_cells.specs.contracts.cell_records.XlsxCellFormulaMetadataRecord
 use Rattle.xlsx_cells.specs.contracts.children.WantsPartialEq.TheImpl as wants
 use Rattle.xlsx_cells.specs.declared.children.Wants.{Wants}
 use Rattle.xlsx_cells.specs.declared.cell_records.XlsxCellFormula.{XlsxCellFormula}
-use Rattle.xlsx_cells.specs.declared.cell_records.XlsxCellFormulaMetadataRecord.{XlsxCellFormulaMetadataRecord}
+use Rattle.xlsx_cells.specs.declared.cell_records.XlsxCellFormulaMetadataRecord.{
+  XlsxCellFormulaMetadataRecord,
+}
 
 both_true : (p q : Bool) → (p && q) ≡ true → (p ≡ true) × (q ≡ true)
 both_true true q h = (refl, h)

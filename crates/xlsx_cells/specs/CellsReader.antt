@@ -24,7 +24,9 @@ use Rattle.xlsx_cells.specs.Position.{cell_position}
 use Rattle.xlsx_cells.specs.Stream.{Stream, stream, IsGoing, StandsBehind}
 use Rattle.xlsx_cells.specs.StyleIds.{id_named}
 use Rattle.xlsx_cells.specs.declared.cell_records.XlsxCellFormula.{XlsxCellFormula}
-use Rattle.xlsx_cells.specs.declared.cell_records.XlsxCellFormulaMetadataRecord.{XlsxCellFormulaMetadataRecord}
+use Rattle.xlsx_cells.specs.declared.cell_records.XlsxCellFormulaMetadataRecord.{
+  XlsxCellFormulaMetadataRecord,
+}
 use Rattle.xlsx_cells.specs.declared.cells_reader.XlsxCellReader.{XlsxCellReader}
 use Rattle.xlsx_cells.specs.declared.children.Wants.{Wants}
 use Rattle.xlsx_cells.specs.declared.sheet_cursor.SheetCursor.{SheetCursor}

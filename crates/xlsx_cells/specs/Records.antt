@@ -3,7 +3,9 @@ use Rattle.std.specs.Prelude.{ℕ, List, Option, option_map, string_bytes}
 use Rattle.cell_data.specs.CellValue.{CellValue, value_of_data_ref}
 use Rattle.xlsx_formulas.specs.Described.{Description, description_seen}
 use Rattle.xlsx_cells.specs.declared.cell_records.XlsxCellFormula.{XlsxCellFormula}
-use Rattle.xlsx_cells.specs.declared.cell_records.XlsxCellFormulaMetadataRecord.{XlsxCellFormulaMetadataRecord}
+use Rattle.xlsx_cells.specs.declared.cell_records.XlsxCellFormulaMetadataRecord.{
+  XlsxCellFormulaMetadataRecord,
+}
 
 -- a cell with its formula, by position, value and text
 abbrev pub formula_cell : XlsxCellFormula → (ℕ × ℕ) × CellValue × Option (List ℕ)

@@ -13,7 +13,9 @@ use Rattle.xlsx_properties.specs.Kept.{held, custom_held}
 use Rattle.xlsx_properties.specs.Parts.{SayProperties, PropertiesCause}
 use Rattle.xlsx_properties.specs.Property.{named_properties}
 use Rattle.xlsx_properties.specs.declared.property.Property.{Property}
-use Rattle.xlsx_properties.specs.declared.workbook_properties.WorkbookProperties.{WorkbookProperties}
+use Rattle.xlsx_properties.specs.declared.workbook_properties.WorkbookProperties.{
+  WorkbookProperties,
+}
 use Rattle.xlsx_open.specs.Opening.{OpensSoundly, OpeningCause}
 
 -- the text of a name among names with their texts

@@ -27,7 +27,8 @@ fn placed_links<P: Package>(
         old.is_told ≡ true → IfSome (path_lent path.entry) (λ there.
         OnOk result (CountsUp (link_sections old.parts there) old.taken xml.new.source.taken)) }
     ensures links { xml.old.source.is_told ≡ true → IfOk result (λ links.
-        links_placed (path_lent path.entry) xml.old.source.parts ≡ Some (map link_said links.items)) }
+        links_placed (path_lent path.entry) xml.old.source.parts
+        ≡ Some (map link_said links.items)) }
     ensures err { IfErr result (PlacedLinksFail name.now (path_lent path.entry)
         xml.old.source xml.new.source) }
     ensures kind { IfErr result (IsPlacedLinksError name.now) }

@@ -148,7 +148,8 @@ impl<P: Package> Xlsx<P> {
             ReadsToEnd (codes "mergeCells") there result self.old.xml.source self.new.xml.source) }
         ensures rest { KeepsWorkbook self.old self.new }
         ensures merges { self.old.xml.source.is_told ≡ true → IfOk result (λ areas.
-            merges_placed (path_of self.old name.now) self.old.xml.source.parts ≡ Some areas.items) }
+            merges_placed (path_of self.old name.now) self.old.xml.source.parts
+            ≡ Some areas.items) }
         ensures err { IfErr result (PlacedMergesFail name.now (path_of self.old name.now)
             self.old.xml.source self.new.xml.source) }
         ensures kind { IfErr result (IsPlacedMergesError name.now) }

@@ -80,3 +80,9 @@ row_end Io is = tt
 row_end (Xml (EndMismatch at)) is = tt
 row_end (XmlEof element) is = is
 row_end _ is = absurd is
+
+pub ruleset contents_errors = (fields_step, item_error)
+
+pub ruleset field_errors = (name_error, end_error)
+
+pub ruleset row_errors = (value_row, row_step, row_end)

@@ -176,7 +176,7 @@ impl FieldContents {
 
 /// What is in a field, whose element is number `base` of the open ones, counted from 1, behind
 /// whose start reading stands.
-#[tactic(auto, using(crate::proofs::CacheErrors::fields_step, crate::proofs::CacheErrors::item_error))]
+#[tactic(auto, using(crate::proofs::CacheErrors::contents_errors))]
 pub(crate) fn contents_in<P: Package>(
     xml: &mut XlReader<P>,
     base: usize,

@@ -54,7 +54,7 @@ fn field_name(alloc: Global, tag: StartTag<'_>, at: u64) -> Result<Option<String
 /// Reads the `cacheField` at whose start the reader stands, to its end (ECMA-376 part 1, section
 /// 18.10.1.3). The start is event number `at` of its part, counted from 0. None where the element
 /// is no field: it has no name, or a formula, or it groups items of others.
-#[tactic(auto, using(crate::proofs::CacheErrors::name_error, crate::proofs::CacheErrors::end_error))]
+#[tactic(auto, using(crate::proofs::CacheErrors::field_errors))]
 pub(crate) fn read_field<P: Package>(
     xml: &mut XlReader<P>,
     at: u64,

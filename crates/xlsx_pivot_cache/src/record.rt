@@ -135,7 +135,7 @@ fn push_value(row: &mut Vec<Data>, value: Option<Data>) -> Result<(), AllocError
 /// Reads the record at whose start the reader stands, to its end: the value of each child that is
 /// an `x` or an item, in order. An `x` is the item that its `v` numbers of the field at its place,
 /// and empty without `v`.
-#[tactic(auto, using(crate::proofs::CacheErrors::value_row, crate::proofs::CacheErrors::row_step, crate::proofs::CacheErrors::row_end))]
+#[tactic(auto, using(crate::proofs::CacheErrors::row_errors))]
 pub(crate) fn read_record<P: Package>(
     xml: &mut XlReader<P>,
     fields: &[CacheField],

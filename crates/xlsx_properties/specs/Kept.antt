@@ -11,7 +11,9 @@ use Rattle.xlsx_properties.specs.declared.property.Property.TheVariants.{Content
 use Rattle.xlsx_properties.specs.declared.property.Property.TheVariants.{Version, Application}
 use Rattle.xlsx_properties.specs.declared.property.Property.TheVariants.{AppVersion, Company}
 use Rattle.xlsx_properties.specs.declared.property.Property.TheVariants.{Template, Manager}
-use Rattle.xlsx_properties.specs.declared.workbook_properties.WorkbookProperties.{WorkbookProperties}
+use Rattle.xlsx_properties.specs.declared.workbook_properties.WorkbookProperties.{
+  WorkbookProperties,
+}
 
 -- the text of a property
 abbrev pub held : Property → WorkbookProperties → Option (List ℕ)

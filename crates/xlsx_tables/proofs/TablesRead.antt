@@ -30,6 +30,8 @@ start_error (Xml (EndMismatch at)) is = absurd is
 start_error (XmlEof element) is = absurd is
 start_error error is = is
 
+pub ruleset table_errors = (break_error, start_error)
+
 pub decoding : (error : XlsxError) → IsDecodeError error → IsTableStartError error
 decoding OutOfMemory is = tt
 decoding (Xml (Entity at)) is = tt

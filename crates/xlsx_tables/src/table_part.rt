@@ -83,7 +83,7 @@ fn columns_in<P: Package>(xml: &mut XlReader<P>, base: usize) -> Result<Vec<Stri
 }
 
 /// The first table of a part of which nothing was taken.
-#[tactic(auto, using(crate::proofs::TablesRead::break_error, crate::proofs::TablesRead::start_error))]
+#[tactic(auto, using(crate::proofs::TablesRead::table_errors))]
 fn table_of<P: Package>(xml: &mut XlReader<P>) -> Result<TablePart, XlsxError>
     requires reading { IsReading xml.old }
     requires first { xml.old.at ≡ 0 }

@@ -57,7 +57,8 @@ fn next_model<P: Package>(xml: &mut XlReader<P>, base: usize) -> Result<Option<u
     requires reading { IsReading xml.old }
     requires within { base ≤ length xml.old.names }
     ensures reads { ReadsPart Io result xml.old xml.new }
-    ensures stands { IfOk result (λ found. StandsAtStart is_color_model base found xml.old xml.new) }
+    ensures stands { IfOk result (λ found.
+        StandsAtStart is_color_model base found xml.old xml.new) }
     ensures found { xml.old.source.is_told ≡ true →
         IfOk result (λ found. FindsStartIn is_color_model base found xml.old xml.new) }
     ensures step { IfOk result (λ found. (first : Reading) → KeepsStarts base first xml.old →

@@ -350,7 +350,8 @@ fn an_input_past_the_limit_is_too_large(rt: HostRuntime) -> Result<(), Fail> {
 
 /// The status and the text of each refusal.
 const STATUSES: &str =
-    "2 usage; 3 read fault; 4 input too large; 5 not a package; 6 Relationship not found; 7 write fault; 8 out of memory; 10 box too large; ";
+    "2 usage; 3 read fault; 4 input too large; 5 not a package; 6 Relationship not found; \
+    7 write fault; 8 out of memory; 10 box too large; ";
 
 #[test]
 fn refusals_have_statuses_and_texts(rt: HostRuntime) -> Result<(), Fail> {

@@ -5,7 +5,9 @@ use Rattle.std.proofs.lemmas.List.{drop_min}
 use Rattle.attr_text.specs.Attributes.{is_quote, is_equals_sign, without_leading_space}
 use Rattle.worked_texts.proofs.SlowLemmas.{front_of-attribute, quoted}
 use Rattle.worked_texts.proofs.slow.first_parts.Goals as goal
-use Rattle.worked_texts.proofs.slow.first_parts.Goals.{else-value-ne34-via-then-value-ne34+else-value-ne39}
+use Rattle.worked_texts.proofs.slow.first_parts.Goals.{
+  else-value-ne34-via-then-value-ne34+else-value-ne39,
+}
 use Rattle.worked_texts.proofs.slow.first_parts.Goals.{else-value-ne34-via-else-value-ne34}
 
 pub returns : goal.returns

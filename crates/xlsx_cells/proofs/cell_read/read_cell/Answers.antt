@@ -7,7 +7,9 @@ use Rattle.xlsx_cells.specs.Ends.{reads_children}
 use Rattle.xlsx_cells.specs.Stream.{CellFails}
 use Rattle.xlsx_cells.proofs.CellsRead.{started_fail, contents_fail, some_wanted}
 use Rattle.xlsx_cells.proofs.cell_read.read_cell.Goals as goal
-use Rattle.xlsx_cells.proofs.cell_read.read_cell.Goals.{else-not-asked-via-then-not-asked+else-not-asked-2}
+use Rattle.xlsx_cells.proofs.cell_read.read_cell.Goals.{
+  else-not-asked-via-then-not-asked+else-not-asked-2,
+}
 use Rattle.xlsx_cells.proofs.cell_read.read_cell.Goals.{else-not-asked-via-else-not-asked}
 
 pub returns-in_err-start-clause-err : goal.returns-in_err-start-clause-err

@@ -6,7 +6,8 @@ use Rattle.xlsx_theme.proofs.ThemeRead.{faulty_theme}
 use Rattle.xlsx_theme.proofs.ThemeTaken.{theme_refused}
 use Rattle.xlsx_theme.proofs.theme_part.read_theme.Goals as goal
 
-pub returns-in_ok-default_theme-in-Err-Xml-clause-theme : goal.returns-in_ok-default_theme-in-Err-Xml-clause-theme
+pub returns-in_ok-default_theme-in-Err-Xml-clause-theme :
+    goal.returns-in_ok-default_theme-in-Err-Xml-clause-theme
 returns-in_ok-default_theme-in-Err-Xml-clause-theme g c = λ told.
     let fails = rw c.in-Err-Xml.field-0-is at c.in-Err-Xml.ensures.err in
     let old = c.args.xml.now.source in
@@ -17,7 +18,8 @@ returns-in_ok-default_theme-in-Err-Xml-clause-theme g c = λ told.
     (fails (c.open.ensures.keeps.is_told ∙ told))
     c.in_ok-default_theme-in-Err-Xml.ensures.theme
 
-pub returns-in_ok-default_theme-in-Err-XmlAttr-clause-theme : goal.returns-in_ok-default_theme-in-Err-XmlAttr-clause-theme
+pub returns-in_ok-default_theme-in-Err-XmlAttr-clause-theme :
+    goal.returns-in_ok-default_theme-in-Err-XmlAttr-clause-theme
 returns-in_ok-default_theme-in-Err-XmlAttr-clause-theme g c = λ told.
     let fails = rw c.in-Err-XmlAttr.field-0-is at c.in-Err-XmlAttr.ensures.err in
     let old = c.args.xml.now.source in
@@ -28,14 +30,16 @@ returns-in_ok-default_theme-in-Err-XmlAttr-clause-theme g c = λ told.
     (fails (c.open.ensures.keeps.is_told ∙ told))
     c.in_ok-default_theme-in-Err-XmlAttr.ensures.theme
 
-pub returns-in_ok-default_theme-in-Err-Xml-clause-to_end : goal.returns-in_ok-default_theme-in-Err-Xml-clause-to_end
+pub returns-in_ok-default_theme-in-Err-Xml-clause-to_end :
+    goal.returns-in_ok-default_theme-in-Err-Xml-clause-to_end
 returns-in_ok-default_theme-in-Err-Xml-clause-to_end g c =
     theme_refused (Xml c.in-Err-Xml.field-0-0) c.if-not-branch.false c.open.ensures.keeps
     c.in_ok-open.ensures.counts c.in_ok-open.ensures.opens c.in-Err-Xml.ensures.reads.moves
     (λ told. (rw c.in-Err-Xml.field-0-is at c.in-Err-Xml.ensures.err)
     (c.open.ensures.keeps.is_told ∙ told))
 
-pub returns-in_ok-default_theme-in-Err-XmlAttr-clause-to_end : goal.returns-in_ok-default_theme-in-Err-XmlAttr-clause-to_end
+pub returns-in_ok-default_theme-in-Err-XmlAttr-clause-to_end :
+    goal.returns-in_ok-default_theme-in-Err-XmlAttr-clause-to_end
 returns-in_ok-default_theme-in-Err-XmlAttr-clause-to_end g c =
     theme_refused (XmlAttr c.in-Err-XmlAttr.field-0-0) c.if-not-branch.false c.open.ensures.keeps
     c.in_ok-open.ensures.counts c.in_ok-open.ensures.opens c.in-Err-XmlAttr.ensures.reads.moves

@@ -1,8 +1,9 @@
 use Rattle.std.proofs.Common.{rules, ◌≡◌, [], ◌∙◌, ap, sym, List, map, ◌++◌}
+use Rattle.std.proofs.lemmas.List.{nil_from_length}
 use Rattle.sorted_cells.specs.declared.row.ColumnCell.{ColumnCell}
 use Rattle.sorted_cells.specs.Area.{entries_between}
 use Rattle.sorted_cells.specs.Rows.{row_entry, cells_by}
-use Rattle.sorted_cells.proofs.Between.{row_entered, without_any}
+use Rattle.sorted_cells.proofs.Between.{row_entered}
 use Rattle.sorted_cells.proofs.area_cells.AreaCells.enter_row.Goals as goal
 
 pub columns_between-self-requires : goal.columns_between-self-requires
@@ -31,7 +32,7 @@ rows-preserved g c =
     c.in-Some.row.now c.in-Some.rows.now c.rows.self.rows.now c.rows.self.behind.now
     (search rules) (search rules) (search rules) (search rules) c.rows.self.shared
     c.rows.self.rising in
-    let empty : c.rows.self.own.now ≡ [] = without_any c.rows.self.own.now (search rules) in
+    let empty : c.rows.self.own.now ≡ [] = nil_from_length c.rows.self.own.now (search rules) in
     entered.same c.columns_between-self.ensures
     ∙ (sym (ap (λ (cells : List (ColumnCell g.row.T.Denot)).
     map (row_entry c.rows.self.number) cells

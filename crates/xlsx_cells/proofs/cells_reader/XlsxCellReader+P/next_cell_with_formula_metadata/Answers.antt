@@ -1,5 +1,6 @@
 use Rattle.xlsx_cells.proofs.Flowing.{described_value_taken, read_as}
-use Rattle.xlsx_cells.proofs.cells_reader.XlsxCellReader+P.next_cell_with_formula_metadata.Goals as goal
+use Rattle.xlsx_cells.proofs.cells_reader.XlsxCellReader+P.next_cell_with_formula_metadata.Goals
+    as goal
 
 pub returns-in_default-clause-takes : goal.returns-in_default-clause-takes
 returns-in_default-clause-takes g c = λ told before earlier kept.

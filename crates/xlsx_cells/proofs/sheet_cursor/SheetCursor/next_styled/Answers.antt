@@ -12,8 +12,10 @@ use Rattle.xlsx_cells.proofs.Flowing.{is_going}
 use Rattle.xlsx_cells.proofs.Unstyled.{skipped_further, styled_taken, unstyled_ends}
 use Rattle.xlsx_cells.proofs.Unstyled.{skipped_none, styled_refused}
 use Rattle.xlsx_cells.proofs.sheet_cursor.SheetCursor.next_styled.Goals as goal
-use Rattle.xlsx_cells.proofs.sheet_cursor.SheetCursor.next_styled.Goals.{else-style_id-gt0-via-then-style_id-gt0+else-style_id-style_count}
-use Rattle.xlsx_cells.proofs.sheet_cursor.SheetCursor.next_styled.Goals.{else-style_id-gt0-via-else-style_id-gt0}
+use Rattle.xlsx_cells.proofs.sheet_cursor.SheetCursor.next_styled.Goals.{
+  else-style_id-gt0-via-then-style_id-gt0+else-style_id-style_count,
+  else-style_id-gt0-via-else-style_id-gt0,
+}
 
 pub cells-init : goal.cells-init
 cells-init g c =
