@@ -1,4 +1,5 @@
 pub mod Counted
+pub mod FirstAnswers
 mod FirstErrors
 pub mod InMemory
 mod Through

@@ -1,4 +1,8 @@
-use crate::{first_place_and_table, formula_count, full_cells};
+use crate::{
+    all_are_read, comment_texts, count_of_formulas, fill_color_at, first_cell,
+    first_place_and_table, first_row, formula_count, full_cells, links_outside, opened_from_row,
+    size_of_values, title,
+};
 use cell_data::CellFormat;
 use cell_refs::Dimensions;
 use part_events::XlReader;
@@ -64,20 +68,29 @@ fn formulas_tell_their_group_and_equal_their_copies(rt: HostRuntime) -> Result<(
     Ok(())
 }
 
+/// The relationships of a package, which lead to its workbook.
+const ROOT: Part<'static> = (
+    "_rels/.rels",
+    r#"<Relationships><Relationship Type="http://schemas.openxmlformats.org/officeDocument/2006/relationships/officeDocument" Target="xl/workbook.xml"></Relationship></Relationships>"#,
+);
+
+/// Those of the workbook, which lead to its sheet.
+const RELATED: Part<'static> = (
+    "xl/_rels/workbook.xml.rels",
+    r#"<Relationships><Relationship Id="a" Type="http://schemas.openxmlformats.org/officeDocument/2006/relationships/worksheet" Target="s.xml"></Relationship></Relationships>"#,
+);
+
+/// The workbook, whose sheet is named `S`.
+const WORKBOOK: Part<'static> = (
+    "xl/workbook.xml",
+    r#"<workbook><sheets><sheet name="S" r:id="a"></sheet></sheets></workbook>"#,
+);
+
 /// A workbook of one sheet with a table over A1 and A2.
 const WITH_TABLE: [Part<'static>; 6] = [
-    (
-        "_rels/.rels",
-        r#"<Relationships><Relationship Type="http://schemas.openxmlformats.org/officeDocument/2006/relationships/officeDocument" Target="xl/workbook.xml"></Relationship></Relationships>"#,
-    ),
-    (
-        "xl/_rels/workbook.xml.rels",
-        r#"<Relationships><Relationship Id="a" Type="http://schemas.openxmlformats.org/officeDocument/2006/relationships/worksheet" Target="s.xml"></Relationship></Relationships>"#,
-    ),
-    (
-        "xl/workbook.xml",
-        r#"<workbook><sheets><sheet name="S" r:id="a"></sheet></sheets></workbook>"#,
-    ),
+    ROOT,
+    RELATED,
+    WORKBOOK,
     (
         "xl/s.xml",
         r#"<worksheet><sheetData><row r="1"><c r="B1"><v>7</v></c></row><row r="2"><c r="A2"><v>8</v></c></row></sheetData></worksheet>"#,
@@ -103,5 +116,86 @@ fn a_table_is_read_behind_a_reader(rt: HostRuntime) -> Result<(), Fail> {
     let (place, table) = read?;
     assert!(rt; place == Some((0, 1)));
     assert_eq!(rt; table.name(), "T");
+    Ok(())
+}
+
+/// A workbook of one sheet, with a cell, a link, a comment, a pivot table and a title.
+const SHOWN: [Part<'static>; 13] = [
+    ROOT,
+    RELATED,
+    WORKBOOK,
+    (
+        "xl/styles.xml",
+        r#"<styleSheet><fills><fill></fill><fill><patternFill patternType="solid"><fgColor rgb="FF00FF00"></fgColor></patternFill></fill></fills><cellXfs><xf></xf><xf fillId="1"></xf></cellXfs></styleSheet>"#,
+    ),
+    (
+        "xl/s.xml",
+        r#"<worksheet><sheetData><row r="2"><c r="B2" s="1"><f>3+4</f><v>7</v></c></row></sheetData><hyperlinks><hyperlink ref="B2" r:id="l"></hyperlink></hyperlinks></worksheet>"#,
+    ),
+    (
+        "xl/_rels/s.xml.rels",
+        r#"<Relationships><Relationship Id="l" Type="http://schemas.openxmlformats.org/officeDocument/2006/relationships/hyperlink" Target="page"></Relationship><Relationship Type="http://schemas.openxmlformats.org/officeDocument/2006/relationships/comments" Target="/xl/c.xml"></Relationship><Relationship Type="http://schemas.openxmlformats.org/officeDocument/2006/relationships/pivotTable" Target="/xl/pivotTables/p.xml"></Relationship></Relationships>"#,
+    ),
+    (
+        "xl/c.xml",
+        r#"<comments><commentList><comment ref="B2"><text><t>late</t></text></comment></commentList></comments>"#,
+    ),
+    ("docProps/core.xml", "<a><title>Sales</title></a>"),
+    (
+        "xl/pivotTables/p.xml",
+        r#"<pivotTableDefinition name="P"></pivotTableDefinition>"#,
+    ),
+    (
+        "xl/pivotTables/_rels/p.xml.rels",
+        r#"<Relationships><Relationship Type="http://schemas.openxmlformats.org/officeDocument/2006/relationships/pivotCacheDefinition" Target="../pivotCache/d.xml"></Relationship></Relationships>"#,
+    ),
+    (
+        "xl/pivotCache/_rels/d.xml.rels",
+        r#"<Relationships><Relationship Type="http://schemas.openxmlformats.org/officeDocument/2006/relationships/pivotCacheRecords" Target="r.xml"></Relationship></Relationships>"#,
+    ),
+    (
+        "xl/pivotCache/d.xml",
+        r#"<pivotCacheDefinition><cacheFields><cacheField name="Qty"><sharedItems></sharedItems></cacheField></cacheFields></pivotCacheDefinition>"#,
+    ),
+    (
+        "xl/pivotCache/r.xml",
+        r#"<pivotCacheRecords><r><n v="3"></n></r></pivotCacheRecords>"#,
+    ),
+];
+
+#[test]
+fn short_calls_answer_of_an_open_workbook(rt: HostRuntime) -> Result<(), Fail> {
+    let alloc = rt.alloc();
+    let Ok(mut xlsx) = opened_from_row(alloc, package_of(alloc, &SHOWN)?, 0) else {
+        return Err(XlsxError::Failed.into());
+    };
+    assert!(rt; size_of_values(&mut xlsx, "S")? == (2, 1));
+    assert_eq!(rt; count_of_formulas(&mut xlsx, "S")?, 1);
+    assert!(rt; fill_color_at(&mut xlsx, "S", (1, 1))?.is_some());
+    assert!(rt; all_are_read(&mut xlsx)?);
+    let Some(cell) = first_cell(&mut xlsx, "S")? else {
+        return Err(XlsxError::Failed.into());
+    };
+    assert!(rt; cell.pos == (1, 1));
+    Ok(())
+}
+
+#[test]
+fn short_calls_answer_of_parts_beside_a_sheet(rt: HostRuntime) -> Result<(), Fail> {
+    let alloc = rt.alloc();
+    let Ok(mut xlsx) = opened_from_row(alloc, package_of(alloc, &SHOWN)?, 0) else {
+        return Err(XlsxError::Failed.into());
+    };
+    let texts = comment_texts(alloc, &mut xlsx, "S")?;
+    assert!(rt; texts.len() == 1 && texts[0].as_str() == "late");
+    assert!(rt; links_outside(&mut xlsx, "S")?);
+    let Some(title) = title(alloc, &mut xlsx)? else {
+        return Err(XlsxError::Failed.into());
+    };
+    assert_eq!(rt; title.as_str(), "Sales");
+    let Some(row) = first_row(&mut xlsx, "S", "P")? else {
+        return Err(XlsxError::Failed.into());
+    };
+    assert!(rt; row.len() == 1);
     Ok(())
 }

@@ -21,15 +21,17 @@ impl<P: Package> Xlsx<P> {
     ///
     /// # Examples
     ///
-    /// A line of a `comment`, whose author is asked of its `part`:
+    /// The texts of the comments, part by part:
     ///
     /// ```
-    /// push_comment_line(
-    ///     out,
-    ///     comment.position(),
-    ///     part.author(comment),
-    ///     comment.text(),
-    /// )
+    /// let mut texts = Vec::new(alloc);
+    /// let parts = xlsx.comments_by_sheet_name(name)?;
+    /// for part in &parts {
+    ///     for comment in part.comments() {
+    ///         texts.push(String::from_str(alloc, comment.text())?)?;
+    ///     }
+    /// }
+    /// Ok(texts)
     /// ```
     pub fn comments_by_sheet_name(&mut self, name: &str) -> Result<Vec<Comments>, XlsxError>
         ensures answers { let ask = named_comments_ask name.now (path_of self.old name.now) in

@@ -58,14 +58,11 @@ impl<P: Package> Xlsx<P> {
     ///
     /// # Examples
     ///
-    /// What a link says: its cells, and four texts that may be absent:
+    /// Whether a link of the sheet leads out of the workbook:
     ///
     /// ```
-    /// push_area(out, link.range)?;
-    /// push_optional(out, &link.target)?;
-    /// push_optional(out, &link.location)?;
-    /// push_optional(out, &link.displayed_text)?;
-    /// push_optional(out, &link.tooltip)?;
+    /// let links = xlsx.hyperlinks_by_sheet_name(name)?;
+    /// Ok(links.iter().any(|link| link.target.is_some()))
     /// ```
     pub fn hyperlinks_by_sheet_name(&mut self, name: &str) -> Result<Vec<Hyperlink>, XlsxError>
         ensures uses { Uses (placed_link_events (path_of self.old name.now)

@@ -99,11 +99,14 @@ impl<P: Package> Xlsx<P> {
     ///
     /// # Examples
     ///
-    /// Each row, or why it isn't read:
+    /// The first row of a pivot table, which has the names of its fields:
     ///
     /// ```
-    /// for row in rows {
-    ///     push_row(out, row)?;
+    /// let pivots = xlsx.pivot_tables()?;
+    /// let mut rows = xlsx.pivot_table_data(&pivots, sheet, name)?;
+    /// match rows.next() {
+    ///     Some(row) => Ok(Some(row?)),
+    ///     None => Ok(None),
     /// }
     /// ```
     pub fn pivot_table_data(

@@ -22,16 +22,13 @@ impl<P: Package> Xlsx<P> {
     ///
     /// # Examples
     ///
-    /// The properties that a workbook says, and those that its users named:
+    /// The title of the workbook, where it has one:
     ///
     /// ```
-    /// for (name, property) in NAMED {
-    ///     if let Some(text) = properties.get(property) {
-    ///         write!(out, "{name}={text};")?;
-    ///     }
-    /// }
-    /// for (name, text) in properties.custom_properties.iter() {
-    ///     write!(out, "{name}:{text};")?;
+    /// let properties = xlsx.workbook_properties()?;
+    /// match properties.get(Property::Title) {
+    ///     Some(title) => Ok(Some(String::from_str(alloc, title)?)),
+    ///     None => Ok(None),
     /// }
     /// ```
     pub fn workbook_properties(&mut self) -> Result<WorkbookProperties, XlsxError>

@@ -167,14 +167,11 @@ impl<P: Package> Xlsx<P> {
     ///
     /// # Examples
     ///
-    /// The name and the range of each sheet that is read:
+    /// Whether the values of all sheets are read, so that none is left out:
     ///
     /// ```
-    /// for (name, range) in &sheets {
-    ///     write!(out, "{name} ")?;
-    ///     push_range(out, range)?;
-    ///     out.push_str(";")?;
-    /// }
+    /// let sheets = xlsx.worksheets()?;
+    /// Ok(sheets.len() == xlsx.metadata().sheets.len())
     /// ```
     pub fn worksheets(&mut self) -> Result<Vec<(String, Range<Data>)>, XlsxError>
         ensures uses { let sheets = self.old.metadata.sheets.items in

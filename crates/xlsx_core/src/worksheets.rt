@@ -138,14 +138,11 @@ impl<P: Package> Xlsx<P> {
     ///
     /// # Examples
     ///
-    /// Each value of the range, with its row and its column:
+    /// How many rows and how many columns the values take:
     ///
     /// ```
-    /// for (position, value) in range.used() {
-    ///     write!(out, "({},{} ", position.0, position.1)?;
-    ///     value.push_to(out)?;
-    ///     out.push_str(")")?;
-    /// }
+    /// let range = xlsx.worksheet_range(name)?;
+    /// Ok(range.get_size())
     /// ```
     pub fn worksheet_range(&mut self, name: &str) -> Result<Range<Data>, XlsxError>
         ensures uses { Uses (placed_events (path_of self.old name.now) self.old.xml.source.parts)
@@ -198,15 +195,11 @@ impl<P: Package> Xlsx<P> {
     ///
     /// # Examples
     ///
-    /// The cells of the range whose formula names the cell at a position, counted from 0:
+    /// How many cells have a formula:
     ///
     /// ```
-    /// for (cell, formula) in formulas.used() {
-    ///     let areas = areas_of(alloc, formula)?;
-    ///     if areas.iter().any(|area| area.contains(pos.0, pos.1)) {
-    ///         found.push(cell)?;
-    ///     }
-    /// }
+    /// let formulas = xlsx.worksheet_formula(name)?;
+    /// Ok(formulas.used_count())
     /// ```
     pub fn worksheet_formula(&mut self, name: &str) -> Result<Range<String>, XlsxError>
         ensures uses { Uses (placed_events (path_of self.old name.now) self.old.xml.source.parts)
@@ -236,11 +229,16 @@ impl<P: Package> Xlsx<P> {
     ///
     /// # Examples
     ///
-    /// The positions of the range that have a style id above 0:
+    /// The color that fills the cell at a position, a row and a column counted from 0:
     ///
     /// ```
-    /// for (row, column, id) in range.styled() {
-    ///     write!(out, "({row},{column} {id})")?;
+    /// let styles = xlsx.worksheet_style(name)?;
+    /// let Some(style) = styles.get(position) else {
+    ///     return Ok(None);
+    /// };
+    /// match &style.fill {
+    ///     Some(fill) => Ok(fill.get_color()),
+    ///     None => Ok(None),
     /// }
     /// ```
     pub fn worksheet_style(&mut self, name: &str) -> Result<StyleRange, XlsxError>
@@ -342,13 +340,11 @@ impl<P: Package> Xlsx<P> {
     ///
     /// # Examples
     ///
-    /// Calls of the reader, or why there is none:
+    /// The first cell of a sheet, behind which nothing is read:
     ///
     /// ```
-    /// match opened.xlsx.worksheet_cells_reader(word(words, 1)) {
-    ///     Ok(mut reader) => push_calls(out, strings, &mut reader, words_behind(words, 2)),
-    ///     Err(error) => push_refusal(out, &error),
-    /// }
+    /// let mut reader = xlsx.worksheet_cells_reader(name)?;
+    /// reader.next_cell()
     /// ```
     pub fn worksheet_cells_reader<'a>(
         &'a mut self,

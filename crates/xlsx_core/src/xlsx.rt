@@ -57,16 +57,12 @@ impl<P: Package> Xlsx<P> {
     ///
     /// # Examples
     ///
-    /// A program keeps the workbook, or else the package of one that doesn't open:
+    /// An open workbook whose ranges of values begin with a row, counted from 0:
     ///
     /// ```
-    /// match Xlsx::new(alloc, package) {
-    ///     Ok(xlsx) => Ok(Held::Book(Opened { xlsx, pivots: None })),
-    ///     Err(OpenFailure { error, package }) => {
-    ///         push_refusal(out, &error)?;
-    ///         Ok(Held::Package(package))
-    ///     }
-    /// }
+    /// let mut xlsx = Xlsx::new(alloc, package)?;
+    /// xlsx.with_header_row(HeaderRow::Row(row));
+    /// Ok(xlsx)
     /// ```
     pub fn new(alloc: Global, package: P) -> Result<Xlsx<P>, OpenFailure<P>>
         ensures uses { MatchResult result
@@ -115,13 +111,12 @@ impl<P: Package> Xlsx<P> {
     ///
     /// # Examples
     ///
-    /// The header row that a text asks for by a number, counted from 0:
+    /// A workbook that was just opened, whose ranges begin with a row, counted from 0:
     ///
     /// ```
-    /// match row.parse::<u32>() {
-    ///     Ok(row) => HeaderRow::Row(row),
-    ///     Err(_) => HeaderRow::FirstNonEmptyRow,
-    /// }
+    /// let mut xlsx = Xlsx::new(alloc, package)?;
+    /// xlsx.with_header_row(HeaderRow::Row(row));
+    /// Ok(xlsx)
     /// ```
     pub fn with_header_row(&mut self, header_row: HeaderRow) -> &mut Self
         ensures same_reference { result.ghost_name ≡ self.entry.ghost_name }
@@ -189,12 +184,11 @@ impl<P: Package> Xlsx<P> {
     ///
     /// # Examples
     ///
-    /// A line for each of its `names`, with the text that the name stands for:
+    /// Whether the values of all sheets are read:
     ///
     /// ```
-    /// for name in names {
-    ///     push_pair_line(&mut out, name.0.as_str(), name.1.as_str())?;
-    /// }
+    /// let sheets = xlsx.worksheets()?;
+    /// Ok(sheets.len() == xlsx.metadata().sheets.len())
     /// ```
     pub fn metadata(&self) -> &Metadata
         ensures { result.now ≡ self.now.metadata }
