@@ -1,5 +1,5 @@
 pub mod Counted
+pub mod FirstAnswers
 mod FirstErrors
 pub mod InMemory
-pub mod Shown
 mod Through

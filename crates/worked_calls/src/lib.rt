@@ -9,7 +9,8 @@
 //! of `xlsx_cells`; its own are `FirstErrors` and `Through`. `in_memory` shows that no call that
 //! lends the reader of a package in memory answers `Io`, and `whole_cells` takes all that a cell
 //! has in one pass. `shown` has the examples of calls of an open workbook: functions of a few lines,
-//! whose contracts hand on what the calls say, by the definitions `Shown`.
+//! whose contracts hand on what the calls say, by the definitions `Shown` and the lemmas
+//! `FirstAnswers`.
 #![tactic(auto)]
 
 mod apart;

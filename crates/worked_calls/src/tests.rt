@@ -167,13 +167,15 @@ const SHOWN: [Part<'static>; 13] = [
     (
         "xl/pivotTables/_rels/p.xml.rels",
         "<Relationships><Relationship \
-        Type=\"http://schemas.openxmlformats.org/officeDocument/2006/relationships/pivotCacheDefinition\" \
+        Type=\"http://schemas.openxmlformats.org/officeDocument/2006/relationships/\
+        pivotCacheDefinition\" \
         Target=\"../pivotCache/d.xml\"></Relationship></Relationships>",
     ),
     (
         "xl/pivotCache/_rels/d.xml.rels",
         "<Relationships><Relationship \
-        Type=\"http://schemas.openxmlformats.org/officeDocument/2006/relationships/pivotCacheRecords\" \
+        Type=\"http://schemas.openxmlformats.org/officeDocument/2006/relationships/\
+        pivotCacheRecords\" \
         Target=\"r.xml\"></Relationship></Relationships>",
     ),
     (

@@ -3,7 +3,7 @@ use Rattle.xlsx_pivots.specs.PivotTables.{pivots_kept, paths_of}
 use Rattle.xlsx_pivot_cache.specs.CacheIter.{rows_by}
 use Rattle.xlsx_pivot_cache.specs.CacheRecords.{row_kept}
 use Rattle.xlsx_pivot_cache.specs.PivotRows.{TakesRow}
-use Rattle.worked_calls.proofs.Shown.{first_row_is}
+use Rattle.worked_calls.proofs.FirstAnswers.{first_row_is}
 use Rattle.worked_calls.proofs.shown.first_row.Goals as goal
 
 pub returns-in-Some : goal.returns-in-Some
