@@ -1,9 +1,9 @@
 //! Calls of an open workbook, one or two in each function, and what is done with their answers.
 
-ghost use Rattle.std.specs.Prelude.{◌≡◌, ◌==◌, true, None, Ok, Some, List, length, map, is_some};
+ghost use Rattle.std.specs.Prelude.{◌≡◌, ◌==◌, true, None, Ok, Some, List, length, map};
 ghost use Rattle.std.specs.Prelude.{IfOk, IfErr, IfSome, option_map, string_bytes};
 ghost use Rattle.std.specs.Arc.{arc_str_bytes};
-ghost use Rattle.std.specs.List.{list_any, flat_map};
+ghost use Rattle.std.specs.List.{flat_map};
 ghost use Rattle.cell_data.specs.Range.{cells_of, bounds_of, height_of, width_of};
 ghost use Rattle.cell_styles.specs.StyleMap.{style_at};
 ghost use Rattle.xlsx_areas.specs.Hyperlinks.{link_said};
@@ -135,15 +135,15 @@ pub fn comment_texts<P: Package>(
     Ok(texts)
 }
 
-/// Whether a link of the first sheet of this name leads out of the workbook.
-pub fn links_outside<P: Package>(xlsx: &mut Xlsx<P>, name: &str) -> Result<bool, XlsxError>
+/// How many links the first sheet of this name has.
+pub fn link_count<P: Package>(xlsx: &mut Xlsx<P>, name: &str) -> Result<usize, XlsxError>
     ensures { let path = path_of xlsx.old name.now in
         xlsx.old.xml.source.is_told ≡ true → IfOk result (Shows
         (λ links. links_placed path xlsx.old.xml.source.parts ≡ Some (map link_said links))
-        (λ links. list_any (λ link. is_some link.target) links)) }
+        (λ links. length links)) }
 {
     let links = xlsx.hyperlinks_by_sheet_name(name)?;
-    Ok(links.iter().any(|link| link.target.is_some()))
+    Ok(links.len())
 }
 
 /// The title of the workbook, where it has one.

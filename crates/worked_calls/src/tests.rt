@@ -1,6 +1,6 @@
 use crate::{
     all_are_read, comment_texts, count_of_formulas, fill_color_at, first_cell,
-    first_place_and_table, first_row, formula_count, full_cells, links_outside, opened_from_row,
+    first_place_and_table, first_row, formula_count, full_cells, link_count, opened_from_row,
     size_of_values, title,
 };
 use cell_data::CellFormat;
@@ -214,7 +214,7 @@ fn short_calls_answer_of_parts_beside_a_sheet(rt: HostRuntime) -> Result<(), Fai
     };
     let texts = comment_texts(alloc, &mut xlsx, "S")?;
     assert!(rt; texts.len() == 1 && texts[0].as_str() == "late");
-    assert!(rt; links_outside(&mut xlsx, "S")?);
+    assert!(rt; link_count(&mut xlsx, "S")? == 1);
     let Some(title) = title(alloc, &mut xlsx)? else {
         return Err(XlsxError::Failed.into());
     };

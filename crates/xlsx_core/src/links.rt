@@ -59,11 +59,11 @@ impl<P: Package> Xlsx<P> {
     ///
     /// # Examples
     ///
-    /// Whether a link of the sheet leads out of the workbook:
+    /// How many links the sheet has:
     ///
     /// ```
     /// let links = xlsx.hyperlinks_by_sheet_name(name)?;
-    /// Ok(links.iter().any(|link| link.target.is_some()))
+    /// Ok(links.len())
     /// ```
     pub fn hyperlinks_by_sheet_name(&mut self, name: &str) -> Result<Vec<Hyperlink>, XlsxError>
         ensures uses { Uses (placed_link_events (path_of self.old name.now)
