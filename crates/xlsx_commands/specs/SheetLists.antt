@@ -22,14 +22,17 @@ pub record OpensAt (parts : List Part) (name : List ℕ) (path : Option (List �
   pub opens : OpensAs parts opening
   pub named : path_named name opening.sheets ≡ path
 
+-- the workbook opens, and this holds of its first sheet of this name, whose part is at a path
+abbrev pub HasNamed : (Option (List ℕ) → List Part → Type 0) → List Part → List ℕ → Type 0
+HasNamed has parts name = (path : Option (List ℕ)) × OpensAt parts name path × has path parts
+
 -- why something isn't had of a sheet whose part is at a path
 abbrev pub PathCause : Type 1
 PathCause = Option (List ℕ) → List Part → XlsxError → Type 0
 
 -- the workbook opens, and its first sheet of this name has this cause
 abbrev pub HasNamedCause : PathCause → List Part → List ℕ → XlsxError → Type 0
-HasNamedCause cause parts name error =
-    (path : Option (List ℕ)) × OpensAt parts name path × cause path parts error
+HasNamedCause cause parts name error = HasNamed (λ path own. cause path own error) parts name
 
 -- why something isn't had of that sheet; an opening is never refused because a sheet isn't found
 abbrev pub NamedCause : PathCause → List Part → List ℕ → XlsxError → Type 0
@@ -42,8 +45,7 @@ NamedCause cause parts name error =
 
 -- the workbook opens, and its first sheet of this name has these merged cells
 abbrev pub HasMerges : List Part → List ℕ → List Dimensions → Type 0
-HasMerges parts name areas =
-    (path : Option (List ℕ)) × OpensAt parts name path × (merges_placed path parts ≡ Some areas)
+HasMerges parts name areas = HasNamed (λ path own. merges_placed path own ≡ Some areas) parts name
 
 -- why these aren't had
 abbrev pub MergesPathCause : List ℕ → PathCause
@@ -67,8 +69,7 @@ pub record AreMergeLines (parts : List Part) (name lines : List ℕ) : Type 0 wh
 
 -- the workbook opens, and its first sheet of this name has these links
 abbrev pub HasLinks : List Part → List ℕ → List Link → Type 0
-HasLinks parts name links =
-    (path : Option (List ℕ)) × OpensAt parts name path × (links_placed path parts ≡ Some links)
+HasLinks parts name links = HasNamed (λ path own. links_placed path own ≡ Some links) parts name
 
 -- why these aren't had
 abbrev pub NamedLinksCause : List Part → List ℕ → XlsxError → Type 0
@@ -101,8 +102,7 @@ IsKeptInside own = IsLinkInside (link_said own)
 -- the workbook opens, and its first sheet of this name has these comments, part by part
 abbrev pub HasComments : List Part → List ℕ → List CommentsSaid → Type 0
 HasComments parts name all =
-    (path : Option (List ℕ)) × OpensAt parts name path
-    × ((named_comments_ask name path).said parts ≡ Some all)
+    HasNamed (λ path own. (named_comments_ask name path).said own ≡ Some all) parts name
 
 -- why these aren't had
 abbrev pub CommentsPathCause : List ℕ → PathCause

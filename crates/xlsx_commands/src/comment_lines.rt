@@ -1,30 +1,29 @@
-ghost use Rattle.std.specs.Prelude.{◌≡◌, ◌++◌, map, string_bytes, OnOk, IfOk, IfErr};
+ghost use Rattle.std.specs.Prelude.{◌≡◌, ◌++◌, map, string_bytes, OnOk, IfOk, IfErr, Some};
 ghost use Rattle.xlsx_comments.specs.CommentParts.{comment_kept, comments_kept};
+ghost use Rattle.xlsx_core.specs.Comments.{named_comments_ask};
 ghost use Rattle.xlsx_commands.specs.Outputs.{CallFails};
-ghost use Rattle.xlsx_commands.specs.SheetLists.{HasComments, NamedCommentsCause};
+ghost use Rattle.xlsx_commands.specs.SheetLists.{CommentsPathCause, NamedCommentsCause};
 ghost use Rattle.xlsx_commands.specs.SheetLists.{line_of_comment, part_lines, comment_lines};
 ghost use Rattle.xlsx_commands.specs.SheetLists.{AreCommentLines};
 
 use crate::error::ToolError;
+use crate::named_sheet::{OfSheet, of_sheet};
 use list_lines::push_comment_line;
 use part_events::MemoryPackage;
 use std::alloc::{AllocError, Global};
 use xlsx_core::{Comment, Comments, Xlsx};
+use xlsx_error::XlsxError;
 
-/// The comments of the first sheet of this name, part by part.
-fn comments_of(
-    alloc: Global,
-    package: MemoryPackage,
-    name: &str,
-) -> Result<Vec<Comments>, ToolError>
-    ensures ok { IfOk result (λ all.
-        HasComments «package».parts name.now (map comments_kept all.items)) }
-    ensures err { IfErr result (CallFails (NamedCommentsCause «package».parts name.now)) }
-{
-    let mut xlsx = Xlsx::new(alloc, package)?;
-    let all = xlsx.comments_by_sheet_name(name);
-    drop(xlsx.into_package());
-    Ok(all?)
+/// The comments of a sheet, part by part.
+impl OfSheet for Vec<Comments> {
+    ghost has = { λ all name path parts.
+        (named_comments_ask name path).said parts ≡ Some (map comments_kept all.items) };
+
+    ghost cause = { CommentsPathCause };
+
+    fn ask(xlsx: &mut Xlsx<MemoryPackage>, name: &str) -> Result<Vec<Comments>, XlsxError> {
+        xlsx.comments_by_sheet_name(name)
+    }
 }
 
 /// Appends the line of a comment of a part.
@@ -71,6 +70,6 @@ pub fn comment_lines(
     ensures ok { IfOk result (λ output. AreCommentLines «package».parts name.now output.items) }
     ensures err { IfErr result (CallFails (NamedCommentsCause «package».parts name.now)) }
 {
-    let all = comments_of(alloc, package, name)?;
+    let all: Vec<Comments> = of_sheet(alloc, package, name)?;
     Ok(lines_of_comments(alloc, &all)?.into_bytes())
 }

@@ -5,8 +5,8 @@
 //! rows), `cell_lines`, `book_lists`, `merge_lines`, `link_lines`, `comment_lines`,
 //! `property_lines`, `table_lines`, `pivot_lines`, `pivot_rows`, `sheet_rows`, `table_rows`,
 //! `formula_lines`, `part_line`, `upgraded_text`, `resaved_text` and `sample_lines` (what each
-//! command prints), `output` (each command's own package, where it has one, and its output),
-//! `laws`, and `error` (`ToolError`).
+//! command prints), `named_sheet` (what is asked of the first sheet of a name), `output` (each
+//! command's own package, where it has one, and its output), `laws`, and `error` (`ToolError`).
 //!
 //! **A command is a row of a few tables**: of the words that ask for it (`command_of`), of the
 //! package that it works on where it reads no input (`own_parts`), of its output (`IsOutput`), of
@@ -17,7 +17,8 @@
 //!
 //! What a command asks of the first sheet of a name is said by the path of its part (`OpensAt`),
 //! and why it isn't had by one relation over what refuses it there (`NamedCause`), so that a list
-//! of a sheet adds its own half alone. The lemmas `NamedSheets` join the two halves, `AreasInside`
+//! of a sheet adds its own half alone: an `impl` of `OfSheet`, by a call of the open workbook, and
+//! `of_sheet` opens it and asks. The lemmas `NamedSheets` join the two halves, `AreasInside`
 //! and `LinksInside` say that areas lie in a worksheet, where their lines may be asked for, and
 //! `PropertiesListed` that an ordered map is a list by name. What is asked of all sheets has one
 //! relation of causes, too (`ListedCause`), and `SheetsOpened` its lemmas; `TablesListed`,
@@ -45,6 +46,7 @@ mod formula_lines;
 mod laws;
 mod link_lines;
 mod merge_lines;
+mod named_sheet;
 mod output;
 mod part_line;
 mod pivot_lines;

@@ -1,27 +1,30 @@
 ghost use Rattle.std.specs.Prelude.{◌≡◌, ◌++◌, map, option_map, string_bytes, All, OnOk};
-ghost use Rattle.std.specs.Prelude.{IfOk, IfErr};
+ghost use Rattle.std.specs.Prelude.{IfOk, IfErr, Some};
 ghost use Rattle.std.specs.Option.{option_copied};
 ghost use Rattle.xlsx_areas.specs.Hyperlinks.{link_said};
+ghost use Rattle.xlsx_core.specs.Links.{links_placed, PlacedLinksCause};
 ghost use Rattle.xlsx_commands.specs.Outputs.{CallFails};
-ghost use Rattle.xlsx_commands.specs.SheetLists.{HasLinks, NamedLinksCause, IsKeptInside};
+ghost use Rattle.xlsx_commands.specs.SheetLists.{NamedLinksCause, IsKeptInside};
 ghost use Rattle.xlsx_commands.specs.SheetLists.{line_of_link, link_lines, AreLinkLines};
 
 use crate::error::ToolError;
+use crate::named_sheet::{OfSheet, of_sheet};
 use list_lines::push_link_line;
 use part_events::MemoryPackage;
 use std::alloc::{AllocError, Global};
 use xlsx_core::{Hyperlink, Xlsx};
+use xlsx_error::XlsxError;
 
-/// The links of the first sheet of this name.
-fn links_of(alloc: Global, package: MemoryPackage, name: &str) -> Result<Vec<Hyperlink>, ToolError>
-    ensures ok { IfOk result (λ links.
-        HasLinks «package».parts name.now (map link_said links.items)) }
-    ensures err { IfErr result (CallFails (NamedLinksCause «package».parts name.now)) }
-{
-    let mut xlsx = Xlsx::new(alloc, package)?;
-    let links = xlsx.hyperlinks_by_sheet_name(name);
-    drop(xlsx.into_package());
-    Ok(links?)
+/// The links of a sheet.
+impl OfSheet for Vec<Hyperlink> {
+    ghost has = { λ links name path parts.
+        links_placed path parts ≡ Some (map link_said links.items) };
+
+    ghost cause = { PlacedLinksCause };
+
+    fn ask(xlsx: &mut Xlsx<MemoryPackage>, name: &str) -> Result<Vec<Hyperlink>, XlsxError> {
+        xlsx.hyperlinks_by_sheet_name(name)
+    }
 }
 
 fn text_of(text: &Option<String>) -> Option<&str>
@@ -64,6 +67,6 @@ pub fn link_lines(alloc: Global, package: MemoryPackage, name: &str) -> Result<V
     ensures ok { IfOk result (λ output. AreLinkLines «package».parts name.now output.items) }
     ensures err { IfErr result (CallFails (NamedLinksCause «package».parts name.now)) }
 {
-    let links = links_of(alloc, package, name)?;
+    let links: Vec<Hyperlink> = of_sheet(alloc, package, name)?;
     Ok(lines_of_links(alloc, &links)?.into_bytes())
 }

@@ -1,29 +1,28 @@
-ghost use Rattle.std.specs.Prelude.{◌≡◌, string_bytes, All, IfOk, IfErr};
+ghost use Rattle.std.specs.Prelude.{◌≡◌, string_bytes, All, IfOk, IfErr, Some};
 ghost use Rattle.list_lines.specs.Lines.{LiesInWorksheet};
+ghost use Rattle.xlsx_core.specs.Merges.{merges_placed};
 ghost use Rattle.xlsx_commands.specs.Outputs.{CallFails};
-ghost use Rattle.xlsx_commands.specs.SheetLists.{HasMerges, NamedMergesCause, merge_lines};
+ghost use Rattle.xlsx_commands.specs.SheetLists.{MergesPathCause, NamedMergesCause, merge_lines};
 ghost use Rattle.xlsx_commands.specs.SheetLists.{AreMergeLines};
 
 use crate::error::ToolError;
+use crate::named_sheet::{OfSheet, of_sheet};
 use cell_refs::Dimensions;
 use list_lines::push_area_line;
 use part_events::MemoryPackage;
 use std::alloc::{AllocError, Global};
 use xlsx_core::Xlsx;
+use xlsx_error::XlsxError;
 
-/// The merged cells of the first sheet of this name.
-fn merges_of(
-    alloc: Global,
-    package: MemoryPackage,
-    name: &str,
-) -> Result<Vec<Dimensions>, ToolError>
-    ensures ok { IfOk result (λ areas. HasMerges «package».parts name.now areas.items) }
-    ensures err { IfErr result (CallFails (NamedMergesCause «package».parts name.now)) }
-{
-    let mut xlsx = Xlsx::new(alloc, package)?;
-    let areas = xlsx.merge_cells_by_sheet_name(name);
-    drop(xlsx.into_package());
-    Ok(areas?)
+/// The merged cells of a sheet.
+impl OfSheet for Vec<Dimensions> {
+    ghost has = { λ areas name path parts. merges_placed path parts ≡ Some areas.items };
+
+    ghost cause = { MergesPathCause };
+
+    fn ask(xlsx: &mut Xlsx<MemoryPackage>, name: &str) -> Result<Vec<Dimensions>, XlsxError> {
+        xlsx.merge_cells_by_sheet_name(name)
+    }
 }
 
 fn lines_of_areas(alloc: Global, areas: &[Dimensions]) -> Result<String, AllocError>
@@ -42,6 +41,6 @@ pub fn merge_lines(alloc: Global, package: MemoryPackage, name: &str) -> Result<
     ensures ok { IfOk result (λ output. AreMergeLines «package».parts name.now output.items) }
     ensures err { IfErr result (CallFails (NamedMergesCause «package».parts name.now)) }
 {
-    let areas = merges_of(alloc, package, name)?;
+    let areas: Vec<Dimensions> = of_sheet(alloc, package, name)?;
     Ok(lines_of_areas(alloc, &areas)?.into_bytes())
 }
