@@ -133,13 +133,12 @@ impl<P: Package> Xlsx<P> {
     ///
     /// # Examples
     ///
-    /// The merged cells of a sheet, by a workbook that is needed no more:
+    /// A line for each of the `areas` that are answered:
     ///
     /// ```
-    /// let mut xlsx = Xlsx::new(alloc, package)?;
-    /// let areas = xlsx.merge_cells_by_sheet_name(name);
-    /// drop(xlsx.into_package());
-    /// Ok(areas?)
+    /// for area in areas {
+    ///     push_area_line(&mut out, *area)?;
+    /// }
     /// ```
     pub fn merge_cells_by_sheet_name(&mut self, name: &str) -> Result<Vec<Dimensions>, XlsxError>
         ensures uses { Uses (placed_events (path_of self.old name.now) self.old.xml.source.parts)
