@@ -62,8 +62,6 @@ data_taken result None area old mid new is reads ends = absurd is
 data_taken result (Some path) area old mid new enters reads ends =
     path_taken result path area old mid new enters reads ends
 
--- ---- a part that is no worksheet
-
 -- ---- all sheets
 
 -- one sheet more
