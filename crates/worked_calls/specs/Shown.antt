@@ -26,13 +26,13 @@ pub record Shows {A B : Type 0} (reads : A → Type 0) (asked : A → B) (answer
   pub shows : answer ≡ asked read
 
 -- the color of a style's fill
-abbrev pub color_of : Option Style → Option Color
-color_of None = None
-color_of (Some style) = option_and_then fill_color style.fill
+abbrev pub fill_color_of : Option Style → Option Color
+fill_color_of None = None
+fill_color_of (Some style) = option_and_then fill_color style.fill
 
 -- the texts of the comments of a part
-abbrev pub texts_of : CommentsSaid → List (List ℕ)
-texts_of part = map (λ (own : CommentSaid). own.text) part.comments
+abbrev pub comment_texts_in : CommentsSaid → List (List ℕ)
+comment_texts_in part = map (λ (own : CommentSaid). own.text) part.comments
 
 -- the data of the sheet whose part is at a path were entered, and the first of their cells taken,
 -- where there is one

@@ -8,16 +8,19 @@ ghost use Rattle.cell_data.specs.Range.{cells_of, bounds_of, height_of, width_of
 ghost use Rattle.cell_styles.specs.StyleMap.{style_at};
 ghost use Rattle.xlsx_areas.specs.Hyperlinks.{link_said};
 ghost use Rattle.xlsx_core.specs.Comments.{named_comments_ask};
-ghost use Rattle.xlsx_core.specs.Links.{links_placed};
+ghost use Rattle.xlsx_core.specs.Links.{links_placed, PlacedLinksFail};
 ghost use Rattle.xlsx_core.specs.Listing.{AreListed};
 ghost use Rattle.xlsx_core.specs.Merges.{sheets_of_book};
+ghost use Rattle.xlsx_cells.specs.CellsReader.{values_alone, formulas_alone, styles_alone};
+ghost use Rattle.xlsx_core.specs.SheetReading.{PlacedSheetFails};
 ghost use Rattle.xlsx_core.specs.Worksheets.{ReadsValues, ReadsFormulas, ReadsStyles, path_of};
-ghost use Rattle.xlsx_core.specs.Worksheets.{grounds_of_book, palette_of_book};
+ghost use Rattle.xlsx_core.specs.Worksheets.{grounds_of_book, palette_of_book, RangeFails};
 ghost use Rattle.xlsx_open.specs.Opening.{Opening, HoldsOpening, OpensAs, OpeningFails};
 ghost use Rattle.xlsx_pivot_cache.specs.CacheRecords.{row_kept};
 ghost use Rattle.xlsx_pivots.specs.Pivots.{PivotSaid, pivots_ask};
-ghost use Rattle.xlsx_properties.specs.Parts.{property_said};
-ghost use Rattle.worked_calls.specs.Shown.{Shows, color_of, texts_of};
+ghost use Rattle.xlsx_properties.specs.Parts.{property_said, PropertiesCause};
+ghost use Rattle.xlsx_sections.specs.Failing.{FailsBy, SoundFails};
+ghost use Rattle.worked_calls.specs.Shown.{Shows, fill_color_of, comment_texts_in};
 ghost use Rattle.worked_calls.specs.Shown.{IsFirstCell, IsFirstRow};
 
 use cell_data::{Cell, Data, DataRef, HeaderRow};
@@ -50,11 +53,13 @@ pub fn size_of_values<P: Package>(
     xlsx: &mut Xlsx<P>,
     name: &str,
 ) -> Result<(usize, usize), XlsxError>
-    ensures { let path = path_of xlsx.old name.now in
+    ensures ok { let path = path_of xlsx.old name.now in
         xlsx.old.xml.source.is_told ≡ true → IfOk result
         (Shows (ReadsValues (grounds_of_book xlsx.old) xlsx.old.header_row path
         xlsx.old.xml.source.parts)
         (λ range. (height_of (bounds_of range), width_of (bounds_of range)))) }
+    ensures err { IfErr result (RangeFails name.now values_alone (grounds_of_book xlsx.old)
+        (path_of xlsx.old name.now) xlsx.old.xml.source xlsx.new.xml.source) }
 {
     let range = xlsx.worksheet_range(name)?;
     Ok(range.get_size())
@@ -62,9 +67,11 @@ pub fn size_of_values<P: Package>(
 
 /// How many cells of the first sheet of this name have a formula.
 pub fn count_of_formulas<P: Package>(xlsx: &mut Xlsx<P>, name: &str) -> Result<usize, XlsxError>
-    ensures { xlsx.old.xml.source.is_told ≡ true → IfOk result
+    ensures ok { xlsx.old.xml.source.is_told ≡ true → IfOk result
         (Shows (ReadsFormulas (path_of xlsx.old name.now) xlsx.old.xml.source.parts)
         (λ range. length (cells_of range))) }
+    ensures err { IfErr result (RangeFails name.now formulas_alone (grounds_of_book xlsx.old)
+        (path_of xlsx.old name.now) xlsx.old.xml.source xlsx.new.xml.source) }
 {
     let formulas = xlsx.worksheet_formula(name)?;
     Ok(formulas.used_count())
@@ -76,9 +83,11 @@ pub fn fill_color_at<P: Package>(
     name: &str,
     position: (u32, u32),
 ) -> Result<Option<Color>, XlsxError>
-    ensures { xlsx.old.xml.source.is_told ≡ true → IfOk result
+    ensures ok { xlsx.old.xml.source.is_told ≡ true → IfOk result
         (Shows (ReadsStyles (palette_of_book xlsx.old) (path_of xlsx.old name.now)
-        xlsx.old.xml.source.parts) (λ styles. color_of (style_at styles position))) }
+        xlsx.old.xml.source.parts) (λ styles. fill_color_of (style_at styles position))) }
+    ensures err { IfErr result (PlacedSheetFails name.now styles_alone (grounds_of_book xlsx.old)
+        (path_of xlsx.old name.now) xlsx.old.xml.source xlsx.new.xml.source) }
 {
     let styles = xlsx.worksheet_style(name)?;
     let Some(style) = styles.get(position) else {
@@ -92,10 +101,11 @@ pub fn fill_color_at<P: Package>(
 
 /// Whether the values of all sheets are read: a sheet whose values are refused is left out.
 pub fn all_are_read<P: Package>(xlsx: &mut Xlsx<P>) -> Result<bool, XlsxError>
-    ensures { let sheets = xlsx.old.metadata.sheets.items in
+    ensures ok { let sheets = xlsx.old.metadata.sheets.items in
         xlsx.old.xml.source.is_told ≡ true → IfOk result
         (Shows (AreListed (grounds_of_book xlsx.old) xlsx.old.header_row (path_of xlsx.old)
         xlsx.old.xml.source.parts sheets) (λ listed. length listed == length sheets)) }
+    ensures err { IfErr result (SoundFails xlsx.old.xml.source xlsx.new.xml.source) }
 {
     let sheets = xlsx.worksheets()?;
     Ok(sheets.len() == xlsx.metadata().sheets.len())
@@ -120,10 +130,13 @@ pub fn comment_texts<P: Package>(
     xlsx: &mut Xlsx<P>,
     name: &str,
 ) -> Result<Vec<String>, XlsxError>
-    ensures { let ask = named_comments_ask name.now (path_of xlsx.old name.now) in
+    ensures ok { let ask = named_comments_ask name.now (path_of xlsx.old name.now) in
         xlsx.old.xml.source.is_told ≡ true → IfOk result (λ texts.
-        Shows (λ all. ask.said xlsx.old.xml.source.parts ≡ Some all) (flat_map texts_of)
+        Shows (λ all. ask.said xlsx.old.xml.source.parts ≡ Some all) (flat_map comment_texts_in)
         (map string_bytes texts.items)) }
+    ensures err { let ask = named_comments_ask name.now (path_of xlsx.old name.now) in
+        IfErr result (FailsBy (ask.cause xlsx.old.xml.source.parts)
+        xlsx.old.xml.source xlsx.new.xml.source) }
 {
     let mut texts = Vec::new(alloc);
     let parts = xlsx.comments_by_sheet_name(name)?;
@@ -137,10 +150,12 @@ pub fn comment_texts<P: Package>(
 
 /// How many links the first sheet of this name has.
 pub fn link_count<P: Package>(xlsx: &mut Xlsx<P>, name: &str) -> Result<usize, XlsxError>
-    ensures { let path = path_of xlsx.old name.now in
+    ensures ok { let path = path_of xlsx.old name.now in
         xlsx.old.xml.source.is_told ≡ true → IfOk result (Shows
         (λ links. links_placed path xlsx.old.xml.source.parts ≡ Some (map link_said links))
         (λ links. length links)) }
+    ensures err { IfErr result (PlacedLinksFail name.now (path_of xlsx.old name.now)
+        xlsx.old.xml.source xlsx.new.xml.source) }
 {
     let links = xlsx.hyperlinks_by_sheet_name(name)?;
     Ok(links.len())
@@ -148,9 +163,11 @@ pub fn link_count<P: Package>(xlsx: &mut Xlsx<P>, name: &str) -> Result<usize, X
 
 /// The title of the workbook, where it has one.
 pub fn title<P: Package>(alloc: Global, xlsx: &mut Xlsx<P>) -> Result<Option<String>, XlsxError>
-    ensures { xlsx.old.lists.properties ≡ None → xlsx.old.xml.source.is_told ≡ true →
+    ensures ok { xlsx.old.lists.properties ≡ None → xlsx.old.xml.source.is_told ≡ true →
         IfOk result (λ title. property_said xlsx.old.xml.source.parts Property.Title
         ≡ Ok (option_map string_bytes title)) }
+    ensures err { IfErr result (FailsBy (PropertiesCause xlsx.old.xml.source.parts)
+        xlsx.old.xml.source xlsx.new.xml.source) }
 {
     let properties = xlsx.workbook_properties()?;
     match properties.get(Property::Title) {

@@ -1,7 +1,7 @@
 use Rattle.std.proofs.Common.{◌≡◌, ◌++◌, drop, map, string_bytes}
 use Rattle.std.specs.List.{flat_map}
 use Rattle.xlsx_comments.specs.CommentParts.{CommentSaid, comment_kept, comments_kept}
-use Rattle.worked_calls.specs.Shown.{texts_of}
+use Rattle.worked_calls.specs.Shown.{comment_texts_in}
 use Rattle.worked_calls.proofs.shown.comment_texts.Given as goal
 
 abbrev pub invariant-loop-comment : goal.invariant-loop-comment
@@ -15,5 +15,5 @@ invariant-loop-comment g l =
 abbrev pub invariant-loop-part : goal.invariant-loop-part
 invariant-loop-part g l =
     map string_bytes l.texts.items
-    ++ flat_map texts_of (map comments_kept (drop l.part-index l.part-items))
-    ≡ flat_map texts_of (map comments_kept l.part-items)
+    ++ flat_map comment_texts_in (map comments_kept (drop l.part-index l.part-items))
+    ≡ flat_map comment_texts_in (map comments_kept l.part-items)
