@@ -1,0 +1,27 @@
+-- The events that the text of a part is cut into.
+use Rattle.std.specs.Prelude.{ℕ, zero, suc, ◌-◌, List, [], ◌∷◌, ◌++◌}
+use Rattle.markup.specs.Event.{Event, start, end, leaf, flaw}
+use Rattle.markup.specs.declared.event.Flaw.TheVariants.{Malformed}
+use Rattle.markup.specs.Front.{Piece, one, empty, Front, flawed, piece, front_of}
+
+-- the events of a piece
+abbrev pub events_of_piece : Piece → List Event
+events_of_piece (one event) = event ∷ []
+events_of_piece (empty tag) = start tag ∷ end tag.name ∷ []
+
+-- the events that begin with this front, where `more` gives those behind so many bytes that follow
+-- its first one; a flaw is the last
+abbrev pub events_from : (ℕ → List Event) → Front → List Event
+events_from more flawed = leaf (flaw Malformed) ∷ []
+events_from more (piece first size) = events_of_piece first ++ more (size - 1)
+
+-- the events of what follows the first n bytes of a text
+unfoldable pub events_behind : List ℕ → ℕ → List Event
+events_behind [] n = []
+events_behind (b ∷ bytes) (suc n) = events_behind bytes n
+events_behind (b ∷ bytes) zero = events_from (events_behind bytes) (front_of b bytes)
+
+-- the events of a text: those of the piece that it begins with, and those of the rest; behind a
+-- flaw nothing is told
+unfoldable pub markup_events : List ℕ → List Event
+markup_events text = events_behind text 0
