@@ -6,3 +6,5 @@ pub mod Steps
 pub mod Doctypes
 pub mod Spans
 pub mod FirstBytes
+pub mod Runs
+pub mod CutBack

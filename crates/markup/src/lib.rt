@@ -8,7 +8,9 @@ mod cutter;
 mod doctype;
 mod event;
 mod found;
+mod laws;
 mod marks;
 
 pub use cutter::Cutter;
 pub use event::{Flaw, PartEvent, StartTag};
+pub use laws::{events_come_in_order, spelled_markup_is_cut_back};
