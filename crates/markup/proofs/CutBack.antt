@@ -1,23 +1,22 @@
 -- Markup that is written is cut back.
 use Rattle.std.proofs.Common.{◌≡◌, ℕ, suc, ◌+◌, ◌-◌, Bool, true, false, List, [], ◌∷◌, ◌++◌, length}
-use Rattle.std.proofs.Common.{Option, Some, None, refl, sym, ap, ◌∙◌, arith, get_or, take, drop}
+use Rattle.std.proofs.Common.{None, refl, sym, ap, ◌∙◌, arith, take, drop}
 use Rattle.std.specs.Prelude.{◌==◌, ◌||◌, ◌&&◌, not}
 use Rattle.std.specs.List.{list_any, position_or_len, flat_map}
 use Rattle.std.proofs.lemmas.Bool.{cond-true, cond-false, or_parts, and_parts, eq-eqb, ne_eqb}
 use Rattle.std.proofs.lemmas.Bool.{false≢true, not-true, and_from, or_left}
 use Rattle.std.proofs.lemmas.List.{append_assoc, length-append, get_or-append-add}
 use Rattle.std.proofs.Math.Seq.{take-append_seam, drop-append_seam, get_or-append_seam}
-use Rattle.markup.specs.Event.{Tag, Event, Leaf, start, end, leaf, text, char_data, entity_ref}
+use Rattle.markup.specs.Event.{Tag, Event, start, end, leaf, text, char_data, entity_ref}
 use Rattle.markup.specs.Event.{other, flaw}
 use Rattle.markup.specs.Marks.{ends_name, begins_no_name, is_space, is_bracket, is_mark, byte_at}
 use Rattle.markup.specs.Marks.{is_reference_end, bracket_place, place_of, without_space_behind}
-use Rattle.markup.specs.Front.{Piece, one, empty, Front, flawed, piece, front_of, markup_front}
-use Rattle.markup.specs.Front.{start_front, end_front, reference_front, text_front, tagged}
+use Rattle.markup.specs.Front.{Piece, one, empty, piece, front_of, markup_front}
+use Rattle.markup.specs.Front.{start_front, reference_front, tagged}
 use Rattle.markup.specs.Front.{attributed, is_behind_name, span_front, last_byte}
 use Rattle.markup.specs.Markup.{markup_events, events_from, events_of_piece}
 use Rattle.markup.specs.Spelled.{spelled, spelled_piece, are_spellable, is_spellable, is_words}
 use Rattle.markup.specs.Spelled.{begin_with_words, is_tag_name, is_attribute_text, is_end_name}
-use Rattle.markup.specs.Spelled.{is_spellable_leaf}
 use Rattle.markup.proofs.InOrder.{events_in_order, no_events}
 use Rattle.markup.proofs.Runs.{neither, search_over, stops_at, plain_byte, bracket_over}
 use Rattle.markup.proofs.Runs.{bracket_behind, name_ends_before, kept_whole, data_over, none_from}
@@ -107,8 +106,11 @@ start_cut (n ∷ name) attributes more is fits slash =
     let place : bracket_place None (attributes ++ 62 ∷ more) ≡ length attributes =
     bracket_behind attributes (62 ∷ more) fits ∙ omega arith in
     let size : length (n ∷ name) + length attributes + 2 ≡ suc (length own) =
-    omega (arith, length-append (n ∷ name) (attributes ++ 62 ∷ []),
-    length-append attributes (62 ∷ [])) in
+    omega (
+      arith,
+      length-append (n ∷ name) (attributes ++ 62 ∷ []),
+      length-append attributes (62 ∷ []),
+    ) in
     cut_first (one (start tag)) 60 own more
     (ap markup_front apart
     ∙ tag_front n name attributes more is (name_ends_before attributes 62 more fits refl) place
@@ -146,8 +148,11 @@ empty_cut (n ∷ name) attributes more is fits =
     let kept : take (length inner - 1) inner ≡ attributes =
     ap (λ k. take k inner) before ∙ take-append_seam attributes (47 ∷ []) in
     let size : length (n ∷ name) + length inner + 2 ≡ suc (length own) =
-    omega (arith, length-append (n ∷ name) (attributes ++ 47 ∷ 62 ∷ []),
-    length-append attributes (47 ∷ 62 ∷ [])) in
+    omega (
+      arith,
+      length-append (n ∷ name) (attributes ++ 47 ∷ 62 ∷ []),
+      length-append attributes (47 ∷ 62 ∷ []),
+    ) in
     cut_first (empty tag) 60 own more
     (ap markup_front apart
     ∙ tag_front n name inner more is ends place (behind_empty attributes fits)

@@ -8,3 +8,4 @@ pub mod Spans
 pub mod FirstBytes
 pub mod Runs
 pub mod CutBack
+pub mod Fronts

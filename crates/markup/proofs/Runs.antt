@@ -1,11 +1,11 @@
 -- Searches that pass over bytes at which they don't stop, with more behind these.
 use Rattle.std.proofs.Common.{◌≡◌, ℕ, suc, ◌+◌, Bool, true, false, List, [], ◌∷◌, ◌++◌, length}
 use Rattle.std.proofs.Common.{Option, Some, None, refl, sym, ap, ◌∙◌, arith, inl, inr, take, ◌-◌}
-use Rattle.std.specs.Prelude.{◌==◌, ◌||◌, ◌&&◌, not, is_none}
-use Rattle.std.specs.List.{list_any, position_or_len, prefix_len, suffix_len}
+use Rattle.std.specs.Prelude.{◌==◌, ◌||◌, not, is_none}
+use Rattle.std.specs.List.{list_any, position_or_len, suffix_len}
 use Rattle.std.specs.Option.{option_map}
 use Rattle.std.proofs.lemmas.Bool.{cond-true, cond-false, or_parts, and_parts, cases_Bool, eqb-true}
-use Rattle.std.proofs.lemmas.Bool.{true≢false, false≢true, not-true, and_right}
+use Rattle.std.proofs.lemmas.Bool.{true≢false, false≢true, and_right}
 use Rattle.std.proofs.lemmas.List.Sums.{suffix_len_is}
 use Rattle.std.proofs.Math.Seq.{take-length}
 use Rattle.markup.specs.Marks.{ends_name, is_space, is_bracket, is_quote, bracket_place, ends_tag}
@@ -75,15 +75,15 @@ bracket_run None [] more is = omega arith
 bracket_run (Some open_quote) [] more is = absurd (omega arith)
 bracket_run quote (b ∷ bytes) more is = elim (cases_Bool (ends_tag quote b)) [
   | inl here ↦
-    let none : bracket_place quote (b ∷ (bytes ++ 62 ∷ [])) ≡ 0 = cond-true _ _ _ here in
-    absurd (omega arith)
+      let none : bracket_place quote (b ∷ (bytes ++ 62 ∷ [])) ≡ 0 = cond-true _ _ _ here in
+      absurd (omega arith)
   | inr there ↦
-    let own : bracket_place quote (b ∷ (bytes ++ 62 ∷ []))
-    ≡ suc (bracket_place (quote_behind quote b) (bytes ++ 62 ∷ [])) = cond-false _ _ _ there in
-    let later = bracket_run (quote_behind quote b) bytes more (omega arith) in
-    let now : bracket_place quote (b ∷ (bytes ++ more))
-    ≡ suc (bracket_place (quote_behind quote b) (bytes ++ more)) = cond-false _ _ _ there in
-    now ∙ omega arith
+      let own : bracket_place quote (b ∷ (bytes ++ 62 ∷ []))
+      ≡ suc (bracket_place (quote_behind quote b) (bytes ++ 62 ∷ [])) = cond-false _ _ _ there in
+      let later = bracket_run (quote_behind quote b) bytes more (omega arith) in
+      let now : bracket_place quote (b ∷ (bytes ++ more))
+      ≡ suc (bracket_place (quote_behind quote b) (bytes ++ more)) = cond-false _ _ _ there in
+      now ∙ omega arith
 ]
 
 attribute_place : (attributes : List ℕ) → is_attribute_text attributes ≡ true
@@ -142,11 +142,11 @@ unfolding place_of
 data_over [] more none = refl
 data_over (b ∷ content) more none = elim (cases_Bool (begins_with closing (b ∷ content))) [
   | inl here ↦
-    let found : place_of closing (b ∷ content) ≡ Some 0 = cond-true _ _ _ here in
-    absurd cc
+      let found : place_of closing (b ∷ content) ≡ Some 0 = cond-true _ _ _ here in
+      absurd cc
   | inr there ↦
-    let own : place_of closing (b ∷ content) ≡ option_map suc (place_of closing content) =
-    cond-false _ _ _ there in
-    let later = data_over content more (none_behind (place_of closing content) (sym own ∙ none)) in
-    cond-false _ _ _ (not_yet b content more there) ∙ ap (option_map suc) later
+      let own : place_of closing (b ∷ content) ≡ option_map suc (place_of closing content) =
+      cond-false _ _ _ there in
+      let later = data_over content more (none_behind (place_of closing content) (sym own ∙ none)) in
+      cond-false _ _ _ (not_yet b content more there) ∙ ap (option_map suc) later
 ]

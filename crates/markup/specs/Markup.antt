@@ -1,6 +1,6 @@
 -- The events that the text of a part is cut into.
-use Rattle.std.specs.Prelude.{ℕ, zero, suc, ◌-◌, List, [], ◌∷◌, ◌++◌}
-use Rattle.markup.specs.Event.{Event, start, end, leaf, flaw}
+use Rattle.std.specs.Prelude.{ℕ, zero, suc, ◌-◌, List, [], ◌∷◌, ◌++◌, Bool, false}
+use Rattle.markup.specs.Event.{Event, start, end, leaf, flaw, is_flaw}
 use Rattle.markup.specs.declared.event.Flaw.TheVariants.{Malformed}
 use Rattle.markup.specs.Front.{Piece, one, empty, Front, flawed, piece, front_of}
 
@@ -25,3 +25,9 @@ events_behind (b ∷ bytes) zero = events_from (events_behind bytes) (front_of b
 -- flaw nothing is told
 unfoldable pub markup_events : List ℕ → List Event
 markup_events text = events_behind text 0
+
+-- an event is a flaw
+abbrev pub is_flaw_event : Event → Bool
+is_flaw_event (start tag) = false
+is_flaw_event (end name) = false
+is_flaw_event (leaf kind) = is_flaw kind
