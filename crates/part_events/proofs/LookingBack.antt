@@ -29,7 +29,7 @@ deep_start tag past was (suc outside) opening is = omega (arith, was.deep outsid
 pub balances : (past : List Event) → IsWhole past → Balances past
 balances [] is = record { ends = omega arith; deep = λ outside opening never. absurd (cc) }
 balances (start tag ∷ past) is =
-    let was = balances past is in
+    let was = balances past is.1 in
     record { ends = omega (arith, was.ends); deep = deep_start tag past was }
 balances (end name ∷ past) is =
     let was = balances past is.1 in
@@ -38,7 +38,7 @@ balances (end name ∷ past) is =
       ends = omega (arith, was.deep 0 found.0 found.1);
       deep = λ outside opening here. omega (arith, was.deep (suc outside) opening here);
     }
-balances (leaf kind ∷ past) is = let was = balances past is in
+balances (leaf kind ∷ past) is = let was = balances past is.1 in
     record { ends = was.ends; deep = was.deep }
 
 pub record Finds (outside : ℕ) (past : List Event) (opening : OpenStart) : Type 0 where
@@ -98,17 +98,17 @@ pub finds_last : (past : List Event) (outside : ℕ) (opening : OpenStart) → I
     → open_start outside past ≡ Some opening → Finds outside past opening
 finds_last [] outside opening is here = absurd (cc)
 finds_last (start tag ∷ past) zero opening is here =
-    finds_here tag past opening (balances past is) here
+    finds_here tag past opening (balances past is.1) here
 finds_last (start tag ∷ past) (suc outside) opening is here =
     finds_behind (start tag) past opening (suc outside) outside
-    (finds_last past outside opening is here) (omega (arith, (balances past is).ends))
+    (finds_last past outside opening is.1 here) (omega (arith, (balances past is.1).ends))
     (λ other_tag same. omega arith)
 finds_last (end name ∷ past) outside opening is here =
     finds_behind (end name) past opening outside (suc outside)
     (finds_last past (suc outside) opening is.1 here)
     (omega (arith, (balances (end name ∷ past) is).ends)) (λ other_tag same. absurd (cc))
 finds_last (leaf kind ∷ past) outside opening is here =
-    finds_behind (leaf kind) past opening outside outside (finds_last past outside opening is here)
+    finds_behind (leaf kind) past opening outside outside (finds_last past outside opening is.1 here)
     refl (λ other_tag same. absurd (cc))
 
 abbrev IsLast : ℕ → List Event → Tag → List Event → Type 0
@@ -131,15 +131,15 @@ pub found_back : (later : List Event) (outside : ℕ) (tag : Tag) (before : List
     ≡ Some (record { tag = tag; before = before })
 found_back [] zero tag before is out last = refl
 found_back [] (suc outside) tag before is out last =
-    absurd (omega (arith, (balances before is).ends, out))
+    absurd (omega (arith, (balances before is.1).ends, out))
 found_back (start next ∷ later) zero tag before is out last =
     absurd (last [] later next refl
-    (omega (arith, out, (balances (later ++ start tag ∷ before) is).ends)))
+    (omega (arith, out, (balances (later ++ start tag ∷ before) is.1).ends)))
 found_back (start next ∷ later) (suc outside) tag before is out last =
     let moves : depth (start next ∷ (later ++ start tag ∷ before)) + outside
     ≡ depth (later ++ start tag ∷ before) + suc outside =
-    omega (arith, (balances (later ++ start tag ∷ before) is).ends) in
-    found_back later outside tag before is (omega (arith, out, moves))
+    omega (arith, (balances (later ++ start tag ∷ before) is.1).ends) in
+    found_back later outside tag before is.1 (omega (arith, out, moves))
     (last_behind (start next) later tag before (suc outside) outside last moves)
 found_back (end name ∷ later) outside tag before is out last =
     let moves : depth (end name ∷ (later ++ start tag ∷ before)) + suc outside
@@ -148,7 +148,7 @@ found_back (end name ∷ later) outside tag before is out last =
     found_back later (suc outside) tag before is.1 (omega (arith, out, moves))
     (last_behind (end name) later tag before outside (suc outside) last moves)
 found_back (leaf kind ∷ later) outside tag before is out last =
-    found_back later outside tag before is out
+    found_back later outside tag before is.1 out
     (last_behind (leaf kind) later tag before outside outside last refl)
 
 pub innermost_is_last : (past : List Event) (opening : OpenStart) → IsWhole past → open_start 0 past

@@ -1,14 +1,17 @@
 -- Wholeness, and the names of the open elements, from one event to the next.
 use Rattle.std.proofs.Common.{◌≡◌, ℕ, List, [], ◌∷◌, ◌++◌, length, reverse, Bool, true}
 use Rattle.std.proofs.Common.{false, refl, sym, ◌∙◌, ap, arith, append_assoc, append-nil, inl, inr}
-use Rattle.std.proofs.Common.{◌⊎◌}
-use Rattle.std.specs.Prelude.{if◌then◌else◌}
+use Rattle.std.proofs.Common.{◌⊎◌, Option, Some, subst}
+use Rattle.std.specs.Prelude.{if◌then◌else◌, slice_get, get_or, IsSomeAnd}
+use Rattle.std.proofs.Math.Seq.{get_or-append_seam}
 use Rattle.std.proofs.lemmas.Grind.{reverse_onto}
 use Rattle.std.proofs.lemmas.List.{length-append, length-reverse}
-use Rattle.part_events.specs.Event.{Event, start, end, leaf}
-use Rattle.part_events.specs.Nesting.{closes, IsWhole, whole_rest, whole}
+use Rattle.std.proofs.lemmas.Option.{slice_get_read}
+use Rattle.part_events.specs.Event.{Event}
+use Rattle.part_events.specs.Nesting.{goes_on, IsWhole, whole_rest, whole}
 use Rattle.part_events.specs.NestingLaws.{WholeIsLongest}
-use Rattle.part_events.specs.Reading.{BreaksAt}
+use Rattle.part_events.specs.Reading.{BreaksAt, break_by}
+use Rattle.part_events.specs.declared.fault.BreakCause.{BreakCause}
 
 -- the list with one event taken of it
 pub reverse_on : (event : Event) (past rest : List Event) → reverse (event ∷ past) ++ rest
@@ -21,55 +24,58 @@ reverse_on event past rest =
 pub whole_split : (past rest : List Event) → IsWhole past → whole (reverse past ++ rest)
     ≡ reverse past ++ whole_rest past rest
 whole_split [] rest is = refl
-whole_split (start tag ∷ past) rest is =
-    ap whole (reverse_on (start tag) past rest) ∙ whole_split past (start tag ∷ rest) is
-    ∙ sym (reverse_on (start tag) past (whole_rest (start tag ∷ past) rest))
-whole_split (end name ∷ past) rest is =
-    ap whole (reverse_on (end name) past rest) ∙ whole_split past (end name ∷ rest) is.1
+whole_split (event ∷ past) rest is =
+    ap whole (reverse_on event past rest) ∙ whole_split past (event ∷ rest) is.1
     ∙ ap (λ (b : Bool). reverse past ++
-    (if b then end name ∷ whole_rest (end name ∷ past) rest else [])) is.0
-    ∙ sym (reverse_on (end name) past (whole_rest (end name ∷ past) rest))
-whole_split (leaf kind ∷ past) rest is =
-    ap whole (reverse_on (leaf kind) past rest) ∙ whole_split past (leaf kind ∷ rest) is
-    ∙ sym (reverse_on (leaf kind) past (whole_rest (leaf kind ∷ past) rest))
+    (if b then event ∷ whole_rest (event ∷ past) rest else [])) is.0
+    ∙ sym (reverse_on event past (whole_rest (event ∷ past) rest))
 
--- an end that breaks the nesting ends the longest whole front
-pub broken : (past rest : List Event) (name : List ℕ) → IsWhole past → closes past name ≡ false
-    → BreaksAt (reverse past ++ end name ∷ rest) (length past)
-broken past rest name is breaks =
-    let front : whole (reverse past ++ end name ∷ rest) ≡ reverse past =
-    whole_split past (end name ∷ rest) is
+-- the event behind those that were taken
+behind_taken : (past rest : List Event) (event : Event)
+    → slice_get (reverse past ++ event ∷ rest) (length past) ≡ Some event
+behind_taken past rest event =
+    let all = reverse past ++ event ∷ rest in
+    let same = length-reverse past in
+    slice_get_read all (length all) (length past) event refl
+    (omega (arith, length-append (reverse past) (event ∷ rest), same))
+    (sym (subst (λ (n : ℕ). get_or all n event ≡ event) same
+    (get_or-append_seam (reverse past) event rest event)))
+
+-- an event that doesn't go on ends the longest whole front
+pub broken : (past rest : List Event) (event : Event) (why : BreakCause) → IsWhole past
+    → goes_on past event ≡ false → break_by event ≡ Some why
+    → BreaksAt (reverse past ++ event ∷ rest) (length past) why
+broken past rest event why is breaks by =
+    let front : whole (reverse past ++ event ∷ rest) ≡ reverse past =
+    whole_split past (event ∷ rest) is
     ∙ ap (λ (b : Bool). reverse past ++
-    (if b then end name ∷ whole_rest (end name ∷ past) rest else [])) breaks
+    (if b then event ∷ whole_rest (event ∷ past) rest else [])) breaks
     ∙ append-nil (reverse past)
     in
     record {
       before = ap length front ∙ length-reverse past;
-      breaks = omega (arith, length-append (reverse past) (end name ∷ rest), length-reverse past);
+      breaks = omega (arith, length-append (reverse past) (event ∷ rest), length-reverse past);
+      cause = subst (λ (found : Option Event). IsSomeAnd found (λ own. break_by own ≡ Some why))
+          (sym (behind_taken past rest event)) by;
     }
 
 -- the longest whole front behind what was taken
 pub whole_rest_is_whole : (past rest : List Event) → IsWhole past
     → IsWhole (reverse (whole_rest past rest) ++ past)
 whole_rest_is_whole past [] is = is
-whole_rest_is_whole past (start tag ∷ rest) is =
-    rw reverse_on (whole_rest_is_whole (start tag ∷ past) rest is)
-whole_rest_is_whole past (end name ∷ rest) is =
-    elim (closes past name) as (λ b. closes past name ≡ b
-    → IsWhole (reverse (if b then end name ∷ whole_rest (end name ∷ past) rest else []) ++
-    past)) [
-      | true ↦ λ closed. rw reverse_on (whole_rest_is_whole (end name ∷ past) rest (closed, is))
+whole_rest_is_whole past (event ∷ rest) is =
+    elim (goes_on past event) as (λ b. goes_on past event ≡ b
+    → IsWhole (reverse (if b then event ∷ whole_rest (event ∷ past) rest else []) ++ past)) [
+      | true ↦ λ goes. rw reverse_on (whole_rest_is_whole (event ∷ past) rest (goes, is))
       | false ↦ λ breaks. is
     ] refl
-whole_rest_is_whole past (leaf kind ∷ rest) is =
-    rw reverse_on (whole_rest_is_whole (leaf kind ∷ past) rest is)
 
--- what follows is whole, or an end in it breaks the nesting
+-- what follows is whole, or an event in it doesn't go on
 record Breaks (past rest : List Event) : Type 0 where
-  name : List ℕ
+  event : Event
   more : List Event
-  parts : rest ≡ whole_rest past rest ++ end name ∷ more
-  breaks : closes (reverse (whole_rest past rest) ++ past) name ≡ false
+  parts : rest ≡ whole_rest past rest ++ event ∷ more
+  breaks : goes_on (reverse (whole_rest past rest) ++ past) event ≡ false
 
 breaks_behind : (event : Event) (past rest : List Event) → whole_rest past (event ∷ rest)
     ≡ event ∷ whole_rest (event ∷ past) rest → (whole_rest (event ∷ past) rest ≡ rest)
@@ -78,7 +84,7 @@ breaks_behind : (event : Event) (past rest : List Event) → whole_rest past (ev
 breaks_behind event past rest next (inl all) = inl (next
     ∙ ap (λ (events : List Event). event ∷ events) all)
 breaks_behind event past rest next (inr broken_there) = inr (record {
-  name = broken_there.name;
+  event = broken_there.event;
   more = broken_there.more;
   parts = rw next (ap (λ (events : List Event). event ∷ events) broken_there.parts);
   breaks = rw (next, reverse_on) broken_there.breaks;
@@ -86,22 +92,17 @@ breaks_behind event past rest next (inr broken_there) = inr (record {
 
 whole_or_broken : (past rest : List Event) → (whole_rest past rest ≡ rest) ⊎ Breaks past rest
 whole_or_broken past [] = inl refl
-whole_or_broken past (start tag ∷ rest) =
-    breaks_behind (start tag) past rest refl (whole_or_broken (start tag ∷ past) rest)
-whole_or_broken past (end name ∷ rest) =
-    elim (closes past name) as (λ b. closes past name ≡ b
-    → (whole_rest past (end name ∷ rest) ≡ end name ∷ rest) ⊎ Breaks past (end name ∷ rest)) [
-      | true ↦ λ closed. breaks_behind (end name) past rest
-          (ap (λ (b : Bool). if b then end name ∷ whole_rest (end name ∷ past) rest else []) closed)
-          (whole_or_broken (end name ∷ past) rest)
+whole_or_broken past (event ∷ rest) =
+    elim (goes_on past event) as (λ b. goes_on past event ≡ b
+    → (whole_rest past (event ∷ rest) ≡ event ∷ rest) ⊎ Breaks past (event ∷ rest)) [
+      | true ↦ λ goes. breaks_behind event past rest
+          (ap (λ (b : Bool). if b then event ∷ whole_rest (event ∷ past) rest else []) goes)
+          (whole_or_broken (event ∷ past) rest)
       | false ↦ λ breaks.
-          let none : whole_rest past (end name ∷ rest) ≡ [] =
-          ap (λ (b : Bool). if b then end name ∷ whole_rest (end name ∷ past) rest else [])
-          breaks in
-          inr (record { name = name; more = rest; parts = rw none refl; breaks = rw none breaks })
+          let none : whole_rest past (event ∷ rest) ≡ [] =
+          ap (λ (b : Bool). if b then event ∷ whole_rest (event ∷ past) rest else []) breaks in
+          inr (record { event = event; more = rest; parts = rw none refl; breaks = rw none breaks })
     ] refl
-whole_or_broken past (leaf kind ∷ rest) =
-    breaks_behind (leaf kind) past rest refl (whole_or_broken (leaf kind ∷ past) rest)
 
 pub whole_is_longest : (events : List Event) → WholeIsLongest events
 whole_is_longest events = record {
@@ -110,7 +111,7 @@ whole_is_longest events = record {
     | inl all ↦ inl all
     | inr found ↦ inr
         (record {
-          name = found.name;
+          event = found.event;
           more = found.more;
           parts = found.parts;
           breaks =

@@ -15,7 +15,7 @@ use Rattle.part_events.specs.Stored.{between, event_from, stored_event, IsPiece,
 use Rattle.part_events.specs.Stored.{end_of, with_begins, begin_at, end_behind, Extends}
 use Rattle.part_events.specs.declared.stored.StoredEvent.{StoredEvent}
 use Rattle.part_events.specs.declared.stored.StoredEvent.TheVariants.{Start, End, Text, CharData}
-use Rattle.part_events.specs.declared.stored.StoredEvent.TheVariants.{EntityRef, Other}
+use Rattle.part_events.specs.declared.stored.StoredEvent.TheVariants.{EntityRef, Flaw, Other}
 
 pub Extends-refl : (bytes : List ℕ) → Extends bytes bytes
 Extends-refl bytes = record { more = []; is_text = IsUtf8-nil; joined = sym (append-nil bytes) }
@@ -86,6 +86,8 @@ LiesFrom_kept old new first (CharData last) extends fits =
     IsPiece_kept old new first last extends fits
 LiesFrom_kept old new first (EntityRef last) extends fits =
     IsPiece_kept old new first last extends fits
+LiesFrom_kept old new first (Flaw why last) extends fits =
+    IsPiece_kept old new first last extends fits
 LiesFrom_kept old new first (Other last) extends fits = IsPiece_kept old new first last extends fits
 
 pub event_kept : (old new : List ℕ) (first : ℕ) (event : StoredEvent) → Extends old new
@@ -104,6 +106,7 @@ event_kept old new first (CharData last) extends fits =
 event_kept old new first (EntityRef last) extends fits =
     ap (λ (written : List ℕ). leaf (entity_ref written))
     (between_kept old new first last extends fits)
+event_kept old new first (Flaw why last) extends fits = refl
 event_kept old new first (Other last) extends fits = refl
 
 pub All_kept : (old new : List ℕ) (events : List (ℕ × StoredEvent)) → Extends old new

@@ -6,13 +6,14 @@ use Rattle.std.specs.Prelude.{IsSomeAnd}
 use Rattle.attr_text.specs.Text.{entity_character, line_ends}
 use Rattle.attr_text.specs.declared.fault.TextFault.{TextFault}
 use Rattle.attr_text.specs.declared.fault.TextFault.TheVariants as text_fault
-use Rattle.part_events.specs.Event.{Event, start, end, leaf, text, char_data, entity_ref, other}
+use Rattle.part_events.specs.Event.{Event, start, end, leaf, text, char_data, entity_ref, flaw}
+use Rattle.part_events.specs.Event.{other}
 use Rattle.part_events.specs.Package.{HasCause}
 use Rattle.part_events.specs.Reading.{Reading, IsAtEnd, BreaksNext, ahead, events_of}
 use Rattle.part_events.specs.Section.{content, is_closed, behind}
 use Rattle.part_events.specs.declared.fault.StreamError.{StreamError}
 use Rattle.part_events.specs.declared.fault.StreamError.TheVariants.{Io, Xml, OutOfMemory}
-use Rattle.part_events.specs.declared.fault.XmlFault.TheVariants.{EndMismatch, Unclosed, Entity}
+use Rattle.part_events.specs.declared.fault.XmlFault.TheVariants.{Break, Unclosed, Entity}
 
 -- the UTF-8 bytes of a character, if there is one
 abbrev pub character_text : Option ℕ → List ℕ
@@ -26,6 +27,7 @@ event_text data_too (end name) = []
 event_text data_too (leaf (text written)) = line_ends written
 event_text data_too (leaf (char_data written)) = if data_too then line_ends written else []
 event_text data_too (leaf (entity_ref name)) = character_text (entity_character name)
+event_text data_too (leaf (flaw why)) = []
 event_text data_too (leaf other) = []
 
 -- the texts of these events, one behind another; of character data only where it counts, too
@@ -40,6 +42,7 @@ is_unknown (end name) = false
 is_unknown (leaf (text written)) = false
 is_unknown (leaf (char_data written)) = false
 is_unknown (leaf (entity_ref name)) = is_none (entity_character name)
+is_unknown (leaf (flaw why)) = false
 is_unknown (leaf other) = false
 
 -- How many events stand behind the first reference without a character. Where there is one, the
@@ -75,13 +78,13 @@ pub record ReadsText (data_too is_whole : Bool) (texts : List ℕ
 abbrev pub IsUnknownAt : List Event → ℕ → Type 0
 IsUnknownAt events at = IsSomeAnd (slice_get events at) (λ event. is_unknown event ≡ true)
 
--- when a text can't be read; a break of the nesting is told only where no reference without a
+-- when a text can't be read; a break is told only where no reference without a
 -- character comes before
 abbrev pub TextFails : Reading → Reading → StreamError → Type 0
 TextFails old new Io = HasCause old.source new.source
-TextFails old new (Xml (EndMismatch at)) =
+TextFails old new (Xml (Break at why)) =
     old.source.is_told ≡ true →
-    BreaksNext old new at × (is_closed 0 (ahead old) ≡ false)
+    BreaksNext old new at why × (is_closed 0 (ahead old) ≡ false)
     × (unknown_entity (content 0 (ahead old)) ≡ None)
 TextFails old new (Xml (Unclosed at)) = ⊥
 TextFails old new (Xml (Entity at)) =

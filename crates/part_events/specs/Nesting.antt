@@ -1,10 +1,10 @@
 -- How the elements of a part nest. A place in a part is seen by what stands before it, the latest
 -- event first.
 use Rattle.std.specs.Prelude.{◌≡◌, ℕ, zero, suc, ◌+◌, ◌-◌, List, [], ◌∷◌, Bool, true, false}
-use Rattle.std.specs.Prelude.{if◌then◌else◌, Option, Some, None, option_map}
+use Rattle.std.specs.Prelude.{if◌then◌else◌, Option, Some, None, option_map, not}
 use Rattle.std.specs.Option.{option_map_or}
 use Rattle.std.specs.Str.{bytes_eq}
-use Rattle.part_events.specs.Event.{Tag, Event, start, end, leaf}
+use Rattle.part_events.specs.Event.{Tag, Event, start, end, leaf, is_flaw}
 
 -- how many starts are among these events
 abbrev pub starts_in : List Event → ℕ
@@ -51,20 +51,23 @@ open_name outside past =
 abbrev pub closes : List Event → List ℕ → Bool
 closes past name = option_map_or (bytes_eq name) (open_name 0 past) false
 
--- each end has the whole name of the element that is innermost where it stands
+-- An event goes on with what stands before it, and breaks nothing: an end has the whole name of the
+-- innermost open element, and a flaw never goes on.
+abbrev pub goes_on : List Event → Event → Bool
+goes_on past (start tag) = true
+goes_on past (end name) = closes past name
+goes_on past (leaf kind) = not (is_flaw kind)
+
+-- each event goes on with those before it
 abbrev pub IsWhole : List Event → Type 0
 IsWhole [] = Unit {0}
-IsWhole (start tag ∷ past) = IsWhole past
-IsWhole (end name ∷ past) = (closes past name ≡ true) × IsWhole past
-IsWhole (leaf kind ∷ past) = IsWhole past
+IsWhole (event ∷ past) = (goes_on past event ≡ true) × IsWhole past
 
--- what follows up to the first end that breaks the nesting
+-- what follows up to the first end that breaks the nesting, or the first flaw
 abbrev pub whole_rest : List Event → List Event → List Event
 whole_rest past [] = []
-whole_rest past (start tag ∷ rest) = start tag ∷ whole_rest (start tag ∷ past) rest
-whole_rest past (end name ∷ rest) =
-    if closes past name then end name ∷ whole_rest (end name ∷ past) rest else []
-whole_rest past (leaf kind ∷ rest) = leaf kind ∷ whole_rest (leaf kind ∷ past) rest
+whole_rest past (event ∷ rest) =
+    if goes_on past event then event ∷ whole_rest (event ∷ past) rest else []
 
 -- the longest front of a part that is whole
 abbrev pub whole : List Event → List Event

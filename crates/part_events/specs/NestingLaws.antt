@@ -2,7 +2,7 @@
 use Rattle.std.specs.Prelude.{◌≡◌, ◌≢◌, ℕ, ◌+◌, List, [], ◌∷◌, ◌++◌, map, reverse, Bool, true}
 use Rattle.std.specs.Prelude.{false, ◌⊎◌, ◌==◌, if◌then◌else◌, Some}
 use Rattle.part_events.specs.Event.{Tag, Event, start, end, leaf, is_start}
-use Rattle.part_events.specs.Nesting.{OpenStart, depth, innermost_open, closes, IsWhole, whole}
+use Rattle.part_events.specs.Nesting.{OpenStart, depth, innermost_open, goes_on, IsWhole, whole}
 use Rattle.part_events.specs.Section.{Element, element_of, content, is_closed, behind, outermost}
 use Rattle.part_events.specs.Section.{children}
 
@@ -77,14 +77,14 @@ ChildrenAreAtDepthOne =
     → map (λ (child : Element). child.tag) (children (content 0 events))
     ≡ starts_at 1 (start tag ∷ []) (content 0 events)
 
--- an end that breaks the nesting stands behind a front of the events
+-- behind a front of the events stands one that doesn't go on: an end of another name, or a flaw
 pub record BreaksBehind (events front : List Event) : Type 0 where
-  pub name : List ℕ
+  pub event : Event
   pub more : List Event
-  pub parts : events ≡ front ++ end name ∷ more
-  pub breaks : closes (reverse front) name ≡ false
+  pub parts : events ≡ front ++ event ∷ more
+  pub breaks : goes_on (reverse front) event ≡ false
 
--- the longest whole front is whole, and is all, or an end behind it breaks the nesting
+-- the longest whole front is whole, and is all, or the event behind it doesn't go on
 pub record WholeIsLongest (events : List Event) : Type 0 where
   pub is_whole : IsWhole (reverse (whole events))
   pub longest : (whole events ≡ events) ⊎ BreaksBehind events (whole events)

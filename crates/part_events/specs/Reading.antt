@@ -1,8 +1,10 @@
 -- A reader of a part: what it is to its caller, and what its calls do.
 use Rattle.std.specs.Prelude.{◌≡◌, ⊤, ℕ, suc, ◌+◌, ◌-◌, ◌<◌, ◌≤◌, ◌^◌, List, [], ◌∷◌, ◌++◌}
 use Rattle.std.specs.Prelude.{length, reverse, slice_get, Bool, true, false, Result, MatchResult}
+use Rattle.std.specs.Prelude.{Option, Some, None, IsSomeAnd}
 use Rattle.std.specs.declared.alloc.Global.{Global}
-use Rattle.part_events.specs.Event.{Event, start, end, leaf, is_start}
+use Rattle.part_events.specs.Event.{Event, start, end, leaf, is_start, text, char_data}
+use Rattle.part_events.specs.Event.{entity_ref, flaw, other}
 use Rattle.part_events.specs.Nesting.{starts_in, ends_in, depth, open_name, IsWhole, whole_rest}
 use Rattle.part_events.specs.Nesting.{whole}
 use Rattle.part_events.specs.Package.{PackageState, HasCause, KeepsFaults, SameParts}
@@ -10,7 +12,9 @@ use Rattle.part_events.specs.Package.{CountsUp}
 use Rattle.part_events.specs.Section.{content, is_closed, behind}
 use Rattle.part_events.specs.declared.fault.StreamError.{StreamError}
 use Rattle.part_events.specs.declared.fault.StreamError.TheVariants.{Io, Xml, OutOfMemory}
-use Rattle.part_events.specs.declared.fault.XmlFault.TheVariants.{EndMismatch, Unclosed, Entity}
+use Rattle.part_events.specs.declared.fault.BreakCause.{BreakCause}
+use Rattle.part_events.specs.declared.fault.BreakCause.TheVariants.{EndMismatch, Flawed}
+use Rattle.part_events.specs.declared.fault.XmlFault.TheVariants.{Break, Unclosed, Entity}
 
 -- what a reader is to its caller: its package, the names of the open elements, the innermost first,
 -- how many events of the part it took, whether nothing can be read on, since no part was opened or
@@ -26,7 +30,7 @@ pub record Reading : Type 0 where
 abbrev pub events_of : Reading → List Event
 events_of r = reverse r.source.past ++ r.source.rest
 
--- what is ahead of a reader, up to the first end that breaks the nesting
+-- what is ahead of a reader, up to the first end that breaks the nesting, or the first flaw
 abbrev pub ahead : Reading → List Event
 ahead r = whole_rest r.source.past r.source.rest
 
@@ -158,20 +162,32 @@ StepsAhead true old new = (ahead old ≡ new.source.current ∷ ahead new)
     × (new.source.past ≡ new.source.current ∷ old.source.past)
 StepsAhead false old new = (ahead old ≡ []) × IsAtEnd new × (new.source.past ≡ old.source.past)
 
--- event `at` of the part is the first end that breaks the nesting
-pub record BreaksAt (events : List Event) (at : ℕ) : Type 0 where
+-- why an event breaks what it stands in, where it does: no start and no leaf but a flaw ever does
+abbrev pub break_by : Event → Option BreakCause
+break_by (start tag) = None
+break_by (end name) = Some EndMismatch
+break_by (leaf (text content)) = None
+break_by (leaf (char_data content)) = None
+break_by (leaf (entity_ref name)) = None
+break_by (leaf (flaw why)) = Some (Flawed why)
+break_by (leaf other) = None
+
+-- event `at` of the part is the first that doesn't go on with those before it: an end that breaks
+-- the nesting, or a flaw, as `why` says
+pub record BreaksAt (events : List Event) (at : ℕ) (why : BreakCause) : Type 0 where
   pub before : length (whole events) ≡ at
   pub breaks : at < length events
+  pub cause : IsSomeAnd (slice_get events at) (λ event. break_by event ≡ Some why)
 
--- a call was refused at event `at` of the same part, which breaks the nesting
-abbrev pub BreaksNext : Reading → Reading → ℕ → Type 0
-BreaksNext old new at = (events_of new ≡ events_of old) × BreaksAt (events_of new) at
+-- a call was refused at event `at` of the same part, which breaks what it stands in
+abbrev pub BreaksNext : Reading → Reading → ℕ → BreakCause → Type 0
+BreaksNext old new at why = (events_of new ≡ events_of old) × BreaksAt (events_of new) at why
 
 -- when a step is refused; want of memory may come at any time
 abbrev pub NextFails : Reading → Reading → StreamError → Type 0
 NextFails old new Io = HasCause old.source new.source
-NextFails old new (Xml (EndMismatch at)) =
-    old.source.is_told ≡ true → BreaksNext old new at × (ahead old ≡ [])
+NextFails old new (Xml (Break at why)) =
+    old.source.is_told ≡ true → BreaksNext old new at why × (ahead old ≡ [])
 NextFails old new (Xml (Unclosed at)) = ⊥
 NextFails old new (Xml (Entity at)) = ⊥
 NextFails old new OutOfMemory = ⊤
@@ -202,8 +218,8 @@ ReadsElement fault result old new =
 -- when an element can't be skipped
 abbrev pub SkipFails : Reading → Reading → StreamError → Type 0
 SkipFails old new Io = HasCause old.source new.source
-SkipFails old new (Xml (EndMismatch at)) =
-    old.source.is_told ≡ true → BreaksNext old new at × (is_closed 0 (ahead old) ≡ false)
+SkipFails old new (Xml (Break at why)) =
+    old.source.is_told ≡ true → BreaksNext old new at why × (is_closed 0 (ahead old) ≡ false)
 SkipFails old new (Xml (Unclosed at)) =
     old.source.is_told ≡ true →
     (events_of new ≡ events_of old) × EndsOpen (events_of new) at

@@ -1,10 +1,11 @@
 -- How a part keeps its events: one text with all their texts, and where those of each end in it.
 use Rattle.std.specs.Prelude.{◌≡◌, ℕ, zero, suc, ◌-◌, ◌≤◌, List, [], ◌∷◌, ◌++◌, take, drop}
 use Rattle.std.specs.Str.{IsCharBoundary, IsUtf8}
-use Rattle.part_events.specs.Event.{Event, start, end, leaf, text, char_data, entity_ref, other}
+use Rattle.part_events.specs.Event.{Event, start, end, leaf, text, char_data, entity_ref, flaw}
+use Rattle.part_events.specs.Event.{other}
 use Rattle.part_events.specs.declared.stored.StoredEvent.{StoredEvent}
 use Rattle.part_events.specs.declared.stored.StoredEvent.TheVariants.{Start, End, Text, CharData}
-use Rattle.part_events.specs.declared.stored.StoredEvent.TheVariants.{EntityRef, Other}
+use Rattle.part_events.specs.declared.stored.StoredEvent.TheVariants.{EntityRef, Flaw, Other}
 
 -- the texts of an event, one behind the other
 abbrev pub stored_texts : Event → List ℕ
@@ -13,6 +14,7 @@ stored_texts (end name) = name
 stored_texts (leaf (text content)) = content
 stored_texts (leaf (char_data content)) = content
 stored_texts (leaf (entity_ref name)) = name
+stored_texts (leaf (flaw why)) = []
 stored_texts (leaf other) = []
 
 -- the bytes of the text from one place to another
@@ -26,6 +28,7 @@ end_of (End last) = last
 end_of (Text last) = last
 end_of (CharData last) = last
 end_of (EntityRef last) = last
+end_of (Flaw why last) = last
 end_of (Other last) = last
 
 -- the event whose texts begin at a place of the text
@@ -36,6 +39,7 @@ event_from bytes first (End last) = end (between bytes first last)
 event_from bytes first (Text last) = leaf (text (between bytes first last))
 event_from bytes first (CharData last) = leaf (char_data (between bytes first last))
 event_from bytes first (EntityRef last) = leaf (entity_ref (between bytes first last))
+event_from bytes first (Flaw why last) = leaf (flaw why)
 event_from bytes first (Other last) = leaf other
 
 -- both places lie between characters
@@ -52,6 +56,7 @@ LiesFrom bytes first (End last) = IsPiece bytes first last
 LiesFrom bytes first (Text last) = IsPiece bytes first last
 LiesFrom bytes first (CharData last) = IsPiece bytes first last
 LiesFrom bytes first (EntityRef last) = IsPiece bytes first last
+LiesFrom bytes first (Flaw why last) = IsPiece bytes first last
 LiesFrom bytes first (Other last) = IsPiece bytes first last
 
 -- an event, and where its texts begin

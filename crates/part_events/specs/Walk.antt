@@ -10,7 +10,7 @@ use Rattle.part_events.specs.Section.{Element, content, is_closed, behind, start
 use Rattle.part_events.specs.Section.{outermost, unclosed, is_any, is_named}
 use Rattle.part_events.specs.declared.fault.StreamError.{StreamError}
 use Rattle.part_events.specs.declared.fault.StreamError.TheVariants.{Io, Xml, OutOfMemory}
-use Rattle.part_events.specs.declared.fault.XmlFault.TheVariants.{EndMismatch, Unclosed, Entity}
+use Rattle.part_events.specs.declared.fault.XmlFault.TheVariants.{Break, Unclosed, Entity}
 use Rattle.part_events.specs.declared.walk.Step.{Step}
 use Rattle.part_events.specs.declared.walk.Step.TheVariants.{Found, Closed, Ended}
 use Rattle.part_events.specs.declared.walk.Wanted.{Wanted}
@@ -37,7 +37,7 @@ is_closed_ahead base r = is_closed (inside base r) (ahead r)
 abbrev pub behind_section : ℕ → Reading → List Event
 behind_section base r = behind (inside base r) (ahead r)
 
--- the number that the section's end has in its part, where it is closed before the nesting breaks
+-- the number that the section's end has in its part, where it is closed before a break
 abbrev pub section_end : ℕ → Reading → ℕ
 section_end base r = r.at + length (section_ahead base r)
 
@@ -80,9 +80,9 @@ StepsInside base Ended old new = HasNoneInside base old new
 -- closed before
 abbrev pub InsideFails : ℕ → Reading → Reading → StreamError → Type 0
 InsideFails base old new Io = HasCause old.source new.source
-InsideFails base old new (Xml (EndMismatch at)) =
+InsideFails base old new (Xml (Break at why)) =
     old.source.is_told ≡ true →
-    BreaksNext old new at × (is_closed_ahead base old ≡ false) × (ahead old ≡ [])
+    BreaksNext old new at why × (is_closed_ahead base old ≡ false) × (ahead old ≡ [])
 InsideFails base old new (Xml (Unclosed at)) = ⊥
 InsideFails base old new (Xml (Entity at)) = ⊥
 InsideFails base old new OutOfMemory = ⊤
@@ -182,9 +182,9 @@ FindsElement wanted base Ended old new = EndsInSection wanted base old new
 -- when a walk is refused: a break of the nesting comes before the section is closed
 abbrev pub WalkFails : (Tag → Bool) → ℕ → Reading → Reading → StreamError → Type 0
 WalkFails wanted base old new Io = HasCause old.source new.source
-WalkFails wanted base old new (Xml (EndMismatch at)) =
+WalkFails wanted base old new (Xml (Break at why)) =
     old.source.is_told ≡ true →
-    BreaksNext old new at × (is_closed_ahead base old ≡ false)
+    BreaksNext old new at why × (is_closed_ahead base old ≡ false)
     × (behind_start wanted (ahead old) ≡ None)
 WalkFails wanted base old new (Xml (Unclosed at)) = ⊥
 WalkFails wanted base old new (Xml (Entity at)) = ⊥

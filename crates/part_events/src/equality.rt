@@ -3,7 +3,8 @@ ghost use Rattle.equalities.specs.Equality.{IsEquality, IsEqualityBy, CopiesItse
 ghost use Rattle.part_events.specs.Event.{tag_of, event_of};
 
 use crate::event::{PartEvent, StartTag};
-use crate::fault::{StreamError, XmlFault};
+use crate::fault::{BreakCause, StreamError, XmlFault};
+use crate::flaw::Flaw;
 use crate::memory::Place;
 use crate::package::PackageFailed;
 use crate::stored::StoredEvent;
@@ -14,6 +15,8 @@ use crate::walk::{Step, Wanted};
 pub fn equality_is_by_all_fields<'a>()
     ensures start_tag { IsEqualityBy tag_of ⟦<StartTag<'a> as PartialEq>⟧.eq }
     ensures part_event { IsEqualityBy event_of ⟦<PartEvent<'a> as PartialEq>⟧.eq }
+    ensures flaw { IsEquality ⟦<Flaw as PartialEq>⟧.eq }
+    ensures break_cause { IsEquality ⟦<BreakCause as PartialEq>⟧.eq }
     ensures xml_fault { IsEquality ⟦<XmlFault as PartialEq>⟧.eq }
     ensures stream_error { IsEquality ⟦<StreamError as PartialEq>⟧.eq }
     ensures package_failed { IsEquality ⟦<PackageFailed as PartialEq>⟧.eq }
@@ -26,6 +29,9 @@ pub fn copies_are_the_same<'a>()
         ⟦<StartTag<'a> as Clone>⟧.is_infallible }
     ensures part_event { CopiesItself ⟦<PartEvent<'a> as Clone>⟧.is_clone
         ⟦<PartEvent<'a> as Clone>⟧.is_infallible }
+    ensures flaw { CopiesItself ⟦<Flaw as Clone>⟧.is_clone ⟦<Flaw as Clone>⟧.is_infallible }
+    ensures break_cause { CopiesItself ⟦<BreakCause as Clone>⟧.is_clone
+        ⟦<BreakCause as Clone>⟧.is_infallible }
     ensures xml_fault { CopiesItself ⟦<XmlFault as Clone>⟧.is_clone
         ⟦<XmlFault as Clone>⟧.is_infallible }
     ensures stream_error { CopiesItself ⟦<StreamError as Clone>⟧.is_clone

@@ -1,6 +1,7 @@
 ghost use Rattle.std.specs.Prelude.{◌≡◌};
 ghost use Rattle.attr_text.specs.Attributes.{local_name_of};
 
+use crate::flaw::Flaw;
 use attr_text::{RawAttributes, local_name};
 
 /// The start of an element.
@@ -39,6 +40,9 @@ pub enum PartEvent<'a> {
     CharData(&'a str),
     /// The name between `&` and `;`.
     EntityRef(&'a str),
+    /// Nothing is told of the part from here on. It is the part's last event, and no element goes on
+    /// behind it.
+    Flaw(Flaw),
     /// A comment, a declaration or an instruction.
     Other,
 }

@@ -1,17 +1,41 @@
 ghost use Rattle.std.specs.Prelude.{◌≡◌};
 ghost use Rattle.part_events.specs.declared.fault.StreamError.TheVariants.{Io, Xml, OutOfMemory};
 
+use crate::flaw::Flaw;
 use crate::package::PackageFailed;
 use std::alloc::AllocError;
 use std::fmt;
 use thiserror::Error;
 
+/// Why an event doesn't go on with what stands before it.
+#[derive(Clone, Copy, Debug, PartialEq, Eq)]
+pub enum BreakCause {
+    /// An end whose whole name is not that of the innermost open element.
+    EndMismatch,
+    /// Nothing is told of the part from there on.
+    Flawed(Flaw),
+}
+
+impl BreakCause {
+    ghost use Rattle.part_events.specs.StreamFaults.{break_description};
+
+    /// What is wrong, in words.
+    pub fn description(&self) -> &'static str
+        ensures { result.now ≡ break_description self.now }
+    {
+        match self {
+            BreakCause::EndMismatch => "end tag mismatch",
+            BreakCause::Flawed(flaw) => flaw.description(),
+        }
+    }
+}
+
 /// What is wrong with the markup of a part. Events are counted from 0.
 #[derive(Clone, Copy, Debug, PartialEq, Eq, Error)]
 pub enum XmlFault {
-    /// An end whose whole name is not that of the innermost open element.
+    /// No element goes on at this event: it is an end of another name, or a flaw.
     #[error("{} at {}", self.description(), self.place())]
-    EndMismatch { at: u64 },
+    Break { at: u64, why: BreakCause },
     /// The part has `at` events, and ends inside an element that was to be read to its end.
     #[error("{} at {}", self.description(), self.place())]
     Unclosed { at: u64 },
@@ -28,7 +52,7 @@ impl XmlFault {
         ensures { result.now ≡ markup_description self.now }
     {
         match self {
-            XmlFault::EndMismatch { .. } => "end tag mismatch",
+            XmlFault::Break { at: _, why } => why.description(),
             XmlFault::Unclosed { .. } => "unclosed element",
             XmlFault::Entity { .. } => "unknown entity",
         }
@@ -39,7 +63,7 @@ impl XmlFault {
         ensures { result ≡ markup_place self.now }
     {
         match *self {
-            XmlFault::EndMismatch { at } | XmlFault::Unclosed { at } | XmlFault::Entity { at } =>
+            XmlFault::Break { at, why: _ } | XmlFault::Unclosed { at } | XmlFault::Entity { at } =>
                 at,
         }
     }

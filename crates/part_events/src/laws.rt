@@ -27,7 +27,8 @@ pub fn children_are_at_depth_one()
     ensures { ChildrenAreAtDepthOne }
 {}
 
-/// The longest whole front of a part is whole, and the event behind it breaks the nesting.
+/// The longest whole front of a part is whole, and the event behind it is an end that breaks the
+/// nesting, or a flaw.
 pub fn whole_is_longest()
     ensures { (events : List Event) → WholeIsLongest events }
 {}

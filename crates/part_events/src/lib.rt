@@ -4,8 +4,8 @@
 //! keeps its events), `part_names` (an ordered map from folded names to parts), `memory`
 //! (`MemoryPackage`), `failing` (`FailingPackage`), `quiet` (`QuietPackage`), `open_names` (the
 //! names of the open elements), `reader` (`XlReader`), `text` (an element's text), `walk` (the step
-//! through a section, and the loop to its next wanted start), `fault` (`XmlFault`, `StreamError`),
-//! `equality` (`==` and copies), `laws`.
+//! through a section, and the loop to its next wanted start), `flaw` (`Flaw`), `fault` (`XmlFault`,
+//! `BreakCause`, `StreamError`), `equality` (`==` and copies), `laws`.
 //!
 //! The trait `Package` has one ghost member, `state`: what the package is to its reader
 //! (`PackageState`). Whether a package tells its content to proofs is its own choice (`is_told`).
@@ -16,8 +16,10 @@
 //! A part in memory keeps the texts of its events in one text, and for each event where its texts
 //! lie in it, so that an event takes no allocation of its own.
 //!
-//! An event is a start, an end, or a leaf, which nests nothing (text, character data, a reference,
-//! anything else): what is said of nesting has three equations. A start and an element carry how
+//! An event is a start, an end, or a leaf, which nests nothing (text, character data, a reference, a
+//! flaw, anything else): what is said of nesting has three equations. **A flaw** is told where nothing
+//! more can be told of a part. The events before it are read as ever, no element goes on behind it,
+//! and who needs more is refused there, as at an end of another name (`Break`). A start and an element carry how
 //! many events of their list stand behind them. That number stays the same while a loop takes
 //! events, so a refusal can tell the very event that is at fault.
 //!
@@ -30,7 +32,7 @@
 //! section is read, tells whether it lies in the section, or closes it; `XlReader::walk` goes by
 //! this step, and passes it or answers it as a wanted start; the element's own function, in a crate
 //! above, reads what it keeps. What a reader answers is said of `ahead`: what is to come up to the
-//! first end that breaks the nesting.
+//! first end that breaks the nesting, or the first flaw.
 //!
 //! **A reader owns its package**, and is seen by contracts as where it stands (`Reading`): the
 //! state of the package, the names of the open elements, how many events of the part were taken,
@@ -48,6 +50,7 @@ mod equality;
 mod event;
 mod failing;
 mod fault;
+mod flaw;
 mod laws;
 mod memory;
 mod open_names;
@@ -62,7 +65,8 @@ mod walk;
 pub use equality::{copies_are_the_same, equality_is_by_all_fields};
 pub use event::{PartEvent, StartTag};
 pub use failing::FailingPackage;
-pub use fault::{StreamError, XmlFault};
+pub use fault::{BreakCause, StreamError, XmlFault};
+pub use flaw::Flaw;
 pub use laws::{
     children_are_at_depth_one, content_is_by_match, innermost_open_is_by_depth,
     outermost_is_in_order, whole_is_longest,

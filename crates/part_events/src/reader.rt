@@ -8,7 +8,7 @@ ghost use Rattle.part_events.specs.Reading.{Reading, OpensReader, IsReading, Rea
 ghost use Rattle.part_events.specs.Reading.{StepsAhead, NextFails};
 
 use crate::event::PartEvent;
-use crate::fault::{StreamError, XmlFault};
+use crate::fault::{BreakCause, StreamError, XmlFault};
 use crate::open_names::OpenNames;
 use crate::package::Package;
 use std::alloc::Global;
@@ -95,7 +95,8 @@ impl<P: Package> XlReader<P> {
 
     /// Opens the part of this name, and stands before its first event. Answers false where there is
     /// none, and then there is no event to come. Its only refusal is `Io`, where a call of the
-    /// package failed, and then no part is open and nothing can be read on.
+    /// package failed, and then no part is open, no event of one was taken, and nothing can be read
+    /// on.
     pub fn open(&mut self, name: &str) -> Result<bool, StreamError>
         ensures reader { IfOk result (λ found. OpensReader self.old.source self.new) }
         ensures counts { IfOk result
@@ -105,6 +106,7 @@ impl<P: Package> XlReader<P> {
         ensures keeps { SameParts self.old.source self.new.source }
         ensures failed { OnErr result (Fails self.old.source self.new.source) }
         ensures rests { self.new.is_failed ≡ is_err result }
+        ensures begins { (self.new.at ≡ 0) × (self.new.names ≡ []) }
         ensures alloc { self.new.alloc ≡ self.old.alloc }
         ensures err { IfErr result (λ error. error ≡ Io) }
     {
@@ -120,8 +122,8 @@ impl<P: Package> XlReader<P> {
     }
 
     /// Takes the next event of the part. Answers false at the part's end. An end has to have the
-    /// whole name of the innermost open element, and is refused otherwise as `Xml(EndMismatch)`
-    /// with its number, counted from 0.
+    /// whole name of the innermost open element, and is refused otherwise as `Xml(Break)` with its
+    /// number, counted from 0; so is a flaw.
     pub fn next(&mut self) -> Result<bool, StreamError>
         requires { IsReading self.old }
         ensures reads { Reads Io result self.old self.new }
@@ -142,8 +144,13 @@ impl<P: Package> XlReader<P> {
             PartEvent::Start(tag) => self.names.open(tag.name)?,
             PartEvent::End(name) => {
                 if !self.names.close(name) {
-                    return Err(StreamError::Xml(XmlFault::EndMismatch { at }));
+                    let why = BreakCause::EndMismatch;
+                    return Err(StreamError::Xml(XmlFault::Break { at, why }));
                 }
+            }
+            PartEvent::Flaw(flaw) => {
+                let why = BreakCause::Flawed(flaw);
+                return Err(StreamError::Xml(XmlFault::Break { at, why }));
             }
             PartEvent::Text(_)
             | PartEvent::CharData(_)

@@ -33,7 +33,7 @@ pub fn push_text(out: &mut String, event: PartEvent<'_>, char_data: bool) -> Res
             }
         }
         PartEvent::EntityRef(name) => push_entity(out, name)?,
-        PartEvent::Start(_) | PartEvent::End(_) | PartEvent::Other => {}
+        PartEvent::Start(_) | PartEvent::End(_) | PartEvent::Flaw(_) | PartEvent::Other => {}
     }
     Ok(())
 }
@@ -58,7 +58,7 @@ impl<P: Package> XlReader<P> {
     /// `out` has its old text and that of the events before.
     ///
     /// A reference without a character is refused as `Xml(Entity)`, and an end that breaks the
-    /// nesting as `Xml(EndMismatch)`, each with its number, counted from 0.
+    /// nesting, or a flaw, as `Xml(Break)`, each with its number, counted from 0.
     pub fn read_text(&mut self, out: &mut String, char_data: bool) -> Result<bool, StreamError>
         requires reading { IsReading self.old }
         requires element { IsAtElement self.old }

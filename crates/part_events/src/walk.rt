@@ -59,8 +59,8 @@ impl<P: Package> XlReader<P> {
     /// Takes the next event of the section whose element is number `base` of the open ones, counted
     /// from 1. With a `base` of 0 the section is the whole part.
     ///
-    /// A part that ends in the section is no refusal. An end that breaks the nesting is refused as
-    /// `Xml(EndMismatch)` with its number, counted from 0.
+    /// A part that ends in the section is no refusal. An end that breaks the nesting, or a flaw, is
+    /// refused as `Xml(Break)` with its number, counted from 0.
     pub fn next_inside(&mut self, base: usize) -> Result<Step, StreamError>
         requires reading { IsReading self.old }
         requires within { base ≤ length self.old.names }
@@ -111,8 +111,8 @@ impl<P: Package> XlReader<P> {
     /// element is number `base` of the open ones, counted from 1. With a `base` of 0 the whole part
     /// is walked over.
     ///
-    /// A part that ends in the section is no refusal. An end that breaks the nesting is refused as
-    /// `Xml(EndMismatch)` with its number, counted from 0.
+    /// A part that ends in the section is no refusal. An end that breaks the nesting, or a flaw, is
+    /// refused as `Xml(Break)` with its number, counted from 0.
     pub fn next_start(&mut self, base: usize, names: &[&str]) -> Result<Step, StreamError>
         requires reading { IsReading self.old }
         requires within { base ≤ length self.old.names }
@@ -132,8 +132,8 @@ impl<P: Package> XlReader<P> {
     /// that is found has to be read to its end before the next one is asked for, so that those that
     /// lie in it are left aside.
     ///
-    /// A part that ends in the section is no refusal. An end that breaks the nesting is refused as
-    /// `Xml(EndMismatch)` with its number, counted from 0.
+    /// A part that ends in the section is no refusal. An end that breaks the nesting, or a flaw, is
+    /// refused as `Xml(Break)` with its number, counted from 0.
     pub fn next_element(&mut self, base: usize, names: &[&str]) -> Result<Step, StreamError>
         requires reading { IsReading self.old }
         requires within { base ≤ length self.old.names }
@@ -152,8 +152,8 @@ impl<P: Package> XlReader<P> {
     /// Reads on to the next child of the element that is number `base` of the open ones. Each child
     /// has to be read to its end before the next one is asked for.
     ///
-    /// A part that ends in the element is no refusal. An end that breaks the nesting is refused as
-    /// `Xml(EndMismatch)` with its number, counted from 0.
+    /// A part that ends in the element is no refusal. An end that breaks the nesting, or a flaw, is
+    /// refused as `Xml(Break)` with its number, counted from 0.
     pub fn next_child(&mut self, base: usize) -> Result<Step, StreamError>
         requires reading { IsReading self.old }
         requires within { base ≤ length self.old.names }
@@ -167,8 +167,8 @@ impl<P: Package> XlReader<P> {
     }
 
     /// Reads to the end of the element at whose start the reader stands. A part that ends before
-    /// is refused as `Xml(Unclosed)` with the number of its events. An end that breaks the nesting
-    /// is refused as `Xml(EndMismatch)` with its number, counted from 0.
+    /// is refused as `Xml(Unclosed)` with the number of its events. An end that breaks the nesting,
+    /// or a flaw, is refused as `Xml(Break)` with its number, counted from 0.
     pub fn skip_element(&mut self) -> Result<(), StreamError>
         requires reading { IsReading self.old }
         requires element { IsAtElement self.old }
