@@ -7,8 +7,8 @@ use Rattle.std.proofs.lemmas.Bool.{cond-true, cond-false, or_parts, and_parts, e
 use Rattle.std.proofs.lemmas.Bool.{false≢true, not-true, and_from, or_left}
 use Rattle.std.proofs.lemmas.List.{append_assoc, length-append, get_or-append-add}
 use Rattle.std.proofs.Math.Seq.{take-append_seam, drop-append_seam, get_or-append_seam}
-use Rattle.markup.specs.Event.{Tag, Event, start, end, leaf, text, char_data, entity_ref}
-use Rattle.markup.specs.Event.{other, flaw}
+use Rattle.part_events.specs.Event.{Tag, Event, start, end, leaf, text, char_data, entity_ref}
+use Rattle.part_events.specs.Event.{other, flaw}
 use Rattle.markup.specs.Marks.{ends_name, begins_no_name, is_space, is_bracket, is_mark, byte_at}
 use Rattle.markup.specs.Marks.{is_reference_end, bracket_place, place_of, without_space_behind}
 use Rattle.markup.specs.Front.{Piece, one, empty, piece, front_of, markup_front}

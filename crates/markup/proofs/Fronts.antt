@@ -5,17 +5,19 @@ use Rattle.std.proofs.Math.Bool.{cond}
 use Rattle.std.proofs.Common.{length, take, drop, Option, Some, None, refl, sym, ap, ◌∙◌, arith}
 use Rattle.std.specs.List.{list_any, position_or_len, before_first}
 use Rattle.std.proofs.lemmas.Bool.{cond_both, true≢false, or_from}
-use Rattle.markup.specs.Event.{Event, Leaf, leaf, text, char_data, flaw, is_flaw}
-use Rattle.markup.specs.Marks.{bracket_place, byte_at, begins_with, begins_no_name, ends_name, is_mark}
+use Rattle.part_events.specs.Event.{Event, Leaf, leaf, text, char_data, flaw, is_flaw}
+use Rattle.markup.specs.Marks.{bracket_place, byte_at, begins_with, begins_no_name, ends_name}
+use Rattle.markup.specs.Marks.{is_mark}
 use Rattle.markup.specs.Marks.{place_of}
 use Rattle.markup.specs.Front.{Piece, one, empty, Front, flawed, piece, front_of, markup_front}
 use Rattle.markup.specs.Front.{start_front, end_front, reference_front, tagged}
-use Rattle.markup.specs.Front.{attributed, as_other, ends_in_slash, span_front, declared_front, doctype_front, doctype_place}
+use Rattle.markup.specs.Front.{attributed, as_other, ends_in_slash, span_front, declared_front}
+use Rattle.markup.specs.Front.{doctype_front, doctype_place}
 use Rattle.markup.specs.Front.{is_behind_name}
 use Rattle.markup.specs.Markup.{events_from, events_behind, markup_events}
 use Rattle.markup.specs.Markup.{is_flaw_event}
-use Rattle.markup.specs.declared.event.Flaw.{Flaw}
-use Rattle.markup.specs.declared.event.Flaw.TheVariants.{Malformed}
+use Rattle.part_events.specs.declared.flaw.Flaw.{Flaw}
+use Rattle.part_events.specs.declared.flaw.Flaw.TheVariants.{Malformed}
 
 -- a front behind whose first byte these stand
 abbrev Fits : List ℕ → Front → Type 0

@@ -1,6 +1,6 @@
 -- The events of a text, by what stands first in it and what follows.
 use Rattle.std.proofs.Common.{◌≡◌, ℕ, zero, suc, ◌-◌, List, [], ◌∷◌, ◌++◌, drop, refl, ap}
-use Rattle.markup.specs.Event.{Event}
+use Rattle.part_events.specs.Event.{Event}
 use Rattle.markup.specs.Front.{Front, flawed, piece, front_of}
 use Rattle.markup.specs.Markup.{events_of_piece, events_from, events_behind, markup_events}
 

@@ -147,6 +147,7 @@ data_over (b ∷ content) more none = elim (cases_Bool (begins_with closing (b �
   | inr there ↦
       let own : place_of closing (b ∷ content) ≡ option_map suc (place_of closing content) =
       cond-false _ _ _ there in
-      let later = data_over content more (none_behind (place_of closing content) (sym own ∙ none)) in
+      let later = data_over content more
+      (none_behind (place_of closing content) (sym own ∙ none)) in
       cond-false _ _ _ (not_yet b content more there) ∙ ap (option_map suc) later
 ]

@@ -6,15 +6,16 @@ use Rattle.std.proofs.lemmas.List.{drop-drop, length-drop, get_or-drop, drop_all
 use Rattle.std.proofs.lemmas.Str.{IsCharBoundary-before_ascii, IsCharBoundary-after_ascii}
 use Rattle.std.proofs.lemmas.Str.{IsCharBoundary-end, IsCharBoundary-start}
 use Rattle.std.specs.Str.{IsCharBoundary, IsUtf8}
-use Rattle.markup.specs.Event.{Event, leaf, flaw}
+use Rattle.part_events.specs.Event.{Event, leaf, flaw}
 use Rattle.markup.specs.Front.{front_of}
 use Rattle.markup.specs.Marks.{byte_at}
 use Rattle.markup.specs.Markup.{events_from, markup_events}
 use Rattle.markup.specs.Found.{seen, Stands, HasAscii, EndsAt}
-use Rattle.markup.specs.Cutting.{held_at, place_behind, held_event, end_to_come, between, Lies}
+use Rattle.markup.specs.Cutting.{held_at, place_behind, held_event, end_to_come, Lies}
+use Rattle.part_events.specs.Stored.{between}
 use Rattle.markup.specs.Cutting.{to_come, events_left, IsCutting, has_event}
 use Rattle.markup.specs.declared.cutter.Held.{Held}
-use Rattle.markup.specs.declared.event.Flaw.TheVariants.{Malformed}
+use Rattle.part_events.specs.declared.flaw.Flaw.TheVariants.{Malformed}
 use Rattle.markup.specs.declared.cutter.Held.TheVariants as held
 use Rattle.std.specs.Option.{option_map_or}
 use Rattle.std.specs.Prelude.{Some, None, true, false}

@@ -1,9 +1,11 @@
 -- Where cutting stands in a text: the event at hand by its places, and the events to come.
-use Rattle.std.specs.Prelude.{◌≡◌, ⊤, ℕ, ◌+◌, ◌-◌, ◌≤◌, List, [], ◌∷◌, ◌++◌, take, drop, Bool, true}
+use Rattle.std.specs.Prelude.{◌≡◌, ⊤, ℕ, ◌+◌, List, [], ◌∷◌, ◌++◌, drop, Bool, true}
 use Rattle.std.specs.Prelude.{false, if◌then◌else◌, Option, Some, None}
 use Rattle.std.specs.Option.{option_map_or}
 use Rattle.std.specs.Str.{IsCharBoundary}
-use Rattle.markup.specs.Event.{Event, start, end, leaf, text, char_data, entity_ref, other, flaw}
+use Rattle.part_events.specs.Event.{Event, start, end, leaf, text, char_data, entity_ref, other}
+use Rattle.part_events.specs.Event.{flaw}
+use Rattle.part_events.specs.Stored.{between, IsPiece}
 use Rattle.markup.specs.Markup.{markup_events}
 use Rattle.markup.specs.declared.found.Found.{Found}
 use Rattle.markup.specs.declared.found.Found.TheVariants as found
@@ -11,11 +13,7 @@ use Rattle.markup.specs.declared.cutter.Held.{Held}
 use Rattle.markup.specs.declared.cutter.Held.TheVariants.{Nothing, Start, End, Text, CharData}
 use Rattle.markup.specs.declared.cutter.Held.TheVariants.{EntityRef, Other, Flaw}
 use Rattle.markup.specs.declared.cutter.Cutter.{Cutter}
-use Rattle.markup.specs.declared.event.Flaw.TheVariants.{Malformed}
-
--- the bytes of the text from one place to another
-abbrev pub between : List ℕ → ℕ → ℕ → List ℕ
-between bytes first last = take (last - first) (drop first bytes)
+use Rattle.part_events.specs.declared.flaw.Flaw.TheVariants.{Malformed}
 
 -- what was found at a place, by the places of its texts
 abbrev pub held_at : ℕ → Found → Held
@@ -94,12 +92,6 @@ held_place at (CharData begin last) = at
 held_place at (EntityRef begin name) = at
 held_place at Other = at
 held_place at (Flaw place) = place
-
--- both places lie between characters
-pub record IsPiece (bytes : List ℕ) (first last : ℕ) : Type 0 where
-  pub ordered : first ≤ last
-  pub start_fits : IsCharBoundary bytes first
-  pub end_fits : IsCharBoundary bytes last
 
 -- the texts of the event at hand lie in the text
 abbrev pub Lies : List ℕ → Held → Type 0

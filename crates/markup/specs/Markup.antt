@@ -1,7 +1,7 @@
 -- The events that the text of a part is cut into.
 use Rattle.std.specs.Prelude.{ℕ, zero, suc, ◌-◌, List, [], ◌∷◌, ◌++◌, Bool, false}
-use Rattle.markup.specs.Event.{Event, start, end, leaf, flaw, is_flaw}
-use Rattle.markup.specs.declared.event.Flaw.TheVariants.{Malformed}
+use Rattle.part_events.specs.Event.{Event, start, end, leaf, flaw, is_flaw}
+use Rattle.part_events.specs.declared.flaw.Flaw.TheVariants.{Malformed}
 use Rattle.markup.specs.Front.{Piece, one, empty, Front, flawed, piece, front_of}
 
 -- the events of a piece

@@ -2,8 +2,8 @@
 use Rattle.std.specs.Prelude.{ℕ, Bool, true, false, ◌==◌, ◌&&◌, not, List, []}
 use Rattle.std.specs.Prelude.{◌∷◌, ◌++◌, length, is_none, codes, None}
 use Rattle.std.specs.List.{list_any, flat_map}
-use Rattle.markup.specs.Event.{Tag, Leaf, Event, start, end, leaf, text, char_data, entity_ref}
-use Rattle.markup.specs.Event.{other, flaw}
+use Rattle.part_events.specs.Event.{Tag, Leaf, Event, start, end, leaf, text, char_data, entity_ref}
+use Rattle.part_events.specs.Event.{other, flaw}
 use Rattle.markup.specs.Marks.{is_space, is_bracket, is_mark, is_reference_end, ends_name}
 use Rattle.markup.specs.Marks.{begins_no_name, place_of, bracket_place}
 use Rattle.markup.specs.Front.{Piece, one, empty, last_byte}

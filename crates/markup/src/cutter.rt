@@ -5,10 +5,10 @@ ghost use Rattle.markup.specs.Found.{Stands};
 ghost use Rattle.markup.specs.Cutting.{held_at, place_behind, held_event, has_event, to_come};
 ghost use Rattle.markup.specs.Cutting.{IsCutting, Takes, events_left, cut_size};
 ghost use Rattle.markup.specs.Markup.{markup_events};
-ghost use Rattle.markup.specs.Shown.{event_of};
+ghost use Rattle.part_events.specs.Event.{event_of};
 
-use crate::event::{Flaw, PartEvent, StartTag};
 use crate::found::{Found, found_in};
+use part_events::{Flaw, PartEvent, StartTag};
 
 /// The event at hand, by the places of its texts in bytes, counted from 0: each begins at the first
 /// place, or where the text before it ends.

@@ -1,9 +1,9 @@
 //! Laws: how the events of a text go together, and that markup that is written is cut back.
 ghost use Rattle.std.specs.Prelude.{◌≡◌, ◌≤◌, ℕ, List, [], ◌∷◌, ◌++◌, drop, length, true, false};
 ghost use Rattle.std.specs.List.{flat_map, list_any};
-ghost use Rattle.markup.specs.Event.{Event, leaf, flaw};
-ghost use Rattle.markup.specs.declared.event.Flaw.{Flaw};
-ghost use Rattle.markup.specs.declared.event.Flaw.TheVariants.{Malformed};
+ghost use Rattle.part_events.specs.Event.{Event, leaf, flaw};
+ghost use Rattle.part_events.specs.declared.flaw.Flaw.{Flaw};
+ghost use Rattle.part_events.specs.declared.flaw.Flaw.TheVariants.{Malformed};
 ghost use Rattle.equalities.specs.Equality.{CopiesItself};
 ghost use Rattle.markup.specs.Front.{Piece, front_of};
 ghost use Rattle.markup.specs.Markup.{markup_events, events_from, events_of_piece, is_flaw_event};

@@ -2,11 +2,11 @@
 ghost use Rattle.std.specs.Prelude.{◌≡◌, ◌++◌, codes, string_bytes, OnOk, OnErr};
 ghost use Rattle.escaped_text.specs.Escaped.{Extends};
 ghost use Rattle.markup.specs.Front.{empty};
-ghost use Rattle.markup.specs.Shown.{event_of, tag_of};
+ghost use Rattle.part_events.specs.Event.{event_of, tag_of};
 ghost use Rattle.markup.specs.Spelled.{spelled_event, spelled_piece};
 
-use crate::event::{PartEvent, StartTag};
 use escaped_text::or_cut_back;
+use part_events::{PartEvent, StartTag};
 use std::alloc::AllocError;
 
 /// Appends a tag that ends in this text. A refusal may leave a front of it behind.
