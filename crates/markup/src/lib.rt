@@ -30,4 +30,5 @@ pub use laws::{
     a_flaw_is_last, copies_are_the_same, events_are_bounded, events_come_in_order,
     spelled_markup_is_cut_back,
 };
+pub use marks::place_of;
 pub use spelling::{push_spelled, push_spelled_empty};

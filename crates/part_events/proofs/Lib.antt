@@ -1,11 +1,11 @@
 pub mod LookingBack
 pub mod Matches
 pub mod Names
+pub mod NamesFound
 pub mod Nested
 pub mod Onward
 pub mod Opened
 pub mod Outermost
-pub mod PartNames
 pub mod Parts
 pub mod SameValues
 pub mod Sections

@@ -73,6 +73,7 @@ pub use laws::{
 };
 pub use memory::MemoryPackage;
 pub use package::{Package, PackageFailed};
+pub use part_names::PartNames;
 pub use quiet::QuietPackage;
 pub use reader::XlReader;
 pub use text::push_text;

@@ -1,5 +1,5 @@
 use Rattle.std.proofs.Common.{◌≡◌, ◌<◌, ◌-◌, ap, arith, length, List, None, subst, sym}
-use Rattle.part_events.proofs.PartNames.{finds_with_event}
+use Rattle.part_events.proofs.NamesFound.{finds_with_event}
 use Rattle.part_events.proofs.Parts.{with_event-at}
 use Rattle.part_events.specs.Event.{event_of}
 use Rattle.part_events.specs.Memory.{Contents}

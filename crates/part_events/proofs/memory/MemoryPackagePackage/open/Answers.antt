@@ -2,7 +2,7 @@ use Rattle.std.proofs.Common.{◌≡◌, ◌<◌, ℕ, length, Option, Some, sym
 use Rattle.std.specs.Prelude.{IfSome}
 use Rattle.part_events.specs.Package.{folded}
 use Rattle.part_events.specs.PartNames.{place_of}
-use Rattle.part_events.proofs.PartNames.{place_within, opens_found, opens_none}
+use Rattle.part_events.proofs.NamesFound.{place_within, opens_found, opens_none}
 use Rattle.part_events.proofs.memory.MemoryPackagePackage.open.Goals as goal
 
 pub invariant_of-self : goal.invariant_of-self

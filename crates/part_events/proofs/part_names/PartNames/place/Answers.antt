@@ -1,7 +1,7 @@
 use Rattle.std.proofs.Common.{refl, arith, ap, ◌∙◌, rules}
 use Rattle.part_events.specs.Package.{folded}
 use Rattle.part_events.specs.PartNames.{place_by}
-use Rattle.part_events.proofs.PartNames.{finds_still}
+use Rattle.part_events.proofs.NamesFound.{finds_still}
 use Rattle.part_events.proofs.part_names.PartNames.place.Goals as goal
 
 pub returns-clause-keeps : goal.returns-clause-keeps

@@ -1,6 +1,6 @@
 use Rattle.std.proofs.Common.{◌≤◌, ℕ, List, [], length, refl, subst, arith, rules}
 use Rattle.part_events.specs.PartNames.{place_by}
-use Rattle.part_events.proofs.PartNames.{finds_new, finds_again, none_kept, some_kept}
+use Rattle.part_events.proofs.NamesFound.{finds_new, finds_again, none_kept, some_kept}
 use Rattle.part_events.proofs.part_names.PartNames.push.Goals as goal
 
 pub returns-in_ok-insert-clause-ok : goal.returns-in_ok-insert-clause-ok

@@ -1,0 +1,3 @@
+pub mod PartText
+pub mod Reading
+pub mod TextParts
