@@ -1,7 +1,6 @@
 -- Parts that are held as text, and a package of them.
-use Rattle.std.specs.Prelude.{◌≡◌, ⊤, ℕ, ◌+◌, ◌-◌, ◌<◌, ◌≤◌, List, [], ◌∷◌, map, drop, length}
-use Rattle.std.specs.Prelude.{Bool, true, Option, Some, None, slice_index_or, string_bytes}
-use Rattle.std.specs.Prelude.{option_map}
+use Rattle.std.specs.Prelude.{◌≡◌, ⊤, ℕ, ◌-◌, ◌<◌, List, [], map, drop, length}
+use Rattle.std.specs.Prelude.{Option, Some, None, slice_index_or, string_bytes}
 use Rattle.std.specs.Str.{IsCharBoundary}
 use Rattle.part_events.specs.Package.{Part, PackageState}
 use Rattle.part_events.specs.Memory.{state_of, taken_of}
