@@ -1,3 +1,4 @@
 pub mod Texts
 pub mod Stepping
 pub mod Told
+pub mod SpelledParts

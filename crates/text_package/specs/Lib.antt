@@ -1,3 +1,4 @@
 pub mod PartText
 pub mod Reading
 pub mod TextParts
+pub mod PartSpelling

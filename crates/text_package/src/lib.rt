@@ -13,9 +13,11 @@
 #![tactic(auto)]
 
 mod decoding;
+mod laws;
 mod package;
 mod part;
 mod reading;
 
 pub use decoding::part_text;
+pub use laws::{parts_are_bounded, spelled_parts_are_cut_back};
 pub use package::TextPackage;

@@ -1,0 +1,21 @@
+//! Laws: how many events a part has, and that markup that is written is read as a part.
+ghost use Rattle.std.specs.Prelude.{◌≡◌, ◌≤◌, ℕ, List, length, true};
+ghost use Rattle.std.specs.List.{flat_map, All};
+ghost use Rattle.markup.specs.Front.{Piece};
+ghost use Rattle.markup.specs.Markup.{events_of_piece};
+ghost use Rattle.markup.specs.Spelled.{spelled, are_spellable};
+ghost use Rattle.text_package.specs.PartText.{part_markup};
+ghost use Rattle.text_package.specs.PartSpelling.{HasTexts, begin_with_tag};
+
+/// A part has no more events than bytes.
+pub fn parts_are_bounded()
+    ensures { (bytes : List ℕ) → length (part_markup bytes) ≤ length bytes }
+{}
+
+/// Pieces that markup spells, the first of which begins an element, are cut into their own events
+/// where their spelling is the bytes of a part, and their texts are UTF-8 without a character 0.
+pub fn spelled_parts_are_cut_back()
+    ensures { (pieces : List Piece) → are_spellable pieces ≡ true → begin_with_tag pieces ≡ true
+        → All HasTexts pieces →
+        part_markup (spelled pieces) ≡ flat_map events_of_piece pieces }
+{}
