@@ -1,21 +1,11 @@
 -- Where a document type ends.
 use Rattle.std.proofs.Common.{◌≡◌, ℕ, zero, suc, ◌+◌, ◌<◌, ◌≤◌, true, false, List, [], ◌∷◌, length}
-use Rattle.std.proofs.Common.{get_or, drop, Option, Some, None, refl, ap, ◌∙◌, arith}
+use Rattle.std.proofs.Common.{get_or, drop, Some, None, refl, ap, ◌∙◌, arith}
 use Rattle.std.specs.Option.{option_map, option_and_then}
 use Rattle.std.proofs.lemmas.Bool.{cond-true, cond-false}
 use Rattle.std.proofs.lemmas.List.{at_drop_more, drop-drop, drop_all}
 use Rattle.markup.specs.Front.{doctype_place, passed_over, begins_span, inner_behind, closes}
-use Rattle.markup.proofs.Places.{shifted, shifted-zero, shifted-suc}
-
-suc-shifted : (by : ℕ) (found : Option ℕ)
-    → option_map suc (shifted by found) ≡ shifted (suc by) found
-suc-shifted by None = refl
-suc-shifted by (Some n) = ap Some (omega arith)
-
-shifted-shifted : (first second both : ℕ) (found : Option ℕ) → both ≡ first + second
-    → shifted first (shifted second found) ≡ shifted both found
-shifted-shifted first second both None is = refl
-shifted-shifted first second both (Some n) is = ap Some (omega arith)
+use Rattle.markup.proofs.Places.{shifted, shifted-zero, shifted-suc, suc-shifted, shifted-shifted}
 
 -- behind what is passed over the search goes on
 pub doctype_over : (bytes : List ℕ) (over inner : ℕ)

@@ -9,3 +9,4 @@ pub mod FirstBytes
 pub mod Runs
 pub mod CutBack
 pub mod Fronts
+pub mod FlawPlaces

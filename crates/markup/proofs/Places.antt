@@ -19,6 +19,16 @@ pub shifted-zero : (found : Option ℕ) → found ≡ shifted 0 found
 shifted-zero None = refl
 shifted-zero (Some n) = ap Some (omega arith)
 
+pub suc-shifted : (by : ℕ) (found : Option ℕ)
+    → option_map suc (shifted by found) ≡ shifted (suc by) found
+suc-shifted by None = refl
+suc-shifted by (Some n) = ap Some (omega arith)
+
+pub shifted-shifted : (first second both : ℕ) (found : Option ℕ) → both ≡ first + second
+    → shifted first (shifted second found) ≡ shifted both found
+shifted-shifted first second both None is = refl
+shifted-shifted first second both (Some n) is = ap Some (omega arith)
+
 -- the search at a place where the text stands, where it doesn't, and at the end
 pub place_here : (needle bytes : List ℕ) (i : ℕ) → i < length bytes
     → begins_with needle (drop i bytes) ≡ true → shifted i (place_of needle (drop i bytes)) ≡ Some i

@@ -1,6 +1,7 @@
 -- Where the bytes of a comment and of a section of character data stand.
 use Rattle.std.proofs.Common.{◌≡◌, ℕ, zero, suc, ◌+◌, ◌-◌, ◌<◌, true, List, [], ◌∷◌, length}
 use Rattle.std.proofs.Common.{get_or, drop, sym, ap, subst, ◌∙◌, arith}
+use Rattle.std.specs.Prelude.{◌==◌}
 use Rattle.std.proofs.lemmas.Bool.{false≢true, eqb-true, and_parts}
 use Rattle.std.proofs.lemmas.List.{get_or-drop, length-drop}
 use Rattle.markup.specs.Marks.{begins_with}
@@ -14,7 +15,8 @@ front_reads (a ∷ needle) [] is k within = absurd (false≢true is)
 front_reads (a ∷ needle) (x ∷ text) is zero within =
     (omega arith, sym (eqb-true a x (and_parts _ _ is).0))
 front_reads (a ∷ needle) (x ∷ text) is (suc k) within =
-    let more = front_reads needle text (and_parts _ _ is).1 k (omega arith) in
+    let tests = and_parts (a == x) (begins_with needle text) is in
+    let more = front_reads needle text tests.1 k (omega arith) in
     (omega (arith, more.0), more.1)
 
 -- a byte of what was found behind the first bytes of a text

@@ -143,7 +143,7 @@ text_end bytes at content within ends =
 -- what was found lies in the text, and cutting goes on between characters
 pub lies_at : (bytes : List ℕ) (at : ℕ) (found : Found) → IsUtf8 bytes → IsCharBoundary bytes at
     → Stands (drop at bytes) found → Lies bytes (held_at at found)
-lies_at bytes at Flaw utf8 from stands = tt
+lies_at bytes at Flaw utf8 from stands = from.0
 lies_at bytes at (Start name attributes) utf8 from stands =
     let middle = before bytes at (suc name) (at + 1 + name) (omega arith) stands.1 in (
       record {

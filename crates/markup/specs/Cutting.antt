@@ -1,12 +1,13 @@
 -- Where cutting stands in a text: the event at hand by its places, and the events to come.
-use Rattle.std.specs.Prelude.{◌≡◌, ⊤, ℕ, ◌+◌, List, [], ◌∷◌, ◌++◌, drop, Bool, true}
+use Rattle.std.specs.Prelude.{◌≡◌, ⊤, ℕ, ◌+◌, List, [], ◌∷◌, ◌++◌, drop, length, Bool, true}
+use Rattle.std.specs.Prelude.{◌≤◌}
 use Rattle.std.specs.Prelude.{false, if◌then◌else◌, Option, Some, None}
 use Rattle.std.specs.Option.{option_map_or}
 use Rattle.std.specs.Str.{IsCharBoundary}
 use Rattle.part_events.specs.Event.{Event, start, end, leaf, text, char_data, entity_ref, other}
 use Rattle.part_events.specs.Event.{flaw}
 use Rattle.part_events.specs.Stored.{between, IsPiece}
-use Rattle.markup.specs.Markup.{markup_events}
+use Rattle.markup.specs.Markup.{markup_events, flaw_behind}
 use Rattle.markup.specs.declared.found.Found.{Found}
 use Rattle.markup.specs.declared.found.Found.TheVariants as found
 use Rattle.markup.specs.declared.cutter.Held.{Held}
@@ -103,7 +104,7 @@ Lies bytes (Text begin last) = IsPiece bytes begin last
 Lies bytes (CharData begin last) = IsPiece bytes begin last
 Lies bytes (EntityRef begin name) = IsPiece bytes begin name
 Lies bytes Other = ⊤
-Lies bytes (Flaw at) = ⊤
+Lies bytes (Flaw at) = at ≤ length bytes
 
 -- cutting stands at a place of this text
 pub record IsCutting (bytes : List ℕ) (cutter : Cutter) : Type 0 where
@@ -119,3 +120,19 @@ abbrev pub Takes : Bool → List ℕ → Cutter → Cutter → Type 0
 Takes true bytes old new = events_left bytes old
     ≡ held_event bytes new.held ∷ events_left bytes new
 Takes false bytes old new = (events_left bytes old ≡ []) × (events_left bytes new ≡ [])
+
+-- where the flaw stands that is at hand, or else that of the text behind a place
+abbrev pub flaw_left : List ℕ → ℕ → Held → Option ℕ
+flaw_left bytes at Nothing = flaw_behind bytes at
+flaw_left bytes at (Start begin name attributes is_empty) = flaw_behind bytes at
+flaw_left bytes at (End begin name) = flaw_behind bytes at
+flaw_left bytes at (Text begin last) = flaw_behind bytes at
+flaw_left bytes at (CharData begin last) = flaw_behind bytes at
+flaw_left bytes at (EntityRef begin name) = flaw_behind bytes at
+flaw_left bytes at Other = flaw_behind bytes at
+flaw_left bytes at (Flaw place) = Some place
+
+-- a step passes over no flaw
+abbrev pub PassesNoFlaw : Bool → List ℕ → Cutter → Cutter → Type 0
+PassesNoFlaw true bytes old new = flaw_behind bytes old.at ≡ flaw_left bytes new.at new.held
+PassesNoFlaw false bytes old new = flaw_behind bytes old.at ≡ None

@@ -1,5 +1,6 @@
 -- The events that the text of a part is cut into.
-use Rattle.std.specs.Prelude.{ℕ, zero, suc, ◌-◌, List, [], ◌∷◌, ◌++◌, Bool, false}
+use Rattle.std.specs.Prelude.{ℕ, zero, suc, ◌-◌, List, [], ◌∷◌, ◌++◌, Bool, false, Option, Some, None}
+use Rattle.std.specs.Prelude.{option_map}
 use Rattle.part_events.specs.Event.{Event, start, end, leaf, flaw, is_flaw}
 use Rattle.part_events.specs.declared.flaw.Flaw.TheVariants.{Malformed}
 use Rattle.markup.specs.Front.{Piece, one, empty, Front, flawed, piece, front_of}
@@ -31,3 +32,19 @@ abbrev pub is_flaw_event : Event → Bool
 is_flaw_event (start tag) = false
 is_flaw_event (end name) = false
 is_flaw_event (leaf kind) = is_flaw kind
+
+-- where the flaw stands that a front is, or else that `more` gives behind so many bytes that follow
+-- its first one
+abbrev pub flaw_from : (ℕ → Option ℕ) → Front → Option ℕ
+flaw_from more flawed = Some 0
+flaw_from more (piece first size) = option_map suc (more (size - 1))
+
+-- where the flaw stands in a text of which the first n bytes are passed over, if it has one
+unfoldable pub flaw_behind : List ℕ → ℕ → Option ℕ
+flaw_behind [] n = None
+flaw_behind (b ∷ bytes) (suc n) = option_map suc (flaw_behind bytes n)
+flaw_behind (b ∷ bytes) zero = flaw_from (flaw_behind bytes) (front_of b bytes)
+
+-- where the flaw of a text stands, in bytes, if it has one
+abbrev pub flaw_place : List ℕ → Option ℕ
+flaw_place text = flaw_behind text 0

@@ -1,10 +1,11 @@
 //! Where cutting stands in a text, event after event.
-ghost use Rattle.std.specs.Prelude.{◌≡◌, ◌≤◌, ℕ, List, drop, length, true};
+ghost use Rattle.std.specs.Prelude.{◌≡◌, ◌≤◌, ℕ, List, drop, length, true, IfSome};
 ghost use Rattle.std.specs.Str.{IsUtf8};
 ghost use Rattle.markup.specs.Found.{Stands};
 ghost use Rattle.markup.specs.Cutting.{held_at, place_behind, held_event, has_event, to_come};
 ghost use Rattle.markup.specs.Cutting.{IsCutting, Takes, events_left, cut_size};
-ghost use Rattle.markup.specs.Markup.{markup_events};
+ghost use Rattle.markup.specs.Cutting.{PassesNoFlaw};
+ghost use Rattle.markup.specs.Markup.{markup_events, flaw_place};
 ghost use Rattle.part_events.specs.Event.{event_of};
 
 use crate::found::{Found, found_in};
@@ -134,6 +135,7 @@ impl Cutter {
     pub fn new() -> Cutter
         ensures stands { (text : List ℕ) → IsUtf8 text → IsCutting text result }
         ensures left { (text : List ℕ) → events_left text result ≡ markup_events text }
+        ensures start { result.at ≡ 0 }
     {
         Cutter {
             at: 0,
@@ -148,6 +150,7 @@ impl Cutter {
         ensures stays { IsCutting text.now self.new }
         ensures takes { Takes result text.now self.old self.new }
         ensures has { result ≡ has_event self.new.held }
+        ensures flaw { PassesNoFlaw result text.now self.old self.new }
     {
         if let Some(next) = to_come(self.held) {
             self.held = next;
@@ -199,4 +202,18 @@ impl Cutter {
             _ => self.at,
         }
     }
+}
+
+/// Where the flaw of a text stands, in bytes, counted from 0. None where the text has none.
+pub fn flaw_place(text: &str) -> Option<usize>
+    ensures value { result ≡ flaw_place text.now }
+    ensures within { IfSome result (λ place. place ≤ length text.now) }
+{
+    let mut cutter = Cutter::new();
+    'events: while cutter.advance(text) {
+        if let Held::Flaw { at } = cutter.held {
+            return Some(at);
+        }
+    }
+    None
 }

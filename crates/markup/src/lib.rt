@@ -25,7 +25,7 @@ mod laws;
 mod marks;
 mod spelling;
 
-pub use cutter::Cutter;
+pub use cutter::{Cutter, flaw_place};
 pub use laws::{
     a_flaw_is_last, copies_are_the_same, events_are_bounded, events_come_in_order,
     spelled_markup_is_cut_back,

@@ -1,8 +1,11 @@
 -- Parts that are held as text, and a package of them.
-use Rattle.std.specs.Prelude.{◌≡◌, ⊤, ℕ, ◌-◌, ◌<◌, List, [], map, drop, length}
+use Rattle.std.specs.Prelude.{◌≡◌, ⊤, ℕ, ◌+◌, ◌-◌, ◌<◌, List, [], map, drop, length}
 use Rattle.std.specs.Prelude.{Option, Some, None, slice_index_or, string_bytes}
+use Rattle.std.specs.Prelude.{option_map, option_and_then}
 use Rattle.std.specs.Str.{IsCharBoundary}
-use Rattle.part_events.specs.Package.{Part, PackageState}
+use Rattle.part_events.specs.Package.{Part, PackageState, folded}
+use Rattle.part_events.specs.PartNames.{place_of}
+use Rattle.markup.specs.Markup.{flaw_place}
 use Rattle.part_events.specs.Memory.{state_of, taken_of}
 use Rattle.part_events.specs.declared.memory.Place.{Place}
 use Rattle.text_package.specs.PartText.{text_in, part_markup}
@@ -78,3 +81,22 @@ IsTextPlace parts None = ⊤
 IsTextPlace parts (Some place) = (place.part < length parts)
     × IsReading (text_in (bytes_at parts place.part)) (length (bytes_at parts place.part))
     place.reading
+
+-- ---- flaws
+
+-- where the flaw stands in the bytes of a part, if they have one: at the first of them where they
+-- are no text
+abbrev pub flaw_in : List ℕ → Option (List ℕ) → Option ℕ
+flaw_in bytes None = Some 0
+flaw_in bytes (Some text) =
+    option_map (λ place. (length bytes - length text) + place) (flaw_place text)
+
+-- the same of what the text of the bytes is
+abbrev pub part_flaw : List ℕ → Option ℕ
+part_flaw bytes = flaw_in bytes (text_in bytes)
+
+-- where the flaw stands in the bytes of the first part of a name, if they have one
+abbrev pub named_flaw : List TextOfPart → List ℕ → Option ℕ
+named_flaw parts name =
+    option_and_then (λ place. part_flaw (bytes_at parts place))
+    (place_of (map part_told parts) (folded name))

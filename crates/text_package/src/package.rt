@@ -1,6 +1,6 @@
 //! A package whose parts are held as text.
 ghost use Rattle.std.specs.Prelude.{◌≡◌, ◌++◌, ◌∷◌, [], OnOk, OnErr};
-ghost use Rattle.text_package.specs.TextParts.{closed_texts, texts_state};
+ghost use Rattle.text_package.specs.TextParts.{closed_texts, texts_state, named_flaw};
 
 use crate::part::TextPart;
 use crate::reading::Reading;
@@ -74,6 +74,19 @@ impl TextPackage {
         }
         self.place = None;
         Ok(())
+    }
+
+    /// Where the flaw stands in the first part of this name, in bytes, counted from 0: for what is
+    /// said of a refusal. None where the part has none, or where there is no such part. It takes
+    /// the time of cutting the part up to there.
+    pub fn flaw_place(&mut self, name: &str) -> Option<usize>
+        ensures value { result ≡ named_flaw self.old.parts name.now }
+        ensures kept { self.new ≡ self.old }
+    {
+        match self.names.place(name) {
+            Some(part) => self.parts[part].flaw(),
+            None => None,
+        }
     }
 }
 

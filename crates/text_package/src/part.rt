@@ -2,9 +2,10 @@
 ghost use Rattle.std.specs.Prelude.{◌≡◌, IfOk, IsUtf8, length, option_map, string_bytes};
 ghost use Rattle.std.specs.Prelude.{MatchOption, None};
 ghost use Rattle.text_package.specs.PartText.{text_in};
-ghost use Rattle.text_package.specs.TextParts.{IsMark, IsKept, bytes_of};
+ghost use Rattle.text_package.specs.TextParts.{IsMark, IsKept, bytes_of, part_flaw};
 
 use crate::decoding::part_text;
+use markup::flaw_place;
 use std::alloc::{AllocError, Global};
 use std::marker::Model;
 
@@ -93,6 +94,19 @@ impl TextPart {
         match &self.bytes {
             PartBytes::Text(text, _) => text.len(),
             PartBytes::NoText(bytes) => bytes.len(),
+        }
+    }
+
+    /// Where its flaw stands, in bytes, counted from 0. None where it has none.
+    pub fn flaw(&self) -> Option<usize>
+        ensures { result ≡ part_flaw self.now.1 }
+    {
+        let Some(text) = self.text() else {
+            return Some(0);
+        };
+        match flaw_place(text) {
+            Some(place) => Some(self.size() - text.len() + place),
+            None => None,
         }
     }
 }

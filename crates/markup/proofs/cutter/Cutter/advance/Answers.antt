@@ -6,6 +6,8 @@ use Rattle.markup.specs.Front.{front_of}
 use Rattle.markup.specs.Marks.{byte_at}
 use Rattle.markup.specs.Markup.{markup_events}
 use Rattle.markup.specs.Cutting.{to_come, place_behind, held_event, events_left, Lies}
+use Rattle.markup.specs.Cutting.{flaw_left, held_at}
+use Rattle.markup.proofs.FlawPlaces.{flaw_none, flaw_passed}
 use Rattle.markup.specs.declared.cutter.Held.{Held}
 use Rattle.markup.proofs.InOrder.{no_events}
 use Rattle.markup.proofs.Steps.{ended, stepped, stays_at}
@@ -54,3 +56,24 @@ returns-clause-takes c =
     (record { at = place_behind at (length bytes) found; held = own })) (sym c.held_at-self.ensures)
     ∙ ap (λ n. held_event bytes c.held_at-self.result ∷ events_left bytes
     (record { at = n; held = c.held_at-self.result })) (sym c.place_behind-self.ensures)
+
+pub returns-then-self-text-clause-flaw : goal.returns-then-self-text-clause-flaw
+returns-then-self-text-clause-flaw c =
+    flaw_none c.args.text.now c.args.self.now.at (omega arith)
+
+pub returns-clause-flaw : goal.returns-clause-flaw
+returns-clause-flaw c =
+    let bytes = c.args.text.now in
+    let at = c.args.self.now.at in
+    let found = c.found_in-found.result in
+    let rest = take_rest c.as_bytes.result.now at ∙ ap (drop at) c.as_bytes.ensures.value in
+    let stands : Stands (drop at bytes) found =
+    subst (λ own. Stands own found) rest c.found_in-found.ensures.stands in
+    let front : seen (drop at bytes) found
+    ≡ front_of (byte_at (drop at bytes) 0) (drop 1 (drop at bytes)) =
+    subst (λ own. seen own found ≡ front_of (byte_at own 0) (drop 1 own)) rest
+    c.found_in-found.ensures.front in
+    flaw_passed bytes at found (omega (arith, c.requires.at.0)) front stands
+    ∙ ap (λ n. flaw_left bytes n (held_at at found)) (sym c.place_behind-self.ensures)
+    ∙ ap (λ (own : Held). flaw_left bytes c.place_behind-self.result own)
+    (sym c.held_at-self.ensures)
