@@ -44,8 +44,8 @@ flaw_named words =
     (named_or words TooLarge (named_or words Damaged (named_or words WrongSize
     (named_or words WrongChecksum None))))))
 
--- The events of a kind and its texts: one, or in version 2 the two of an empty element. Only version
--- 2 has flaws.
+-- The events of a kind and its texts: one, or in version 2 the two of an empty element. Flaws are
+-- events of version 2 alone.
 abbrev pub events_of_texts : Bool → List (List ℕ) → Option (List Event)
 events_of_texts is_second [] = None
 events_of_texts is_second (kind ∷ []) =
