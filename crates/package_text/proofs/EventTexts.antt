@@ -8,7 +8,7 @@ use Rattle.part_events.specs.Event.{Event, Tag, event_of, tag_of, start, end, le
 use Rattle.part_events.specs.declared.event.StartTag.{StartTag}
 use Rattle.part_events.specs.declared.event.PartEvent.{PartEvent}
 use Rattle.part_events.specs.declared.event.PartEvent.TheVariants.{Start, End, Text, CharData}
-use Rattle.part_events.specs.declared.event.PartEvent.TheVariants.{EntityRef, Other}
+use Rattle.part_events.specs.declared.event.PartEvent.TheVariants.{EntityRef, Flaw, Other}
 use Rattle.package_text.specs.WrittenPackage.{texts_of_event, texts_of_empty, event_texts, is_pair}
 use Rattle.package_text.specs.WrittenPackage.{begins_by_end, IsWrittenAt}
 use Rattle.package_text.specs.declared.spelled.SpelledEvent.TheVariants.{One, Empty}
@@ -59,6 +59,8 @@ other_found events place name (CharData content) is not_end =
     ap (begins_by_end name) (drop_found events place (event_of (CharData content)) is)
 other_found events place name (EntityRef own) is not_end =
     ap (begins_by_end name) (drop_found events place (event_of (EntityRef own)) is)
+other_found events place name (Flaw why) is not_end =
+    ap (begins_by_end name) (drop_found events place (event_of (Flaw why)) is)
 other_found events place name Other is not_end =
     ap (begins_by_end name) (drop_found events place (event_of Other) is)
 
@@ -117,4 +119,5 @@ other_alone events (End name) not_start = refl
 other_alone events (Text content) not_start = refl
 other_alone events (CharData content) not_start = refl
 other_alone events (EntityRef name) not_start = refl
+other_alone events (Flaw why) not_start = refl
 other_alone events Other not_start = refl

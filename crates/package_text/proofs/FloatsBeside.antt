@@ -17,7 +17,7 @@ use Rattle.part_events.specs.Event.{Event}
 use Rattle.part_events.specs.Package.{Part}
 use Rattle.package_text.specs.PackageText.{texts_of, events_of_texts, events_of_value, events_in}
 use Rattle.package_text.specs.PackageText.{named_part}
-use Rattle.package_text.specs.PackageText.{part_in, parts_in, version_has_empty, package_of}
+use Rattle.package_text.specs.PackageText.{part_in, parts_in, version_is_second, package_of}
 use Rattle.package_text.specs.PackageText.{members_have_float_beside, has_float_beside, part_beside}
 use Rattle.package_text.specs.PackageText.{parts_beside, package_beside}
 
@@ -96,68 +96,68 @@ texts_have_none (item (string s) rest) texts is =
 texts_have_none (item (array items) rest) texts is = absurd cc
 texts_have_none (item (object members) rest) texts is = absurd cc
 
-array_has_none : (has_empty : Bool) (items : Items) (found : Option (List (List ℕ)))
+array_has_none : (is_second : Bool) (items : Items) (found : Option (List (List ℕ)))
     (own : List Event)
-    → texts_of items ≡ found → option_and_then (events_of_texts has_empty) found ≡ Some own
+    → texts_of items ≡ found → option_and_then (events_of_texts is_second) found ≡ Some own
     → items_have_float items ≡ false
-array_has_none has_empty items None own read is = absurd cc
-array_has_none has_empty items (Some texts) own read is = texts_have_none items texts read
+array_has_none is_second items None own read is = absurd cc
+array_has_none is_second items (Some texts) own read is = texts_have_none items texts read
 
-value_has_none : (has_empty : Bool) (value : Data) (own : List Event)
-    → events_of_value has_empty value ≡ Some own → has_float value ≡ false
-value_has_none has_empty null own is = absurd cc
-value_has_none has_empty (boolean b) own is = absurd cc
-value_has_none has_empty (number n) own is = absurd cc
-value_has_none has_empty (string s) own is = absurd cc
-value_has_none has_empty (array items) own is =
-    array_has_none has_empty items (texts_of items) own refl is
-value_has_none has_empty (object members) own is = absurd cc
+value_has_none : (is_second : Bool) (value : Data) (own : List Event)
+    → events_of_value is_second value ≡ Some own → has_float value ≡ false
+value_has_none is_second null own is = absurd cc
+value_has_none is_second (boolean b) own is = absurd cc
+value_has_none is_second (number n) own is = absurd cc
+value_has_none is_second (string s) own is = absurd cc
+value_has_none is_second (array items) own is =
+    array_has_none is_second items (texts_of items) own refl is
+value_has_none is_second (object members) own is = absurd cc
 
 or_none : (a b : Bool) → a ≡ false → b ≡ false → (a || b) ≡ false
 or_none true b none other = absurd cc
 or_none false b none other = other
 
-both_have_none : (has_empty : Bool) (value : Data) (rest : Items) (first : Option (List Event))
+both_have_none : (is_second : Bool) (value : Data) (rest : Items) (first : Option (List Event))
     (found : Option (List Event)) (events : List Event)
-    → ((more : List Event) → events_in has_empty rest ≡ Some more → items_have_float rest ≡ false)
-    → events_of_value has_empty value ≡ first → events_in has_empty rest ≡ found
+    → ((more : List Event) → events_in is_second rest ≡ Some more → items_have_float rest ≡ false)
+    → events_of_value is_second value ≡ first → events_in is_second rest ≡ found
     → option_and_then (λ (own : List Event). option_map (λ (more : List Event). own ++ more) found)
     first ≡ Some events
     → (has_float value || items_have_float rest) ≡ false
-both_have_none has_empty value rest None found events none one other is = absurd cc
-both_have_none has_empty value rest (Some own) None events none one other is = absurd cc
-both_have_none has_empty value rest (Some own) (Some more) events none one other is =
-    or_none (has_float value) (items_have_float rest) (value_has_none has_empty value own one)
+both_have_none is_second value rest None found events none one other is = absurd cc
+both_have_none is_second value rest (Some own) None events none one other is = absurd cc
+both_have_none is_second value rest (Some own) (Some more) events none one other is =
+    or_none (has_float value) (items_have_float rest) (value_has_none is_second value own one)
     (none more other)
 
-events_have_none : (has_empty : Bool) (items : Items) (events : List Event)
-    → events_in has_empty items ≡ Some events → items_have_float items ≡ false
-events_have_none has_empty no_items events is = refl
-events_have_none has_empty (item value rest) events is =
-    both_have_none has_empty value rest (events_of_value has_empty value)
-    (events_in has_empty rest) events (events_have_none has_empty rest) refl refl is
+events_have_none : (is_second : Bool) (items : Items) (events : List Event)
+    → events_in is_second items ≡ Some events → items_have_float items ≡ false
+events_have_none is_second no_items events is = refl
+events_have_none is_second (item value rest) events is =
+    both_have_none is_second value rest (events_of_value is_second value)
+    (events_in is_second rest) events (events_have_none is_second rest) refl refl is
 
 -- ---- parts
 
-either_events : (has_empty : Bool) (items : Items) (found : Option (List Event))
-    → events_in has_empty items ≡ found
-    → (events_in has_empty items ≡ None) ⊎ (items_have_float items ≡ false)
-either_events has_empty items None read = inl read
-either_events has_empty items (Some events) read =
-    inr (events_have_none has_empty items events read)
+either_events : (is_second : Bool) (items : Items) (found : Option (List Event))
+    → events_in is_second items ≡ found
+    → (events_in is_second items ≡ None) ⊎ (items_have_float items ≡ false)
+either_events is_second items None read = inl read
+either_events is_second items (Some events) read =
+    inr (events_have_none is_second items events read)
 
 -- what is no list of events, or has no float
-either : (has_empty : Bool) (found : Option Data)
-    → (option_and_then (events_in has_empty) (option_and_then as_array found) ≡ None)
+either : (is_second : Bool) (found : Option Data)
+    → (option_and_then (events_in is_second) (option_and_then as_array found) ≡ None)
     ⊎ (given_float found ≡ false)
-either has_empty None = inr refl
-either has_empty (Some null) = inl refl
-either has_empty (Some (boolean b)) = inl refl
-either has_empty (Some (number n)) = inl refl
-either has_empty (Some (string s)) = inl refl
-either has_empty (Some (array items)) =
-    either_events has_empty items (events_in has_empty items) refl
-either has_empty (Some (object members)) = inl refl
+either is_second None = inr refl
+either is_second (Some null) = inl refl
+either is_second (Some (boolean b)) = inl refl
+either is_second (Some (number n)) = inl refl
+either is_second (Some (string s)) = inl refl
+either is_second (Some (array items)) =
+    either_events is_second items (events_in is_second items) refl
+either is_second (Some (object members)) = inl refl
 
 nameless : (name : Option (List ℕ))
     → option_and_then (λ (own : List ℕ). named_part own None) name ≡ None
@@ -172,12 +172,12 @@ either_named name events float (inl none) =
     none ∙ nameless name)
 either_named name events float (inr is) = inr is
 
-either_part : (has_empty : Bool) (value : Data)
-    → (part_in has_empty value ≡ None) ⊎ (given_float (get (codes "events") value) ≡ false)
-either_part has_empty value = either_named (option_and_then as_str (get (codes "name") value))
-    (option_and_then (events_in has_empty)
+either_part : (is_second : Bool) (value : Data)
+    → (part_in is_second value ≡ None) ⊎ (given_float (get (codes "events") value) ≡ false)
+either_part is_second value = either_named (option_and_then as_str (get (codes "name") value))
+    (option_and_then (events_in is_second)
     (option_and_then as_array (get (codes "events") value)))
-    (given_float (get (codes "events") value)) (either has_empty (get (codes "events") value))
+    (given_float (get (codes "events") value)) (either is_second (get (codes "events") value))
 
 beside_decides : (beside float : Bool) (part : Option Part) → (part ≡ None) ⊎ (float ≡ false)
     → (if beside || float then None else part) ≡ (if beside then None else part)
@@ -187,14 +187,14 @@ beside_decides false true part (inr is) = absurd cc
 beside_decides false false part is = refl
 
 -- a part has no float, where none stands beside its events
-part_checked : (has_empty : Bool) (value : Data)
-    → (if has_float value then None else part_in has_empty value) ≡ part_beside has_empty value
-part_checked has_empty value =
-    ap (λ (test : Bool). if test then None else part_in has_empty value)
+part_checked : (is_second : Bool) (value : Data)
+    → (if has_float value then None else part_in is_second value) ≡ part_beside is_second value
+part_checked is_second value =
+    ap (λ (test : Bool). if test then None else part_in is_second value)
     (by_key (codes "events") value)
     ∙ beside_decides (has_float_beside (codes "events") value)
-    (given_float (get (codes "events") value)) (part_in has_empty value)
-    (either_part has_empty value)
+    (given_float (get (codes "events") value)) (part_in is_second value)
+    (either_part is_second value)
 
 -- a part in front of others
 abbrev in_front : Option Part → Option (List Part) → Option (List Part)
@@ -209,17 +209,17 @@ front_checked false true None rest = refl
 front_checked false true (Some part) rest = refl
 front_checked false false first rest = refl
 
-parts_checked : (has_empty : Bool) (items : Items)
-    → (if items_have_float items then None else parts_in has_empty items)
-    ≡ parts_beside has_empty items
-parts_checked has_empty no_items = refl
-parts_checked has_empty (item value rest) =
-    front_checked (has_float value) (items_have_float rest) (part_in has_empty value)
-    (parts_in has_empty rest)
+parts_checked : (is_second : Bool) (items : Items)
+    → (if items_have_float items then None else parts_in is_second items)
+    ≡ parts_beside is_second items
+parts_checked is_second no_items = refl
+parts_checked is_second (item value rest) =
+    front_checked (has_float value) (items_have_float rest) (part_in is_second value)
+    (parts_in is_second rest)
     ∙ ap (λ (first : Option Part). in_front first
-    (if items_have_float rest then None else parts_in has_empty rest))
-    (part_checked has_empty value)
-    ∙ ap (in_front (part_beside has_empty value)) (parts_checked has_empty rest)
+    (if items_have_float rest then None else parts_in is_second rest))
+    (part_checked is_second value)
+    ∙ ap (in_front (part_beside is_second value)) (parts_checked is_second rest)
 
 -- ---- the package
 
@@ -230,22 +230,22 @@ none_anyway false = refl
 
 array_checked : (version : Option Bool) (items : Items)
     → (if items_have_float items then None
-    else option_and_then (λ (has_empty : Bool). parts_in has_empty items) version)
-    ≡ option_and_then (λ (has_empty : Bool). parts_beside has_empty items) version
+    else option_and_then (λ (is_second : Bool). parts_in is_second items) version)
+    ≡ option_and_then (λ (is_second : Bool). parts_beside is_second items) version
 array_checked None items = none_anyway (items_have_float items)
-array_checked (Some has_empty) items = parts_checked has_empty items
+array_checked (Some is_second) items = parts_checked is_second items
 
 -- the parts that are read by a version
 abbrev by_version :
     (Bool → Items → Option (List Part)) → Option Bool → Option Data → Option (List Part)
 by_version read version found =
-    option_and_then (λ (has_empty : Bool). option_and_then (read has_empty)
+    option_and_then (λ (is_second : Bool). option_and_then (read is_second)
     (option_and_then as_array found)) version
 
 no_array : (read : Bool → Items → Option (List Part)) (version : Option Bool)
-    → option_and_then (λ (has_empty : Bool). option_and_then (read has_empty) None) version ≡ None
+    → option_and_then (λ (is_second : Bool). option_and_then (read is_second) None) version ≡ None
 no_array read None = refl
-no_array read (Some has_empty) = refl
+no_array read (Some is_second) = refl
 
 nothing_checked : (version : Option Bool) (float : Bool) (found : Option Data)
     → option_and_then as_array found ≡ None
@@ -253,11 +253,11 @@ nothing_checked : (version : Option Bool) (float : Bool) (found : Option Data)
     ≡ by_version parts_beside version found
 nothing_checked version float found none =
     let one : by_version parts_in version found ≡ None =
-    ap (λ (own : Option Items). option_and_then (λ (has_empty : Bool).
-    option_and_then (parts_in has_empty) own) version) none ∙ no_array parts_in version in
+    ap (λ (own : Option Items). option_and_then (λ (is_second : Bool).
+    option_and_then (parts_in is_second) own) version) none ∙ no_array parts_in version in
     let other : by_version parts_beside version found ≡ None =
-    ap (λ (own : Option Items). option_and_then (λ (has_empty : Bool).
-    option_and_then (parts_beside has_empty) own) version) none ∙ no_array parts_beside version in
+    ap (λ (own : Option Items). option_and_then (λ (is_second : Bool).
+    option_and_then (parts_beside is_second) own) version) none ∙ no_array parts_beside version in
     ap (λ (own : Option (List Part)). if float then None else own) one
     ∙ none_anyway float ∙ sym other
 
@@ -282,7 +282,7 @@ pub checked_beside : (value : Data) → package_of value ≡ package_beside valu
 unfolding package_of package_beside
 checked_beside value =
     let number = option_and_then as_number (get (codes "version") value) in
-    let version = version_has_empty (option_and_then as_u64 number) in
+    let version = version_is_second (option_and_then as_u64 number) in
     let found = get (codes "parts") value in
     ap (λ (test : Bool). if test then None else by_version parts_in version found)
     (by_key (codes "parts") value)

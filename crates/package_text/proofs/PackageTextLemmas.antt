@@ -45,27 +45,27 @@ abbrev with_front : {X : Type 0} → Option X → Option (List X) → Option (Li
 with_front first rest = option_and_then (λ x. option_map (λ xs. x ∷ xs) rest) first
 
 no_long_event :
-    (has_empty : Bool) (a b c d : Option (List ℕ)) (rest : Option (List (List ℕ)))
+    (is_second : Bool) (a b c d : Option (List ℕ)) (rest : Option (List (List ℕ)))
     → (let texts = with_front a (with_front b (with_front c (with_front d rest))) in
-    option_and_then (events_of_texts has_empty) texts ≡ None)
-no_long_event has_empty None b c d rest = refl
-no_long_event has_empty (Some a) None c d rest = refl
-no_long_event has_empty (Some a) (Some b) None d rest = refl
-no_long_event has_empty (Some a) (Some b) (Some c) None rest = refl
-no_long_event has_empty (Some a) (Some b) (Some c) (Some d) None = refl
-no_long_event has_empty (Some a) (Some b) (Some c) (Some d) (Some rest) = refl
+    option_and_then (events_of_texts is_second) texts ≡ None)
+no_long_event is_second None b c d rest = refl
+no_long_event is_second (Some a) None c d rest = refl
+no_long_event is_second (Some a) (Some b) None d rest = refl
+no_long_event is_second (Some a) (Some b) (Some c) None rest = refl
+no_long_event is_second (Some a) (Some b) (Some c) (Some d) None = refl
+no_long_event is_second (Some a) (Some b) (Some c) (Some d) (Some rest) = refl
 
 -- an array of four items or more is no event
 pub long_is_no_event :
-    (has_empty : Bool) (values : List Data)
+    (is_second : Bool) (values : List Data)
     → 4 ≤ length values
-    → option_and_then (events_of_texts has_empty) (texts_of (items_of values)) ≡ None
-long_is_no_event has_empty [] long = absurd (omega arith)
-long_is_no_event has_empty (a ∷ []) long = absurd (omega arith)
-long_is_no_event has_empty (a ∷ b ∷ []) long = absurd (omega arith)
-long_is_no_event has_empty (a ∷ b ∷ c ∷ []) long = absurd (omega arith)
-long_is_no_event has_empty (a ∷ b ∷ c ∷ d ∷ values) long =
-    no_long_event has_empty (as_str a) (as_str b) (as_str c) (as_str d)
+    → option_and_then (events_of_texts is_second) (texts_of (items_of values)) ≡ None
+long_is_no_event is_second [] long = absurd (omega arith)
+long_is_no_event is_second (a ∷ []) long = absurd (omega arith)
+long_is_no_event is_second (a ∷ b ∷ []) long = absurd (omega arith)
+long_is_no_event is_second (a ∷ b ∷ c ∷ []) long = absurd (omega arith)
+long_is_no_event is_second (a ∷ b ∷ c ∷ d ∷ values) long =
+    no_long_event is_second (as_str a) (as_str b) (as_str c) (as_str d)
     (texts_of (items_of values))
 
 -- what is in front of a rest, by more
@@ -103,20 +103,20 @@ with_events-push parts name done (event ∷ events) =
 
 -- the events of what is left, where the first value stands for these
 pub events_more :
-    (has_empty : Bool) (values : List Value) (place : ℕ) (value : Value) (own : List Event)
+    (is_second : Bool) (values : List Value) (place : ℕ) (value : Value) (own : List Event)
     → place < length values → value ≡ get_or values place value
-    → Some own ≡ events_of_value has_empty (view value)
+    → Some own ≡ events_of_value is_second (view value)
     → option_map (λ events. own ++ events)
-    (events_in has_empty (items_view (drop (place + 1) values)))
-    ≡ events_in has_empty (items_view (drop place values))
-events_more has_empty values place value own here read is =
+    (events_in is_second (items_view (drop (place + 1) values)))
+    ≡ events_in is_second (items_view (drop place values))
+events_more is_second values place value own here read is =
     let behind = drop (place + 1) values in
-    let found = events_in has_empty (items_view behind) in
+    let found = events_in is_second (items_view behind) in
     let with_first : Option (List Event) → Option (List Event) =
     λ first. option_and_then (λ e. option_map (λ events. e ++ events) found) first
     in
     ap with_first is
-    ∙ ap (λ (first : Value). events_in has_empty (items_view (first ∷ behind)))
+    ∙ ap (λ (first : Value). events_in is_second (items_view (first ∷ behind)))
     (get_or_read values place value here read value)
-    ∙ ap (λ (rest : List Value). events_in has_empty (items_view rest))
+    ∙ ap (λ (rest : List Value). events_in is_second (items_view rest))
     (sym (drop_more values place value here))

@@ -8,8 +8,11 @@ use Rattle.std.proofs.lemmas.Slice.Eq.{bytes_eq-Decides}
 use Rattle.serde_json.specs.Data.{array}
 use Rattle.serde_json.specs.Written.{has_float, items_have_float}
 use Rattle.part_events.specs.Event.{Event, Tag, start, end, leaf, text, char_data, entity_ref}
-use Rattle.part_events.specs.Event.{other}
+use Rattle.part_events.specs.Event.{flaw, other}
 use Rattle.part_events.specs.Package.{Part}
+use Rattle.part_events.specs.declared.flaw.Flaw.TheVariants.{Malformed, NotText, Encrypted}
+use Rattle.part_events.specs.declared.flaw.Flaw.TheVariants.{UnknownMethod, TooLarge, Damaged}
+use Rattle.part_events.specs.declared.flaw.Flaw.TheVariants.{WrongSize, WrongChecksum}
 use Rattle.package_text.specs.PackageText.{events_of_value, events_in, part_in, parts_in}
 use Rattle.package_text.specs.PackageText.{package_of}
 use Rattle.package_text.specs.PackageText.{empty_element, named_part}
@@ -26,6 +29,14 @@ spelled_alone (end name) = refl
 spelled_alone (leaf (text content)) = refl
 spelled_alone (leaf (char_data content)) = refl
 spelled_alone (leaf (entity_ref name)) = refl
+spelled_alone (leaf (flaw Malformed)) = refl
+spelled_alone (leaf (flaw NotText)) = refl
+spelled_alone (leaf (flaw Encrypted)) = refl
+spelled_alone (leaf (flaw UnknownMethod)) = refl
+spelled_alone (leaf (flaw TooLarge)) = refl
+spelled_alone (leaf (flaw Damaged)) = refl
+spelled_alone (leaf (flaw WrongSize)) = refl
+spelled_alone (leaf (flaw WrongChecksum)) = refl
 spelled_alone (leaf other) = refl
 
 -- the events of a rest behind those of a first

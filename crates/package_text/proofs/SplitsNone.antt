@@ -3,8 +3,13 @@ use Rattle.std.proofs.Common.{◌≡◌, ℕ, List, [], ◌∷◌, Bool, true, f
 use Rattle.std.proofs.Common.{if◌then◌else◌, codes}
 use Rattle.std.specs.Str.{bytes_eq}
 use Rattle.part_events.specs.Event.{Event, Tag, start, end, leaf, text, char_data, entity_ref}
-use Rattle.part_events.specs.Event.{other}
+use Rattle.part_events.specs.Event.{flaw, other}
+use Rattle.part_events.specs.declared.flaw.Flaw.{Flaw}
+use Rattle.part_events.specs.declared.flaw.Flaw.TheVariants.{Malformed, NotText, Encrypted}
+use Rattle.part_events.specs.declared.flaw.Flaw.TheVariants.{UnknownMethod, TooLarge, Damaged}
+use Rattle.part_events.specs.declared.flaw.Flaw.TheVariants.{WrongSize, WrongChecksum}
 use Rattle.package_text.specs.WrittenPackage.{texts_of_event, texts_of_empty, event_texts, is_pair}
+use Rattle.package_text.specs.WrittenPackage.{flaw_texts}
 use Rattle.package_text.specs.WrittenPackage.{is_start_of, is_end_behind, none_splits, SplitsNone}
 use Rattle.package_text.proofs.EventTexts.{pair_texts, alone_texts}
 
@@ -38,6 +43,28 @@ none_split_behind : (before : List (List ℕ)) (others : List (List (List ℕ)))
 none_split_behind before [] none = refl
 none_split_behind before (texts ∷ others) none = none_behind before texts none
 
+-- a flaw is no end
+flaw_apart : (why : Flaw) (before : List (List ℕ)) → is_end_behind before (flaw_texts why) ≡ false
+flaw_apart Malformed before = refl
+flaw_apart NotText before = refl
+flaw_apart Encrypted before = refl
+flaw_apart UnknownMethod before = refl
+flaw_apart TooLarge before = refl
+flaw_apart Damaged before = refl
+flaw_apart WrongSize before = refl
+flaw_apart WrongChecksum before = refl
+
+-- a flaw is no start
+flaw_begins : (why : Flaw) (name : List ℕ) → is_start_of name (flaw_texts why) ≡ false
+flaw_begins Malformed name = refl
+flaw_begins NotText name = refl
+flaw_begins Encrypted name = refl
+flaw_begins UnknownMethod name = refl
+flaw_begins TooLarge name = refl
+flaw_begins Damaged name = refl
+flaw_begins WrongSize name = refl
+flaw_begins WrongChecksum name = refl
+
 -- the texts of events begin with those of the first, by itself or with its end
 begin_by : (event : Event) (events : List Event) (pair : Bool) → is_pair event events ≡ pair
     → (before : List (List ℕ)) → is_end_behind before (texts_of_event event) ≡ false
@@ -66,6 +93,9 @@ apart_behind tag (leaf (char_data content) ∷ events) alone =
     begin_by (leaf (char_data content)) events false refl (texts_of_event (start tag)) refl
 apart_behind tag (leaf (entity_ref name) ∷ events) alone =
     begin_by (leaf (entity_ref name)) events false refl (texts_of_event (start tag)) refl
+apart_behind tag (leaf (flaw why) ∷ events) alone =
+    begin_by (leaf (flaw why)) events false refl (texts_of_event (start tag))
+    (flaw_apart why (texts_of_event (start tag)))
 apart_behind tag (leaf other ∷ events) alone =
     begin_by (leaf other) events false refl (texts_of_event (start tag)) refl
 
@@ -80,6 +110,8 @@ alone_apart (leaf (char_data content)) events is =
     none_split_behind (texts_of_event (leaf (char_data content))) (event_texts events) (λ own. refl)
 alone_apart (leaf (entity_ref name)) events is =
     none_split_behind (texts_of_event (leaf (entity_ref name))) (event_texts events) (λ own. refl)
+alone_apart (leaf (flaw why)) events is =
+    none_split_behind (flaw_texts why) (event_texts events) (flaw_begins why)
 alone_apart (leaf other) events is =
     none_split_behind (texts_of_event (leaf other)) (event_texts events) (λ own. refl)
 

@@ -8,9 +8,14 @@ use Rattle.serde_json.specs.Find.{get, as_array, as_str, as_number, as_u64}
 use Rattle.serde_json.specs.Read.{read}
 use Rattle.serde_json.specs.Written.{has_float, members_have_float}
 use Rattle.part_events.specs.Event.{Event, event_of, start, end, leaf, text, char_data, entity_ref}
-use Rattle.part_events.specs.Event.{other}
+use Rattle.part_events.specs.Event.{flaw, other}
 use Rattle.part_events.specs.Memory.{Contents, closed, with_event}
 use Rattle.part_events.specs.Package.{Part}
+use Rattle.part_events.specs.StreamFaults.{flaw_description}
+use Rattle.part_events.specs.declared.flaw.Flaw.{Flaw}
+use Rattle.part_events.specs.declared.flaw.Flaw.TheVariants.{Malformed, NotText, Encrypted}
+use Rattle.part_events.specs.declared.flaw.Flaw.TheVariants.{UnknownMethod, TooLarge, Damaged}
+use Rattle.part_events.specs.declared.flaw.Flaw.TheVariants.{WrongSize, WrongChecksum}
 use Rattle.package_text.specs.declared.spelled.SpelledEvent.{SpelledEvent}
 use Rattle.package_text.specs.declared.spelled.SpelledEvent.TheVariants.{One, Empty}
 
@@ -28,33 +33,50 @@ start_of name attributes = start (record { name = name; attributes = attributes 
 abbrev pub empty_element : List ℕ → List ℕ → List Event
 empty_element name attributes = start_of name attributes ∷ end name ∷ []
 
--- the events of a kind and its texts: one, or where a version has them the two of an empty element
+-- a word for a flaw, if it is this one's, and else what follows
+abbrev named_or : List ℕ → Flaw → Option Flaw → Option Flaw
+named_or words why others = if bytes_eq words (flaw_description why) then Some why else others
+
+-- the flaw of these words; malformed markup has none, and is a kind alone
+abbrev pub flaw_named : List ℕ → Option Flaw
+flaw_named words =
+    named_or words NotText (named_or words Encrypted (named_or words UnknownMethod
+    (named_or words TooLarge (named_or words Damaged (named_or words WrongSize
+    (named_or words WrongChecksum None))))))
+
+-- The events of a kind and its texts: one, or in version 2 the two of an empty element. Flaws are
+-- events of version 2 alone.
 abbrev pub events_of_texts : Bool → List (List ℕ) → Option (List Event)
-events_of_texts has_empty [] = None
-events_of_texts has_empty (kind ∷ []) =
-    if bytes_eq kind (codes "o") then Some (leaf other ∷ []) else None
-events_of_texts has_empty (kind ∷ content ∷ []) =
+events_of_texts is_second [] = None
+events_of_texts is_second (kind ∷ []) =
+    if bytes_eq kind (codes "o") then Some (leaf other ∷ [])
+    else (if bytes_eq kind (codes "x")
+    then (if is_second then Some (leaf (flaw Malformed) ∷ []) else None) else None)
+events_of_texts is_second (kind ∷ content ∷ []) =
     if bytes_eq kind (codes "e") then Some (end content ∷ [])
     else (if bytes_eq kind (codes "t") then Some (leaf (text content) ∷ [])
     else (if bytes_eq kind (codes "d") then Some (leaf (char_data content) ∷ [])
-    else (if bytes_eq kind (codes "r") then Some (leaf (entity_ref content) ∷ []) else None)))
-events_of_texts has_empty (kind ∷ name ∷ attributes ∷ []) =
+    else (if bytes_eq kind (codes "r") then Some (leaf (entity_ref content) ∷ [])
+    else (if bytes_eq kind (codes "x")
+    then (if is_second then option_map (λ why. leaf (flaw why) ∷ []) (flaw_named content) else None)
+    else None))))
+events_of_texts is_second (kind ∷ name ∷ attributes ∷ []) =
     if bytes_eq kind (codes "s") then Some (start_of name attributes ∷ [])
     else (if bytes_eq kind (codes "b")
-    then (if has_empty then Some (empty_element name attributes) else None) else None)
-events_of_texts has_empty (kind ∷ first ∷ second ∷ third ∷ more) = None
+    then (if is_second then Some (empty_element name attributes) else None) else None)
+events_of_texts is_second (kind ∷ first ∷ second ∷ third ∷ more) = None
 
 -- the events of a JSON value, if it spells one or an empty element
 abbrev pub events_of_value : Bool → Data → Option (List Event)
-events_of_value has_empty value =
-    option_and_then (events_of_texts has_empty) (option_and_then texts_of (as_array value))
+events_of_value is_second value =
+    option_and_then (events_of_texts is_second) (option_and_then texts_of (as_array value))
 
 -- the events of the items of a JSON array, if each of them spells some
 abbrev pub events_in : Bool → Items → Option (List Event)
-events_in has_empty no_items = Some []
-events_in has_empty (item value rest) =
-    option_and_then (λ own. option_map (λ events. own ++ events) (events_in has_empty rest))
-    (events_of_value has_empty value)
+events_in is_second no_items = Some []
+events_in is_second (item value rest) =
+    option_and_then (λ own. option_map (λ events. own ++ events) (events_in is_second rest))
+    (events_of_value is_second value)
 
 -- a part of this name, where its events are events
 abbrev pub named_part : List ℕ → Option (List Event) → Option Part
@@ -63,23 +85,24 @@ named_part name events =
 
 -- a part by its name and events
 abbrev pub part_in : Bool → Data → Option Part
-part_in has_empty value =
+part_in is_second value =
     let found = option_and_then as_array (get (codes "events") value) in
-    let events = option_and_then (events_in has_empty) found in
+    let events = option_and_then (events_in is_second) found in
     option_and_then (λ name. named_part name events)
     (option_and_then as_str (get (codes "name") value))
 
 -- the parts of the items of a JSON array, if each of them spells one
 abbrev pub parts_in : Bool → Items → Option (List Part)
-parts_in has_empty no_items = Some []
-parts_in has_empty (item value rest) =
-    option_and_then (λ part. option_map (λ parts. part ∷ parts) (parts_in has_empty rest))
-    (part_in has_empty value)
+parts_in is_second no_items = Some []
+parts_in is_second (item value rest) =
+    option_and_then (λ part. option_map (λ parts. part ∷ parts) (parts_in is_second rest))
+    (part_in is_second value)
 
--- whether a version has empty elements as one event, where it is a version
-abbrev pub version_has_empty : Option ℕ → Option Bool
-version_has_empty None = None
-version_has_empty (Some version) =
+-- whether a version is the second, which has empty elements as one event, and flaws, where it is a
+-- version
+abbrev pub version_is_second : Option ℕ → Option Bool
+version_is_second None = None
+version_is_second (Some version) =
     if version == 1 then Some false else (if version == 2 then Some true else None)
 
 -- The package that a value spells: no number in the value, at any depth, is other than an integer
@@ -87,10 +110,10 @@ version_has_empty (Some version) =
 unfoldable pub package_of : Data → Option (List Part)
 package_of value =
     let number = option_and_then as_number (get (codes "version") value) in
-    let version = version_has_empty (option_and_then as_u64 number) in
+    let version = version_is_second (option_and_then as_u64 number) in
     let found = option_and_then as_array (get (codes "parts") value) in
     if has_float value then None
-    else option_and_then (λ has_empty. option_and_then (parts_in has_empty) found) version
+    else option_and_then (λ is_second. option_and_then (parts_in is_second) found) version
 
 -- the package that bytes spell, as JSON in UTF-8
 unfoldable pub package_in : List ℕ → Option (List Part)
@@ -117,24 +140,24 @@ has_float_beside key value = has_float value
 
 -- the part of a JSON value, if its numbers beside its events are integers
 abbrev pub part_beside : Bool → Data → Option Part
-part_beside has_empty value =
-    if has_float_beside (codes "events") value then None else part_in has_empty value
+part_beside is_second value =
+    if has_float_beside (codes "events") value then None else part_in is_second value
 
 -- the parts of such items of a JSON array
 abbrev pub parts_beside : Bool → Items → Option (List Part)
-parts_beside has_empty no_items = Some []
-parts_beside has_empty (item value rest) =
-    option_and_then (λ part. option_map (λ parts. part ∷ parts) (parts_beside has_empty rest))
-    (part_beside has_empty value)
+parts_beside is_second no_items = Some []
+parts_beside is_second (item value rest) =
+    option_and_then (λ part. option_map (λ parts. part ∷ parts) (parts_beside is_second rest))
+    (part_beside is_second value)
 
 -- the parts of a package text, if its numbers beside the parts' events are integers
 unfoldable pub package_beside : Data → Option (List Part)
 package_beside value =
     let number = option_and_then as_number (get (codes "version") value) in
-    let version = version_has_empty (option_and_then as_u64 number) in
+    let version = version_is_second (option_and_then as_u64 number) in
     let found = option_and_then as_array (get (codes "parts") value) in
     if has_float_beside (codes "parts") value then None
-    else option_and_then (λ has_empty. option_and_then (parts_beside has_empty) found) version
+    else option_and_then (λ is_second. option_and_then (parts_beside is_second) found) version
 
 -- what an event of a package text stands for
 abbrev pub events_of : SpelledEvent → List Event

@@ -7,8 +7,13 @@ use Rattle.serde_json.specs.Data.{item, no_members, member}
 use Rattle.serde_json.specs.Read.{read}
 use Rattle.serde_json.specs.Written.{compact_text}
 use Rattle.part_events.specs.Event.{Event, event_of, start, end, leaf, text, char_data, entity_ref}
-use Rattle.part_events.specs.Event.{other}
+use Rattle.part_events.specs.Event.{flaw, other}
 use Rattle.part_events.specs.Package.{Part}
+use Rattle.part_events.specs.StreamFaults.{flaw_description}
+use Rattle.part_events.specs.declared.flaw.Flaw.{Flaw}
+use Rattle.part_events.specs.declared.flaw.Flaw.TheVariants.{Malformed, NotText, Encrypted}
+use Rattle.part_events.specs.declared.flaw.Flaw.TheVariants.{UnknownMethod, TooLarge, Damaged}
+use Rattle.part_events.specs.declared.flaw.Flaw.TheVariants.{WrongSize, WrongChecksum}
 use Rattle.package_text.specs.PackageText.{package_of, events_of}
 use Rattle.package_text.specs.declared.spelled.SpelledEvent.{SpelledEvent}
 use Rattle.package_text.specs.declared.spelled.SpelledEvent.TheVariants.{One, Empty}
@@ -18,6 +23,17 @@ abbrev pub texts_data : List (List ℕ) → Items
 texts_data [] = no_items
 texts_data (content ∷ texts) = item (string content) (texts_data texts)
 
+-- the texts of a flaw: its kind, and words where it isn't malformed markup
+abbrev pub flaw_texts : Flaw → List (List ℕ)
+flaw_texts Malformed = codes "x" ∷ []
+flaw_texts NotText = codes "x" ∷ flaw_description NotText ∷ []
+flaw_texts Encrypted = codes "x" ∷ flaw_description Encrypted ∷ []
+flaw_texts UnknownMethod = codes "x" ∷ flaw_description UnknownMethod ∷ []
+flaw_texts TooLarge = codes "x" ∷ flaw_description TooLarge ∷ []
+flaw_texts Damaged = codes "x" ∷ flaw_description Damaged ∷ []
+flaw_texts WrongSize = codes "x" ∷ flaw_description WrongSize ∷ []
+flaw_texts WrongChecksum = codes "x" ∷ flaw_description WrongChecksum ∷ []
+
 -- the texts of an event by itself
 abbrev pub texts_of_event : Event → List (List ℕ)
 texts_of_event (start tag) = codes "s" ∷ tag.name ∷ tag.attributes ∷ []
@@ -25,6 +41,7 @@ texts_of_event (end name) = codes "e" ∷ name ∷ []
 texts_of_event (leaf (text content)) = codes "t" ∷ content ∷ []
 texts_of_event (leaf (char_data content)) = codes "d" ∷ content ∷ []
 texts_of_event (leaf (entity_ref name)) = codes "r" ∷ name ∷ []
+texts_of_event (leaf (flaw why)) = flaw_texts why
 texts_of_event (leaf other) = codes "o" ∷ []
 
 -- the texts of an element with nothing in it

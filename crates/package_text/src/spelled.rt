@@ -6,10 +6,10 @@ ghost use Rattle.part_events.specs.Memory.{closed};
 ghost use Rattle.package_text.specs.PackageText.{events_of_texts, events_of_value, events_in};
 ghost use Rattle.package_text.specs.PackageText.{package_of, named_part, members_have_float_beside};
 ghost use Rattle.package_text.specs.PackageText.{has_float_beside, part_beside, package_beside};
-ghost use Rattle.package_text.specs.PackageText.{AppendsPart, version_has_empty, events_of};
-ghost use Rattle.package_text.specs.PackageText.{with_events};
+ghost use Rattle.package_text.specs.PackageText.{AppendsPart, version_is_second, events_of};
+ghost use Rattle.package_text.specs.PackageText.{with_events, flaw_named};
 
-use part_events::{MemoryPackage, PartEvent, StartTag};
+use part_events::{Flaw, MemoryPackage, PartEvent, StartTag};
 use serde_json::{Map, Value};
 use std::alloc::{AllocError, Global};
 
@@ -96,16 +96,16 @@ impl SpelledEvent<'_> {
 }
 
 /// What a value of a list of events stands for, or None where it is no event of the version.
-fn event_from(value: &Value, has_empty: bool) -> Option<SpelledEvent<'_>>
+fn event_from(value: &Value, is_second: bool) -> Option<SpelledEvent<'_>>
     ensures { option_map (λ event. events_of event) result
-        ≡ events_of_value has_empty (view value.now) }
+        ≡ events_of_value is_second (view value.now) }
 {
     match value.as_array()?.as_slice() {
-        [kind] => plain_event(kind.as_str()?),
-        [kind, content] => text_event(kind.as_str()?, content.as_str()?),
+        [kind] => plain_event(is_second, kind.as_str()?),
+        [kind, content] => text_event(is_second, kind.as_str()?, content.as_str()?),
         [kind, name, attributes] => {
             start_event(
-                has_empty,
+                is_second,
                 kind.as_str()?,
                 name.as_str()?,
                 attributes.as_str()?,
@@ -117,26 +117,44 @@ fn event_from(value: &Value, has_empty: bool) -> Option<SpelledEvent<'_>>
 }
 
 /// An event of a kind without a text.
-fn plain_event(kind: &str) -> Option<SpelledEvent<'_>>
+fn plain_event(is_second: bool, kind: &str) -> Option<SpelledEvent<'_>>
     ensures { option_map (λ event. events_of event) result
-        ≡ events_of_texts false (kind.now ∷ []) }
+        ≡ events_of_texts is_second (kind.now ∷ []) }
 {
     match kind {
         "o" => Some(SpelledEvent::One(PartEvent::Other)),
+        "x" if is_second => Some(SpelledEvent::One(PartEvent::Flaw(Flaw::Malformed))),
+        _ => None,
+    }
+}
+
+/// The flaw of these words. Malformed markup has none.
+fn flaw_named(words: &str) -> Option<Flaw>
+    ensures { result ≡ flaw_named words.now }
+{
+    match words {
+        "not a text in UTF-8" => Some(Flaw::NotText),
+        "encrypted" => Some(Flaw::Encrypted),
+        "unknown compression method" => Some(Flaw::UnknownMethod),
+        "too large" => Some(Flaw::TooLarge),
+        "damaged" => Some(Flaw::Damaged),
+        "wrong size" => Some(Flaw::WrongSize),
+        "wrong checksum" => Some(Flaw::WrongChecksum),
         _ => None,
     }
 }
 
 /// An event of a kind and a text.
-fn text_event<'a>(kind: &str, content: &'a str) -> Option<SpelledEvent<'a>>
+fn text_event<'a>(is_second: bool, kind: &str, content: &'a str) -> Option<SpelledEvent<'a>>
     ensures { let texts = kind.now ∷ content.now ∷ [] in
-        option_map (λ event. events_of event) result ≡ events_of_texts false texts }
+        option_map (λ event. events_of event) result ≡ events_of_texts is_second texts }
 {
     let event = match kind {
         "e" => PartEvent::End(content),
         "t" => PartEvent::Text(content),
         "d" => PartEvent::CharData(content),
         "r" => PartEvent::EntityRef(content),
+        "x" if is_second => PartEvent::Flaw(flaw_named(content)?),
         _ => return None,
     };
     Some(SpelledEvent::One(event))
@@ -144,18 +162,18 @@ fn text_event<'a>(kind: &str, content: &'a str) -> Option<SpelledEvent<'a>>
 
 /// A start, or an element with nothing in it.
 fn start_event<'a>(
-    has_empty: bool,
+    is_second: bool,
     kind: &str,
     name: &'a str,
     attributes: &'a str,
 ) -> Option<SpelledEvent<'a>>
     ensures { let texts = kind.now ∷ name.now ∷ attributes.now ∷ [] in
-        option_map (λ event. events_of event) result ≡ events_of_texts has_empty texts }
+        option_map (λ event. events_of event) result ≡ events_of_texts is_second texts }
 {
     let tag = StartTag { name, attributes };
     match kind {
         "s" => Some(SpelledEvent::One(PartEvent::Start(tag))),
-        "b" if has_empty => Some(SpelledEvent::Empty(tag)),
+        "b" if is_second => Some(SpelledEvent::Empty(tag)),
         _ => None,
     }
 }
@@ -175,16 +193,16 @@ fn push_spelled(package: &mut MemoryPackage, event: SpelledEvent<'_>) -> Result<
 /// Appends a part of this name with these events. Answers false where one of them is no event.
 fn push_part_of(
     package: &mut MemoryPackage,
-    has_empty: bool,
+    is_second: bool,
     name: &str,
     events: &[Value],
 ) -> Result<bool, AllocError>
-    ensures { let part = named_part name.now (events_in has_empty (items_view events.now)) in
+    ensures { let part = named_part name.now (events_in is_second (items_view events.now)) in
         IfOk result (AppendsPart part «package».old «package».new) }
 {
     package.add_part(name)?;
     for value in events {
-        let Some(event) = event_from(value, has_empty) else {
+        let Some(event) = event_from(value, is_second) else {
             return Ok(false);
         };
         push_spelled(package, event)?;
@@ -196,10 +214,10 @@ fn push_part_of(
 /// is no integer of 64 bits.
 fn push_part(
     package: &mut MemoryPackage,
-    has_empty: bool,
+    is_second: bool,
     value: &Value,
 ) -> Result<bool, AllocError>
-    ensures { let part = part_beside has_empty (view value.now) in
+    ensures { let part = part_beside is_second (view value.now) in
         IfOk result (AppendsPart part «package».old «package».new) }
 {
     // Events have no numbers, so that they are looked at once.
@@ -212,12 +230,13 @@ fn push_part(
     let Some(events) = value.get("events").and_then(Value::as_array) else {
         return Ok(false);
     };
-    push_part_of(package, has_empty, name, events)
+    push_part_of(package, is_second, name, events)
 }
 
-/// Whether a version has empty elements as one event, or None where it is no version.
-fn version_has_empty(version: Option<u64>) -> Option<bool>
-    ensures { result ≡ version_has_empty version }
+/// Whether a version is the second, which has empty elements as one event, and flaws, or None where
+/// it is no version.
+fn version_is_second(version: Option<u64>) -> Option<bool>
+    ensures { result ≡ version_is_second version }
 {
     match version? {
         1 => Some(false),
@@ -237,7 +256,7 @@ fn package_beside(alloc: Global, value: &Value) -> Result<Option<MemoryPackage>,
         return Ok(None);
     }
     let version = value.get("version").and_then(Value::as_u64);
-    let Some(has_empty) = version_has_empty(version) else {
+    let Some(is_second) = version_is_second(version) else {
         return Ok(None);
     };
     let Some(parts) = value.get("parts").and_then(Value::as_array) else {
@@ -245,7 +264,7 @@ fn package_beside(alloc: Global, value: &Value) -> Result<Option<MemoryPackage>,
     };
     let mut package = MemoryPackage::new(alloc);
     for part in parts {
-        if !push_part(&mut package, has_empty, part)? {
+        if !push_part(&mut package, is_second, part)? {
             return Ok(None);
         }
     }

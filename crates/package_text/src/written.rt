@@ -9,7 +9,7 @@ ghost use Rattle.package_text.specs.WrittenPackage.{part_data, parts_data, writt
 ghost use Rattle.package_text.specs.WrittenPackage.{texts_of_spelled, begins_by_end, IsWrittenAt};
 
 use crate::spelled::SpelledEvent;
-use part_events::{MemoryPackage, PartEvent, StartTag};
+use part_events::{Flaw, MemoryPackage, PartEvent, StartTag};
 use serde_json::Value;
 use std::alloc::{AllocError, Global};
 
@@ -18,6 +18,14 @@ fn text_value(alloc: Global, text: &str) -> Result<Value, AllocError>
     ensures { IfOk result (λ value. view value ≡ string text.now) }
 {
     Ok(Value::String(String::from_str(alloc, text)?))
+}
+
+/// The array of a kind alone.
+fn kind_value(alloc: Global, kind: &str) -> Result<Value, AllocError>
+    ensures { IfOk result (λ value. view value ≡ array (texts_data (kind.now ∷ []))) }
+{
+    let kind = text_value(alloc, kind)?;
+    Ok(Value::Array(vec![in alloc; kind]?))
 }
 
 /// The array of a kind and a text.
@@ -53,10 +61,9 @@ fn event_value(alloc: Global, event: SpelledEvent<'_>) -> Result<Value, AllocErr
         SpelledEvent::One(PartEvent::Text(text)) => pair_value(alloc, "t", text),
         SpelledEvent::One(PartEvent::CharData(text)) => pair_value(alloc, "d", text),
         SpelledEvent::One(PartEvent::EntityRef(name)) => pair_value(alloc, "r", name),
-        SpelledEvent::One(PartEvent::Other) => {
-            let kind = text_value(alloc, "o")?;
-            Ok(Value::Array(vec![in alloc; kind]?))
-        }
+        SpelledEvent::One(PartEvent::Flaw(Flaw::Malformed)) => kind_value(alloc, "x"),
+        SpelledEvent::One(PartEvent::Flaw(flaw)) => pair_value(alloc, "x", flaw.description()),
+        SpelledEvent::One(PartEvent::Other) => kind_value(alloc, "o"),
     }
 }
 

@@ -6,6 +6,8 @@ use Rattle.std.specs.Option.{option_map_or}
 use Rattle.std.specs.Char.{to_ascii_lowercase}
 use Rattle.std.specs.Str.{bytes_eq}
 use Rattle.part_events.specs.Event.{Event}
+use Rattle.part_events.specs.declared.package.PackageError.{PackageError}
+use Rattle.part_events.specs.declared.package.PackageError.TheVariants.{Failed, OutOfMemory}
 
 -- a named list of events
 pub record Part : Type 0 where
@@ -78,9 +80,15 @@ pub record IsClosed (state : PackageState) : Type 0 where
   pub has_current : state.has_current ≡ false
   pub left : state.left ≡ 0
 
--- a failed call: it has its cause, no part is open, and no event was taken
-pub record Fails (old new : PackageState) : Type 0 where
-  pub cause : HasCause old new
+-- why a call may be refused: the package failed, which its count of faults tells, or there was no
+-- memory, which that count doesn't
+abbrev pub MayRefuse : PackageState → PackageState → PackageError → Type 0
+MayRefuse old new Failed = HasCause old new
+MayRefuse old new OutOfMemory = new.faults ≡ old.faults
+
+-- a refused call: no part is open, and no event was taken
+pub record Refuses (old new : PackageState) (error : PackageError) : Type 0 where
+  pub cause : MayRefuse old new error
   pub closed : IsClosed new
   pub taken : new.taken ≡ old.taken
 

@@ -7,7 +7,7 @@ use Rattle.part_events.specs.Event.{Event, start, end, leaf, is_start, text, cha
 use Rattle.part_events.specs.Event.{entity_ref, flaw, other}
 use Rattle.part_events.specs.Nesting.{starts_in, ends_in, depth, open_name, IsWhole, whole_rest}
 use Rattle.part_events.specs.Nesting.{whole}
-use Rattle.part_events.specs.Package.{PackageState, HasCause, KeepsFaults, SameParts}
+use Rattle.part_events.specs.Package.{PackageState, HasCause, KeepsFaults, SameParts, IsClosed}
 use Rattle.part_events.specs.Package.{CountsUp}
 use Rattle.part_events.specs.Section.{content, is_closed, behind}
 use Rattle.part_events.specs.declared.fault.StreamError.{StreamError}
@@ -68,6 +68,18 @@ pub record OpensReader (old : PackageState) (new : Reading) : Type 0 where
   pub names : new.names ≡ []
   pub at : new.at ≡ 0
   pub past : old.is_told ≡ true → new.source.past ≡ []
+
+-- a part could not be opened: no part is open, and no event was taken
+pub record LeavesClosed (old new : PackageState) : Type 0 where
+  pub closed : IsClosed new
+  pub taken : new.taken ≡ old.taken
+
+-- why a part can't be opened: the package failed, which its count of faults tells, or there was no
+-- memory for the part, which that count doesn't
+abbrev pub OpenFails : PackageState → PackageState → StreamError → Type 0
+OpenFails old new Io = HasCause old new
+OpenFails old new (Xml fault) = ⊥
+OpenFails old new OutOfMemory = new.faults ≡ old.faults
 
 -- What every call keeps: the parts and the allocator are the same, the package's count of taken
 -- events rose by those that were taken of the part, up to its last value, and no more were taken

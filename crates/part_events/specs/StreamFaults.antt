@@ -8,6 +8,8 @@ use Rattle.part_events.specs.declared.fault.XmlFault.TheVariants.{Break, Unclose
 use Rattle.part_events.specs.declared.fault.BreakCause.{BreakCause}
 use Rattle.part_events.specs.declared.fault.BreakCause.TheVariants.{EndMismatch, Flawed}
 use Rattle.part_events.specs.declared.flaw.Flaw.{Flaw}
+use Rattle.part_events.specs.declared.package.PackageError.{PackageError}
+use Rattle.part_events.specs.declared.package.PackageError.TheVariants as package_error
 use Rattle.part_events.specs.declared.flaw.Flaw.TheVariants.{Malformed, NotText, Encrypted}
 use Rattle.part_events.specs.declared.flaw.Flaw.TheVariants.{UnknownMethod, TooLarge, Damaged}
 use Rattle.part_events.specs.declared.flaw.Flaw.TheVariants.{WrongSize, WrongChecksum}
@@ -43,6 +45,11 @@ markup_place (Entity at) = at
 -- the text of a fault of markup: what is wrong, and where
 abbrev pub markup_text : XmlFault → List ℕ
 markup_text fault = markup_description fault ++ (codes " at " ++ decimal (markup_place fault))
+
+-- the refusal of a reader whose package refused a call
+abbrev pub of_package : PackageError → StreamError
+of_package package_error.Failed = Io
+of_package package_error.OutOfMemory = OutOfMemory
 
 -- the text of a refusal of a reader; a fault of markup has its own
 abbrev pub stream_text : StreamError → List ℕ

@@ -6,7 +6,7 @@ use crate::event::{PartEvent, StartTag};
 use crate::fault::{BreakCause, StreamError, XmlFault};
 use crate::flaw::Flaw;
 use crate::memory::Place;
-use crate::package::PackageFailed;
+use crate::package::PackageError;
 use crate::stored::StoredEvent;
 use crate::walk::{Step, Wanted};
 
@@ -19,7 +19,7 @@ pub fn equality_is_by_all_fields<'a>()
     ensures break_cause { IsEquality ⟦<BreakCause as PartialEq>⟧.eq }
     ensures xml_fault { IsEquality ⟦<XmlFault as PartialEq>⟧.eq }
     ensures stream_error { IsEquality ⟦<StreamError as PartialEq>⟧.eq }
-    ensures package_failed { IsEquality ⟦<PackageFailed as PartialEq>⟧.eq }
+    ensures package_error { IsEquality ⟦<PackageError as PartialEq>⟧.eq }
     ensures step { IsEquality ⟦<Step as PartialEq>⟧.eq }
 {}
 
@@ -36,8 +36,8 @@ pub fn copies_are_the_same<'a>()
         ⟦<XmlFault as Clone>⟧.is_infallible }
     ensures stream_error { CopiesItself ⟦<StreamError as Clone>⟧.is_clone
         ⟦<StreamError as Clone>⟧.is_infallible }
-    ensures package_failed { CopiesItself ⟦<PackageFailed as Clone>⟧.is_clone
-        ⟦<PackageFailed as Clone>⟧.is_infallible }
+    ensures package_error { CopiesItself ⟦<PackageError as Clone>⟧.is_clone
+        ⟦<PackageError as Clone>⟧.is_infallible }
     ensures step { CopiesItself ⟦<Step as Clone>⟧.is_clone ⟦<Step as Clone>⟧.is_infallible }
     ensures wanted { CopiesItself ⟦<Wanted<'a> as Clone>⟧.is_clone
         ⟦<Wanted<'a> as Clone>⟧.is_infallible }

@@ -1,12 +1,13 @@
-ghost use Rattle.std.specs.Prelude.{◌≡◌, ◌≤◌, true, OnOk, OnErr, IfOk, is_err};
+ghost use Rattle.std.specs.Prelude.{◌≡◌, ◌≤◌, true, OnOk, OnErr, IfOk, IfErr, is_err};
+ghost use Rattle.part_events.specs.declared.package.PackageError.TheVariants.{Failed};
 ghost use Rattle.part_events.specs.Failing.{Planned, planned_state, CountsCall};
 ghost use Rattle.part_events.specs.Memory.{closed};
-ghost use Rattle.part_events.specs.Package.{SameParts, Fails, Opens, OpenCounts, Advances};
+ghost use Rattle.part_events.specs.Package.{SameParts, Refuses, Opens, OpenCounts, Advances};
 ghost use Rattle.part_events.specs.Package.{AdvanceCounts};
 
 use crate::event::PartEvent;
 use crate::memory::MemoryPackage;
-use crate::package::{Package, PackageFailed};
+use crate::package::{Package, PackageError};
 use std::marker::Model;
 
 /// A package in memory some calls of which fail, to try what callers do then. Its calls of `open`
@@ -60,12 +61,13 @@ impl FailingPackage {
     }
 
     /// Counts a call, and refuses it if it is one of those that fail.
-    fn count_call(&mut self) -> Result<(), PackageFailed>
+    fn count_call(&mut self) -> Result<(), PackageError>
         ensures counts { CountsCall (is_err result) self.old self.new }
         ensures rises { self.old.faults ≤ self.new.faults }
         ensures ok { OnOk result (self.new.inner ≡ self.old.inner) }
         ensures err { OnErr result (self.new.inner
             ≡ closed self.old.inner.parts self.old.inner.taken) }
+        ensures failed { IfErr result (λ error. error ≡ Failed) }
     {
         let number = self.made;
         self.made = self.made.saturating_add(1);
@@ -74,35 +76,35 @@ impl FailingPackage {
         }
         self.faults = self.faults.saturating_add(1);
         self.inner.close();
-        Err(PackageFailed)
+        Err(PackageError::Failed)
     }
 }
 
 impl Package for FailingPackage {
     ghost state = { planned_state };
 
-    fn open(&mut self, name: &str) -> Result<bool, PackageFailed>
+    fn open(&mut self, name: &str) -> Result<bool, PackageError>
         ensures keeps { SameParts (planned_state self.old) (planned_state self.new) }
         ensures counts { IfOk result (λ found. OpenCounts found (planned_state self.old)
             (planned_state self.new)) }
         ensures opens { (planned_state self.old).is_told ≡ true
             → IfOk result (λ found. Opens name.now found (planned_state self.old)
             (planned_state self.new)) }
-        ensures failed { OnErr result (Fails (planned_state self.old) (planned_state self.new)) }
+        ensures err { IfErr result (Refuses (planned_state self.old) (planned_state self.new)) }
         ensures planned { CountsCall (is_err result) self.old self.new }
     {
         self.count_call()?;
         self.inner.open(name)
     }
 
-    fn advance(&mut self) -> Result<bool, PackageFailed>
+    fn advance(&mut self) -> Result<bool, PackageError>
         ensures keeps { SameParts (planned_state self.old) (planned_state self.new) }
         ensures counts { IfOk result (λ more. AdvanceCounts more (planned_state self.old)
             (planned_state self.new)) }
         ensures events { (planned_state self.old).is_told ≡ true
             → IfOk result (λ more. Advances more (planned_state self.old)
             (planned_state self.new)) }
-        ensures failed { OnErr result (Fails (planned_state self.old) (planned_state self.new)) }
+        ensures err { IfErr result (Refuses (planned_state self.old) (planned_state self.new)) }
         ensures planned { CountsCall (is_err result) self.old self.new }
     {
         self.count_call()?;

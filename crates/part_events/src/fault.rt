@@ -1,8 +1,8 @@
 ghost use Rattle.std.specs.Prelude.{◌≡◌};
-ghost use Rattle.part_events.specs.declared.fault.StreamError.TheVariants.{Io, Xml, OutOfMemory};
+ghost use Rattle.part_events.specs.declared.fault.StreamError.TheVariants.{Xml, OutOfMemory};
 
 use crate::flaw::Flaw;
-use crate::package::PackageFailed;
+use crate::package::PackageError;
 use std::alloc::AllocError;
 use std::fmt;
 use thiserror::Error;
@@ -96,11 +96,16 @@ impl fmt::Display for StreamError {
 
 impl std::error::Error for StreamError {}
 
-impl From<PackageFailed> for StreamError {
-    ghost from_gives = { λ _ error. error ≡ Io };
+impl From<PackageError> for StreamError {
+    ghost use Rattle.part_events.specs.StreamFaults.{of_package};
 
-    fn from(_failed: PackageFailed) -> StreamError {
-        StreamError::Io
+    ghost from_gives = { λ fault error. error ≡ of_package fault };
+
+    fn from(fault: PackageError) -> StreamError {
+        match fault {
+            PackageError::Failed => StreamError::Io,
+            PackageError::OutOfMemory => StreamError::OutOfMemory,
+        }
     }
 }
 

@@ -72,7 +72,7 @@ pub use laws::{
     outermost_is_in_order, whole_is_longest,
 };
 pub use memory::MemoryPackage;
-pub use package::{Package, PackageFailed};
+pub use package::{Package, PackageError};
 pub use part_names::PartNames;
 pub use quiet::QuietPackage;
 pub use reader::XlReader;

@@ -1,9 +1,11 @@
 ghost use Rattle.std.specs.Prelude.{◌≡◌, ◌<◌, ◌++◌, ◌∷◌, [], length, slice_get, Some, OnOk, OnErr};
+ghost use Rattle.std.specs.Prelude.{IfOk, IsOk, true};
 ghost use Rattle.part_events.specs.Event.{event_of, Tag, start, end};
 ghost use Rattle.part_events.specs.Memory.{state_of, closed, part_at, with_event};
+ghost use Rattle.part_events.specs.Package.{SameParts, Opens, OpenCounts, Advances, AdvanceCounts};
 
 use crate::event::PartEvent;
-use crate::package::{Package, PackageFailed};
+use crate::package::{Package, PackageError};
 use crate::part_names::PartNames;
 use crate::stored::StoredPart;
 use std::alloc::{AllocError, Global};
@@ -151,10 +153,19 @@ impl MemoryPackage {
     }
 }
 
+// The clauses of `open` and `advance` are the trait's, but that no call is refused.
 impl Package for MemoryPackage {
     ghost state = { state_of };
 
-    fn open(&mut self, name: &str) -> Result<bool, PackageFailed> {
+    fn open(&mut self, name: &str) -> Result<bool, PackageError>
+        ensures keeps { SameParts (state_of self.old) (state_of self.new) }
+        ensures counts { IfOk result (λ found. OpenCounts found (state_of self.old)
+            (state_of self.new)) }
+        ensures opens { (state_of self.old).is_told ≡ true
+            → IfOk result (λ found. Opens name.now found (state_of self.old)
+            (state_of self.new)) }
+        ensures never { IsOk result }
+    {
         match self.names.place(name) {
             Some(part) => {
                 self.place = Some(Place {
@@ -171,7 +182,14 @@ impl Package for MemoryPackage {
         }
     }
 
-    fn advance(&mut self) -> Result<bool, PackageFailed> {
+    fn advance(&mut self) -> Result<bool, PackageError>
+        ensures keeps { SameParts (state_of self.old) (state_of self.new) }
+        ensures counts { IfOk result (λ more. AdvanceCounts more (state_of self.old)
+            (state_of self.new)) }
+        ensures events { (state_of self.old).is_told ≡ true
+            → IfOk result (λ more. Advances more (state_of self.old) (state_of self.new)) }
+        ensures never { IsOk result }
+    {
         let Some(place) = self.place else {
             return Ok(false);
         };

@@ -1,13 +1,28 @@
-ghost use Rattle.std.specs.Prelude.{◌≡◌, ◌≤◌, length, true, IfOk, OnErr};
+ghost use Rattle.std.specs.Prelude.{◌≡◌, ◌≤◌, length, true, IfOk, IfErr};
 ghost use Rattle.part_events.specs.Event.{event_of};
-ghost use Rattle.part_events.specs.Package.{PackageState, SameParts, Fails, Opens, OpenCounts};
+ghost use Rattle.part_events.specs.declared.package.PackageError.TheVariants.{OutOfMemory};
+ghost use Rattle.part_events.specs.Package.{PackageState, SameParts, Refuses, Opens, OpenCounts};
 ghost use Rattle.part_events.specs.Package.{Advances, AdvanceCounts};
 
 use crate::event::PartEvent;
+use std::alloc::AllocError;
 
-/// A package could not be read: its count of faults rose, or stands at its end.
+/// Why a package could not be read.
 #[derive(Clone, Copy, Debug, PartialEq, Eq)]
-pub struct PackageFailed;
+pub enum PackageError {
+    /// Its count of faults rose, or stands at its end.
+    Failed,
+    /// The part could not be held.
+    OutOfMemory,
+}
+
+impl From<AllocError> for PackageError {
+    ghost from_gives = { λ _ error. error ≡ OutOfMemory };
+
+    fn from(_error: AllocError) -> PackageError {
+        PackageError::OutOfMemory
+    }
+}
 
 /// Named parts, each a list of markup events, read through one cursor.
 ///
@@ -19,21 +34,21 @@ pub trait Package {
 
     /// Opens the part of this name, and stands before its first event. Answers false, and no part
     /// is open, where there is none.
-    fn open(&mut self, name: &str) -> Result<bool, PackageFailed>
+    fn open(&mut self, name: &str) -> Result<bool, PackageError>
         ensures keeps { SameParts (state self.old) (state self.new) }
         ensures counts { IfOk result (λ found. OpenCounts found (state self.old) (state self.new)) }
         ensures opens { (state self.old).is_told ≡ true
             → IfOk result (λ found. Opens name.now found (state self.old) (state self.new)) }
-        ensures failed { OnErr result (Fails (state self.old) (state self.new)) };
+        ensures err { IfErr result (Refuses (state self.old) (state self.new)) };
 
     /// Takes the next event of the open part. Answers false at its end, or where no part is open.
-    fn advance(&mut self) -> Result<bool, PackageFailed>
+    fn advance(&mut self) -> Result<bool, PackageError>
         ensures keeps { SameParts (state self.old) (state self.new) }
         ensures counts { IfOk result (λ more. AdvanceCounts more (state self.old)
             (state self.new)) }
         ensures events { (state self.old).is_told ≡ true
             → IfOk result (λ more. Advances more (state self.old) (state self.new)) }
-        ensures failed { OnErr result (Fails (state self.old) (state self.new)) };
+        ensures err { IfErr result (Refuses (state self.old) (state self.new)) };
 
     /// The event that the last call took.
     fn event(&self) -> PartEvent<'_>

@@ -1,10 +1,10 @@
-ghost use Rattle.std.specs.Prelude.{◌≡◌, true, IfOk, OnErr};
-ghost use Rattle.part_events.specs.Package.{SameParts, Fails, Opens, OpenCounts, Advances};
+ghost use Rattle.std.specs.Prelude.{◌≡◌, true, IfOk, IfErr};
+ghost use Rattle.part_events.specs.Package.{SameParts, Refuses, Opens, OpenCounts, Advances};
 ghost use Rattle.part_events.specs.Package.{AdvanceCounts};
 ghost use Rattle.part_events.specs.Quiet.{quiet};
 
 use crate::event::PartEvent;
-use crate::package::{Package, PackageFailed};
+use crate::package::{Package, PackageError};
 use std::marker::Model;
 
 /// A package that tells no content, to try what is promised of such a one. Every call is passed on
@@ -42,24 +42,24 @@ impl<P: Package> QuietPackage<P> {
 impl<P: Package> Package for QuietPackage<P> {
     ghost state = { λ held. quiet (P.state held) };
 
-    fn open(&mut self, name: &str) -> Result<bool, PackageFailed>
+    fn open(&mut self, name: &str) -> Result<bool, PackageError>
         ensures keeps { SameParts (P.state self.old) (P.state self.new) }
         ensures counts { IfOk result (λ found. OpenCounts found (P.state self.old)
             (P.state self.new)) }
         ensures opens { (P.state self.old).is_told ≡ true
             → IfOk result (λ found. Opens name.now found (P.state self.old) (P.state self.new)) }
-        ensures failed { OnErr result (Fails (P.state self.old) (P.state self.new)) }
+        ensures err { IfErr result (Refuses (P.state self.old) (P.state self.new)) }
     {
         self.inner.open(name)
     }
 
-    fn advance(&mut self) -> Result<bool, PackageFailed>
+    fn advance(&mut self) -> Result<bool, PackageError>
         ensures keeps { SameParts (P.state self.old) (P.state self.new) }
         ensures counts { IfOk result (λ more. AdvanceCounts more (P.state self.old)
             (P.state self.new)) }
         ensures events { (P.state self.old).is_told ≡ true
             → IfOk result (λ more. Advances more (P.state self.old) (P.state self.new)) }
-        ensures failed { OnErr result (Fails (P.state self.old) (P.state self.new)) }
+        ensures err { IfErr result (Refuses (P.state self.old) (P.state self.new)) }
     {
         self.inner.advance()
     }

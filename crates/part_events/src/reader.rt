@@ -3,9 +3,9 @@ ghost use Rattle.std.specs.Result.{is_err};
 ghost use Rattle.part_events.specs.declared.fault.StreamError.TheVariants.{Io, Xml};
 ghost use Rattle.part_events.specs.declared.fault.XmlFault.TheVariants.{Unclosed};
 ghost use Rattle.part_events.specs.Event.{event_of};
-ghost use Rattle.part_events.specs.Package.{Opens, OpenCounts, Fails, SameParts};
+ghost use Rattle.part_events.specs.Package.{Opens, OpenCounts, SameParts};
 ghost use Rattle.part_events.specs.Reading.{Reading, OpensReader, IsReading, Reads, Steps};
-ghost use Rattle.part_events.specs.Reading.{StepsAhead, NextFails};
+ghost use Rattle.part_events.specs.Reading.{StepsAhead, NextFails, LeavesClosed, OpenFails};
 
 use crate::event::PartEvent;
 use crate::fault::{BreakCause, StreamError, XmlFault};
@@ -94,9 +94,9 @@ impl<P: Package> XlReader<P> {
     }
 
     /// Opens the part of this name, and stands before its first event. Answers false where there is
-    /// none, and then there is no event to come. Its only refusal is `Io`, where a call of the
-    /// package failed, and then no part is open, no event of one was taken, and nothing can be read
-    /// on.
+    /// none, and then there is no event to come. Its refusals are `Io`, where a call of the package
+    /// failed, and `OutOfMemory`. Then no part is open, no event of one was taken, and nothing can
+    /// be read on.
     pub fn open(&mut self, name: &str) -> Result<bool, StreamError>
         ensures reader { IfOk result (λ found. OpensReader self.old.source self.new) }
         ensures counts { IfOk result
@@ -104,11 +104,11 @@ impl<P: Package> XlReader<P> {
         ensures opens { self.old.source.is_told ≡ true → IfOk result
             (λ found. Opens name.now found self.old.source self.new.source) }
         ensures keeps { SameParts self.old.source self.new.source }
-        ensures failed { OnErr result (Fails self.old.source self.new.source) }
+        ensures leaves { OnErr result (LeavesClosed self.old.source self.new.source) }
         ensures rests { self.new.is_failed ≡ is_err result }
         ensures begins { (self.new.at ≡ 0) × (self.new.names ≡ []) }
         ensures alloc { self.new.alloc ≡ self.old.alloc }
-        ensures err { IfErr result (λ error. error ≡ Io) }
+        ensures err { IfErr result (OpenFails self.old.source self.new.source) }
     {
         self.names = OpenNames::new(self.alloc);
         self.at = 0;

@@ -1,10 +1,10 @@
 //! Markup as events. A tag that begins with `!` is an event that has no other spelling here: `<!>`
 //! one that nests nothing and says nothing, `<!text>` an empty text, `<!data>` the character data
-//! `x`, and any other a reference of that name. A line end with blanks behind it, alone before a
-//! tag or between two, is no event, so that markup can stand on several lines. Markup with another
-//! text before its first tag, or with a tag that has no `>`, is refused.
+//! `x`, `<!flaw>` a flaw, and any other a reference of that name. A line end with blanks behind it,
+//! alone before a tag or between two, is no event, so that markup can stand on several lines.
+//! Markup with another text before its first tag, or with a tag that has no `>`, is refused.
 
-use part_events::{MemoryPackage, PartEvent, StartTag};
+use part_events::{Flaw, MemoryPackage, PartEvent, StartTag};
 use std::alloc::{AllocError, Global};
 use xlsx_error::XlsxError;
 
@@ -17,6 +17,7 @@ fn special_event(name: &str) -> PartEvent<'_> {
         "" => PartEvent::Other,
         "text" => PartEvent::Text(""),
         "data" => PartEvent::CharData("x"),
+        "flaw" => PartEvent::Flaw(Flaw::Malformed),
         _ => PartEvent::EntityRef(name),
     }
 }

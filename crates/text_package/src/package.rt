@@ -1,10 +1,12 @@
 //! A package whose parts are held as text.
 ghost use Rattle.std.specs.Prelude.{◌≡◌, ◌++◌, ◌∷◌, [], OnOk, OnErr};
+ghost use Rattle.std.specs.Prelude.{IfOk, IsOk, true};
+ghost use Rattle.part_events.specs.Package.{SameParts, Opens, OpenCounts, Advances, AdvanceCounts};
 ghost use Rattle.text_package.specs.TextParts.{closed_texts, texts_state, named_flaw};
 
 use crate::part::TextPart;
 use crate::reading::Reading;
-use part_events::{Package, PackageFailed, PartEvent, PartNames};
+use part_events::{Package, PackageError, PartEvent, PartNames};
 use std::alloc::{AllocError, Global};
 use std::marker::Model;
 
@@ -90,10 +92,19 @@ impl TextPackage {
     }
 }
 
+// The clauses of `open` and `advance` are the trait's, but that no call is refused.
 impl Package for TextPackage {
     ghost state = { texts_state };
 
-    fn open(&mut self, name: &str) -> Result<bool, PackageFailed> {
+    fn open(&mut self, name: &str) -> Result<bool, PackageError>
+        ensures keeps { SameParts (texts_state self.old) (texts_state self.new) }
+        ensures counts { IfOk result (λ found. OpenCounts found (texts_state self.old)
+            (texts_state self.new)) }
+        ensures opens { (texts_state self.old).is_told ≡ true
+            → IfOk result (λ found. Opens name.now found (texts_state self.old)
+            (texts_state self.new)) }
+        ensures never { IsOk result }
+    {
         match self.names.place(name) {
             Some(part) => {
                 let reading = Reading::new(&self.parts[part]);
@@ -107,7 +118,15 @@ impl Package for TextPackage {
         }
     }
 
-    fn advance(&mut self) -> Result<bool, PackageFailed> {
+    fn advance(&mut self) -> Result<bool, PackageError>
+        ensures keeps { SameParts (texts_state self.old) (texts_state self.new) }
+        ensures counts { IfOk result (λ more. AdvanceCounts more (texts_state self.old)
+            (texts_state self.new)) }
+        ensures events { (texts_state self.old).is_told ≡ true
+            → IfOk result (λ more. Advances more (texts_state self.old)
+            (texts_state self.new)) }
+        ensures never { IsOk result }
+    {
         let Some(place) = self.place else {
             return Ok(false);
         };

@@ -1,12 +1,18 @@
 -- A package in memory has no faults, so that no call of it fails.
 use Rattle.std.proofs.Common.{◌≡◌, ap, arith, refl, Ok, Err}
-use Rattle.std.specs.Prelude.{Result, IsOk, OnErr}
+use Rattle.std.specs.Prelude.{Result, IfErr}
 use Rattle.part_events.specs.Memory.{Contents, state_of}
-use Rattle.part_events.specs.Package.{PackageState, Fails}
+use Rattle.part_events.specs.Package.{PackageState}
+use Rattle.part_events.specs.Reading.{OpenFails}
+use Rattle.part_events.specs.declared.fault.StreamError.{StreamError}
+use Rattle.part_events.specs.declared.fault.StreamError.TheVariants.{Io, Xml, OutOfMemory}
 
--- so a call that is refused only where one fails isn't refused
-pub never_refused : {A E : Type 0} (result : Result A E) (old new : PackageState)
-    → (held : Contents) × (state_of held ≡ new) → OnErr result (Fails old new) → IsOk result
-never_refused (Ok found) old new memory fails = refl
-never_refused (Err error) old new memory fails =
-    absurd (omega (arith, fails.cause, ap (λ (state : PackageState). state.faults) memory.1))
+-- so a part can't be opened only for want of memory
+pub never_failed : {A : Type 0} (result : Result A StreamError) (old new : PackageState)
+    → (held : Contents) × (state_of held ≡ new) → IfErr result (OpenFails old new)
+    → IfErr result (λ error. error ≡ OutOfMemory)
+never_failed (Ok found) old new memory fails = tt
+never_failed (Err Io) old new memory fails =
+    absurd (omega (arith, fails, ap (λ (state : PackageState). state.faults) memory.1))
+never_failed (Err (Xml fault)) old new memory fails = absurd fails
+never_failed (Err OutOfMemory) old new memory fails = refl

@@ -1,14 +1,18 @@
 ghost use Rattle.std.specs.Prelude.{◌<◌};
 
 use part_events::{
-    FailingPackage, MemoryPackage, Package, PartEvent, QuietPackage, StartTag, Step, StreamError,
-    XlReader, XmlFault, children_are_at_depth_one, content_is_by_match, innermost_open_is_by_depth,
-    outermost_is_in_order, whole_is_longest,
+    BreakCause, FailingPackage, Flaw, MemoryPackage, Package, PartEvent, QuietPackage, StartTag,
+    Step, StreamError, XlReader, XmlFault, children_are_at_depth_one, content_is_by_match,
+    innermost_open_is_by_depth, outermost_is_in_order, whole_is_longest,
 };
 use std::alloc::{AllocError, Global};
 use std::process::Abort;
 use std::test::Fail;
 use test_tables::assert_text;
+
+fn broken(at: u64, why: BreakCause) -> StreamError {
+    StreamError::Xml(XmlFault::Break { at, why })
+}
 
 fn start(name: &str) -> PartEvent<'_> {
     PartEvent::Start(StartTag {
@@ -66,6 +70,7 @@ pub fn told_events(
             PartEvent::Text(text) => write!(told, " {text}")?,
             PartEvent::CharData(text) => write!(told, " [{text}]")?,
             PartEvent::EntityRef(name) => write!(told, " &{name};")?,
+            PartEvent::Flaw(flaw) => write!(told, " {}!", flaw.description())?,
             PartEvent::Other => told.push_str(" !")?,
         }
     }
@@ -216,20 +221,65 @@ fn ends_that_break_the_nesting_are_refused(rt: HostRuntime) -> Result<(), Fail> 
         PartEvent::End("row"),
     ];
     let mut xml = held_reader(&rt, alloc, "part", &sheet, 5)?;
-    assert!(rt;
-        count_events(&mut xml, "part") == Err(StreamError::Xml(XmlFault::EndMismatch { at: 4 }))
-    );
+    assert!(rt; count_events(&mut xml, "part") == Err(broken(4, BreakCause::EndMismatch)));
     for (events, at) in [
         ([PartEvent::End("a"), PartEvent::Other], 0),
         ([start("x:a"), PartEvent::End("a")], 1),
         ([start("a"), PartEvent::End("x:a")], 1),
     ] {
         let mut xml = held_reader(&rt, alloc, "part", &events, 2)?;
+        let counted = count_events(&mut xml, "part");
         assert!(rt;
-            count_events(&mut xml, "part") == Err(StreamError::Xml(XmlFault::EndMismatch { at })),
+            counted == Err(broken(at, BreakCause::EndMismatch)),
             "end at {at}"
         );
     }
+    Ok(())
+}
+
+#[test]
+fn flaws_are_refused_where_they_stand(rt: HostRuntime) -> Result<(), Fail> {
+    let alloc = rt.alloc();
+    for (events, flaw, at) in [
+        (
+            [PartEvent::Flaw(Flaw::NotText), PartEvent::Other],
+            Flaw::NotText,
+            0,
+        ),
+        (
+            [start("a"), PartEvent::Flaw(Flaw::Malformed)],
+            Flaw::Malformed,
+            1,
+        ),
+        (
+            [PartEvent::Other, PartEvent::Flaw(Flaw::Damaged)],
+            Flaw::Damaged,
+            1,
+        ),
+    ] {
+        let mut xml = held_reader(&rt, alloc, "part", &events, 2)?;
+        let counted = count_events(&mut xml, "part");
+        assert!(rt;
+            counted == Err(broken(at, BreakCause::Flawed(flaw))),
+            "flaw at {at}"
+        );
+    }
+    // Nothing looks behind the end of a section.
+    let behind = [
+        start("a"),
+        PartEvent::End("a"),
+        PartEvent::Flaw(Flaw::Malformed),
+    ];
+    let mut xml = held_reader(&rt, alloc, "part", &behind, 3)?;
+    assert!(rt; count_inside(&mut xml, "a") == Ok((0, Step::Closed)));
+    // An end of another name before a flaw is what is told.
+    let twice = [
+        start("a"),
+        PartEvent::End("b"),
+        PartEvent::Flaw(Flaw::Malformed),
+    ];
+    let mut xml = held_reader(&rt, alloc, "part", &twice, 3)?;
+    assert!(rt; count_inside(&mut xml, "a") == Err(broken(1, BreakCause::EndMismatch)));
     Ok(())
 }
 
@@ -313,7 +363,8 @@ fn texts_are_joined(rt: HostRuntime) -> Result<(), Fail> {
 
 /// The texts of faults, each twice, and of the other errors of a stream.
 const TEXTS: &str =
-    "end tag mismatch at 4, end tag mismatch at 4;unclosed element at 0, unclosed element at 0;\
+    "end tag mismatch at 4, end tag mismatch at 4;malformed markup at 4, malformed markup at 4;\
+    unclosed element at 0, unclosed element at 0;\
     unknown entity at 12, unknown entity at 12;the package could not be read;out of memory;";
 
 #[test]
@@ -321,7 +372,14 @@ fn each_refusal_has_its_text(rt: HostRuntime) -> Result<(), Fail> {
     let alloc = rt.alloc();
     let mut told = String::new(alloc);
     for fault in [
-        XmlFault::EndMismatch { at: 4 },
+        XmlFault::Break {
+            at: 4,
+            why: BreakCause::EndMismatch,
+        },
+        XmlFault::Break {
+            at: 4,
+            why: BreakCause::Flawed(Flaw::Malformed),
+        },
         XmlFault::Unclosed { at: 0 },
         XmlFault::Entity { at: 12 },
     ] {
@@ -362,11 +420,9 @@ fn events_of_a_section_are_taken(rt: HostRuntime) -> Result<(), Fail> {
             "{section} of {taken} events"
         );
     }
-    let broken = [start("a"), PartEvent::Other, PartEvent::End("b")];
-    let mut xml = held_reader(&rt, alloc, "part", &broken, 3)?;
-    assert!(rt;
-        count_inside(&mut xml, "a") == Err(StreamError::Xml(XmlFault::EndMismatch { at: 2 }))
-    );
+    let other = [start("a"), PartEvent::Other, PartEvent::End("b")];
+    let mut xml = held_reader(&rt, alloc, "part", &other, 3)?;
+    assert!(rt; count_inside(&mut xml, "a") == Err(broken(2, BreakCause::EndMismatch)));
     Ok(())
 }
 

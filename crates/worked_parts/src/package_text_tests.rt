@@ -5,7 +5,9 @@ use package_text::{
     no_written_start_stands_before_its_end, package_from_json, push_package_text,
     written_packages_are_read_back, written_values_spell_their_parts,
 };
-use part_events::{MemoryPackage, PartEvent, StartTag, StreamError, XlReader, XmlFault};
+use part_events::{
+    BreakCause, Flaw, MemoryPackage, PartEvent, StartTag, StreamError, XlReader, XmlFault,
+};
 use serde_json::Value;
 use std::alloc::{AllocError, Global};
 use std::process::Abort;
@@ -99,6 +101,30 @@ const SPELLED: &str = r#"
 {"version":2,"parts":[{"name":"a","events":[["b","x","","y"]]}]}
 = none
 
+{"version":2,"parts":[{"name":"a","events":[["s","x",""],["x"]]},
+{"name":"b","events":[["x","not a text in UTF-8"]]},{"name":"c","events":[["x","encrypted"]]}]}
+= a <x|> malformed markup!;b not a text in UTF-8!;c encrypted!;
+
+{"version":2,"parts":[{"name":"d","events":[["x","unknown compression method"]]},
+{"name":"e","events":[["x","too large"]]},{"name":"f","events":[["x","damaged"]]}]}
+= d unknown compression method!;e too large!;f damaged!;
+
+{"version":2,"parts":[{"name":"g","events":[["x","wrong size"]]},
+{"name":"h","events":[["x","wrong checksum"]]}]}
+= g wrong size!;h wrong checksum!;
+
+{"version":1,"parts":[{"name":"a","events":[["x"]]}]}
+= none
+
+{"version":1,"parts":[{"name":"a","events":[["x","damaged"]]}]}
+= none
+
+{"version":2,"parts":[{"name":"a","events":[["x","malformed markup"]]}]}
+= none
+
+{"version":2,"parts":[{"name":"a","events":[["x",""]]}]}
+= none
+
 {"version":2,"parts":[{"name":"a","events":[["b","x",1]]}]}
 = none
 
@@ -154,7 +180,10 @@ fn places_count_both_events_of_an_empty_element(rt: HostRuntime) -> Result<(), F
             return Err(Fail::new(format_args!("no package: {text}")));
         };
         let counted = count_events(&mut XlReader::new(alloc, package), "a");
-        let wanted = Err(StreamError::Xml(XmlFault::EndMismatch { at: 2 }));
+        let wanted = Err(StreamError::Xml(XmlFault::Break {
+            at: 2,
+            why: BreakCause::EndMismatch,
+        }));
         assert!(rt; counted == wanted, "of {text}");
     }
     Ok(())
@@ -167,6 +196,12 @@ const UPGRADED: &str = r#"
 
 {"version":1,"parts":[]}
 = {"parts":[],"version":2}
+
+{"version":2,"parts":[{"name":"a","events":[["b","x",""],["x"]]}]}
+= {"parts":[{"events":[["b","x",""],["x"]],"name":"a"}],"version":2}
+
+{"version":2,"parts":[{"name":"a","events":[["x","wrong size"]]}]}
+= {"parts":[{"events":[["x","wrong size"]],"name":"a"}],"version":2}
 
 {"version":1,"parts":[{"name":"a","events":[]},{"name":"a","events":[["d","d"],["r","amp"]]}]}
 = {"parts":[{"events":[],"name":"a"},{"events":[["d","d"],["r","amp"]],"name":"a"}],"version":2}
@@ -261,6 +296,8 @@ fn push_one(out: &mut String, event: PartEvent<'_>, is_empty: bool) -> Result<()
         PartEvent::Text(text) => push_array(out, "t", &[text]),
         PartEvent::CharData(text) => push_array(out, "d", &[text]),
         PartEvent::EntityRef(name) => push_array(out, "r", &[name]),
+        PartEvent::Flaw(Flaw::Malformed) => push_array(out, "x", &[]),
+        PartEvent::Flaw(flaw) => push_array(out, "x", &[flaw.description()]),
         PartEvent::Other => push_array(out, "o", &[]),
     }
 }

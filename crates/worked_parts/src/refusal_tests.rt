@@ -1,5 +1,5 @@
 use attr_text::AttrFault;
-use part_events::XmlFault;
+use part_events::{BreakCause, Flaw, XmlFault};
 use std::alloc::{AllocError, Global};
 use std::test::Fail;
 use test_tables::assert_text;
@@ -10,6 +10,8 @@ const TEXTS: &str = "out of memory
 the reader has failed before
 I/O error
 Xml error: end tag mismatch at 7
+Xml error: malformed markup at 7
+Xml error: wrong checksum at 7
 Xml error: unclosed element at 7
 Xml error: unknown entity at 7
 Xml attribute error: expected '=' at 2
@@ -34,7 +36,18 @@ fn each_refusal_has_its_text(rt: HostRuntime) -> Result<(), Fail> {
         XlsxError::OutOfMemory,
         XlsxError::Failed,
         XlsxError::Io,
-        XlsxError::Xml(XmlFault::EndMismatch { at }),
+        XlsxError::Xml(XmlFault::Break {
+            at,
+            why: BreakCause::EndMismatch,
+        }),
+        XlsxError::Xml(XmlFault::Break {
+            at,
+            why: BreakCause::Flawed(Flaw::Malformed),
+        }),
+        XlsxError::Xml(XmlFault::Break {
+            at,
+            why: BreakCause::Flawed(Flaw::WrongChecksum),
+        }),
         XlsxError::Xml(XmlFault::Unclosed { at }),
         XlsxError::Xml(XmlFault::Entity { at }),
         XlsxError::XmlAttr(AttrFault::ExpectedEq(2)),

@@ -2,7 +2,7 @@
 
 use cell_data::CellFormat;
 use cell_styles::{BorderStyle, Color, FillPattern};
-use part_events::{MemoryPackage, XlReader, XmlFault};
+use part_events::{BreakCause, MemoryPackage, XlReader, XmlFault};
 use std::alloc::Global;
 use std::test::Fail;
 use test_packages::{events_of, package_front};
@@ -179,7 +179,10 @@ fn styles_are_absent_nested_or_refused(rt: HostRuntime) -> Result<(), Fail> {
     assert!(rt;
         matches!(
             &answer,
-            Err(XlsxError::Xml(XmlFault::EndMismatch { at: 2 }))
+            Err(XlsxError::Xml(XmlFault::Break {
+                at: 2,
+                why: BreakCause::EndMismatch
+            }))
         )
     );
     let answer = styles_of(alloc, "<styleSheet><borders><border diagonalUp=1>", 3);

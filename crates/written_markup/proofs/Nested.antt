@@ -2,12 +2,13 @@
 use Rattle.std.proofs.Common.{◌≡◌, ℕ, suc, List, [], ◌∷◌, ◌++◌, length, reverse, Bool, true, false}
 use Rattle.std.proofs.Common.{refl, sym, ap, ◌∙◌, append_assoc, append-nil}
 use Rattle.std.specs.List.{flat_map, slice_split}
-use Rattle.std.specs.Prelude.{◌==◌, codes, if◌then◌else◌, option_map}
+use Rattle.std.specs.Prelude.{◌==◌, codes, if◌then◌else◌, option_map, not}
 use Rattle.std.specs.Option.{option_map_or}
 use Rattle.std.specs.Str.{bytes_eq}
 use Rattle.std.proofs.lemmas.Slice.Eq.{bytes_eq-Decides}
 use Rattle.std.proofs.lemmas.List.{reverse-append}
 use Rattle.part_events.specs.Event.{Tag, Event, Leaf, start, end, leaf, text, entity_ref}
+use Rattle.part_events.specs.Event.{is_flaw}
 use Rattle.part_events.specs.Nesting.{OpenStart, open_start, closes, whole_rest}
 use Rattle.part_events.specs.Section.{content, is_closed, behind, outermost_from, outermost}
 use Rattle.part_events.specs.Section.{Element, element_of}
@@ -20,13 +21,14 @@ use Rattle.written_markup.specs.Nests.{IsNested, none, leaf_then, element_then, 
 -- What holds of no events, goes on behind a leaf and behind an element of such events, holds of
 -- all events that nest in themselves.
 pub nested_by : (P : List Event → Type 0) → P []
-    → ((kind : Leaf) (rest : List Event) → IsNested rest → P rest → P (leaf kind ∷ rest))
+    → ((kind : Leaf) (rest : List Event) → is_flaw kind ≡ false → IsNested rest → P rest
+    → P (leaf kind ∷ rest))
     → ((name attributes : List ℕ) (inside rest : List Event) → IsNested inside → P inside
     → IsNested rest → P rest → P (element name attributes inside ++ rest))
     → {events : List Event} → IsNested events → P events
 nested_by P nothing behind_leaf behind_element none = nothing
-nested_by P nothing behind_leaf behind_element (leaf_then kind {rest = rest} more) =
-    behind_leaf kind rest more (nested_by P nothing behind_leaf behind_element more)
+nested_by P nothing behind_leaf behind_element (leaf_then kind told {rest = rest} more) =
+    behind_leaf kind rest told more (nested_by P nothing behind_leaf behind_element more)
 nested_by P nothing behind_leaf behind_element
     (element_then name attributes {inside = inside} {rest = rest} within more) =
     behind_element name attributes inside rest within
@@ -40,7 +42,7 @@ pub nested_in_row : (front behind : List Event) → IsNested front → IsNested 
     → IsNested (front ++ behind)
 nested_in_row front behind first second =
     nested_by (λ (events : List Event). IsNested (events ++ behind)) second
-    (λ kind rest is more. leaf_then kind more)
+    (λ kind rest told is more. leaf_then kind told more)
     (λ name attributes inside rest within own is more.
     rw (append_assoc (element name attributes inside) rest behind)
     (element_then name attributes within more)) first
@@ -53,7 +55,7 @@ nested_element name attributes inside within =
 
 run_nested : (run : List ℕ) → IsNested (run_events run)
 run_nested [] = none
-run_nested (b ∷ bs) = leaf_then (text (b ∷ bs)) none
+run_nested (b ∷ bs) = leaf_then (text (b ∷ bs)) refl none
 
 runs_nested : (runs : List (List ℕ)) → IsNested (events_of_runs runs)
 runs_nested [] = none
@@ -61,7 +63,7 @@ runs_nested (run ∷ []) = run_nested run
 runs_nested (run ∷ next ∷ runs) =
     nested_in_row (run_events run)
     (leaf (entity_ref (codes "#13")) ∷ events_of_runs (next ∷ runs)) (run_nested run)
-    (leaf_then (entity_ref (codes "#13")) (runs_nested (next ∷ runs)))
+    (leaf_then (entity_ref (codes "#13")) refl (runs_nested (next ∷ runs)))
 
 -- the events of a text
 pub text_events_nested : (bytes : List ℕ) → IsNested (text_events bytes)
@@ -89,7 +91,7 @@ content_passes =
     nested_by (λ (events : List Event). (inside : ℕ) (rest : List Event)
     → content inside (events ++ rest) ≡ events ++ content inside rest)
     (λ inside rest. refl)
-    (λ kind more is passes inside rest. ap (λ (events : List Event). leaf kind ∷ events)
+    (λ kind more told is passes inside rest. ap (λ (events : List Event). leaf kind ∷ events)
     (passes inside rest))
     (λ name attributes own more within owns is passes inside rest.
     ap (λ (events : List Event). start (record { name = name; attributes = attributes }) ∷ events)
@@ -104,7 +106,7 @@ closed_passes =
     nested_by (λ (events : List Event). (inside : ℕ) (rest : List Event)
     → is_closed inside (events ++ rest) ≡ is_closed inside rest)
     (λ inside rest. refl)
-    (λ kind more is passes inside rest. passes inside rest)
+    (λ kind more told is passes inside rest. passes inside rest)
     (λ name attributes own more within owns is passes inside rest.
     ap (is_closed (suc inside)) (in_one_row own more rest name)
     ∙ owns (suc inside) (end name ∷ (more ++ rest)) ∙ passes inside rest)
@@ -115,7 +117,7 @@ behind_passes =
     nested_by (λ (events : List Event). (inside : ℕ) (rest : List Event)
     → behind inside (events ++ rest) ≡ behind inside rest)
     (λ inside rest. refl)
-    (λ kind more is passes inside rest. passes inside rest)
+    (λ kind more told is passes inside rest. passes inside rest)
     (λ name attributes own more within owns is passes inside rest.
     ap (behind (suc inside)) (in_one_row own more rest name)
     ∙ owns (suc inside) (end name ∷ (more ++ rest)) ∙ passes inside rest)
@@ -128,7 +130,7 @@ outermost_passes wanted =
     → outermost_from wanted (suc within) (events ++ rest)
     ≡ outermost_from wanted (suc within) rest)
     (λ within rest. refl)
-    (λ kind more is passes within rest. passes within rest)
+    (λ kind more told is passes within rest. passes within rest)
     (λ name attributes own more inside owns is passes within rest.
     ap (outermost_from wanted (suc (suc within))) (in_one_row own more rest name)
     ∙ owns (suc within) (end name ∷ (more ++ rest)) ∙ passes within rest)
@@ -161,7 +163,7 @@ starts_pass =
     nested_by (λ (events : List Event). (out : ℕ) (past : List Event)
     → open_start out (reverse events ++ past) ≡ open_start out past)
     (λ out past. refl)
-    (λ kind more is passes out past.
+    (λ kind more told is passes out past.
     ap (open_start out) (reverse_on (leaf kind) more past) ∙ passes out (leaf kind ∷ past))
     (λ name attributes own more within owns is passes out past.
     let tag : Tag = record { name = name; attributes = attributes } in
@@ -186,8 +188,10 @@ whole_passes =
     nested_by (λ (events : List Event). (past rest : List Event)
     → whole_rest past (events ++ rest) ≡ events ++ whole_rest (reverse events ++ past) rest)
     (λ past rest. refl)
-    (λ kind more is passes past rest.
-    ap (λ (events : List Event). leaf kind ∷ events)
+    (λ kind more told is passes past rest.
+    ap (λ (flawed : Bool). if not flawed
+    then leaf kind ∷ whole_rest (leaf kind ∷ past) (more ++ rest) else []) told
+    ∙ ap (λ (events : List Event). leaf kind ∷ events)
     (passes (leaf kind ∷ past) rest
     ∙ ap (λ (before : List Event). more ++ whole_rest before rest)
     (sym (reverse_on (leaf kind) more past))))

@@ -1,14 +1,15 @@
 -- Events that nest in themselves: each end among them closes a start among them.
-use Rattle.std.specs.Prelude.{◌≡◌, ℕ, suc, List, [], ◌∷◌, ◌++◌, reverse, Bool}
-use Rattle.part_events.specs.Event.{Tag, Event, Leaf, leaf}
+use Rattle.std.specs.Prelude.{◌≡◌, ℕ, suc, List, [], ◌∷◌, ◌++◌, reverse, Bool, false}
+use Rattle.part_events.specs.Event.{Tag, Event, Leaf, leaf, is_flaw}
 use Rattle.part_events.specs.Nesting.{open_start, whole_rest}
 use Rattle.part_events.specs.Section.{content, is_closed, behind, outermost_from}
 use Rattle.written_markup.specs.Markup.{element}
 
--- leaves, and elements of such events, in a row
+-- leaves that are no flaws, and elements of such events, in a row
 pub data IsNested : List Event → Type 0 where
   none : IsNested []
-  leaf_then : (kind : Leaf) {rest : List Event} → IsNested rest → IsNested (leaf kind ∷ rest)
+  leaf_then : (kind : Leaf) → is_flaw kind ≡ false → {rest : List Event} → IsNested rest
+      → IsNested (leaf kind ∷ rest)
   element_then : (name attributes : List ℕ) {inside rest : List Event} → IsNested inside
       → IsNested rest → IsNested (element name attributes inside ++ rest)
 

@@ -27,8 +27,8 @@ pub fn written_texts_are_read_back()
     ensures known { (text : List ℕ) → unknown_entity (text_events text) ≡ None }
 {}
 
-/// Leaves, and elements of such events, are passed over by what reads forward and by what looks
-/// back.
+/// Leaves that are no flaws, and elements of such events, are passed over by what reads forward and
+/// by what looks back.
 pub fn nested_events_are_passed_over()
     ensures { (events : List Event) → IsNested events → NestsItself events }
 {}

@@ -1,7 +1,7 @@
 -- Which refusals of the layers below are refusals of links, and how those of a text are handed on.
 use Rattle.std.proofs.Common.{Result, Ok, Err}
 use Rattle.std.specs.Prelude.{IfOk, MatchResult}
-use Rattle.part_events.specs.declared.fault.XmlFault.TheVariants.{EndMismatch, Entity}
+use Rattle.part_events.specs.declared.fault.XmlFault.TheVariants.{Break, Entity}
 use Rattle.xlsx_error.specs.declared.error.XlsxError.{XlsxError}
 use Rattle.xlsx_error.specs.declared.error.XlsxError.TheVariants.{OutOfMemory, Io, Xml}
 use Rattle.xlsx_sections.specs.Refusal.{IsDecodeError}
@@ -16,7 +16,7 @@ link_decoding _ is = absurd is
 pub break_links : (error : XlsxError) → IsBreakError error → IsLinksError error
 break_links OutOfMemory is = tt
 break_links Io is = tt
-break_links (Xml (EndMismatch at)) is = tt
+break_links (Xml (Break at why)) is = tt
 break_links _ is = absurd is
 
 -- an answer of which two things are known

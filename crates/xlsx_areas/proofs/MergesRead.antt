@@ -4,7 +4,7 @@ use Rattle.std.specs.Prelude.{IsSome}
 use Rattle.cell_refs.specs.declared.dimensions.Dimensions.{Dimensions}
 use Rattle.part_events.specs.Event.{Event}
 use Rattle.part_events.specs.Package.{PackageState}
-use Rattle.part_events.specs.declared.fault.XmlFault.TheVariants.{EndMismatch}
+use Rattle.part_events.specs.declared.fault.XmlFault.TheVariants.{Break}
 use Rattle.xlsx_error.specs.declared.error.XlsxError.{XlsxError}
 use Rattle.xlsx_error.specs.declared.error.XlsxError.TheVariants.{OutOfMemory, Io, Xml, XmlEof}
 use Rattle.xlsx_sections.specs.Elements.{IsInsideRefused}
@@ -19,7 +19,7 @@ use Rattle.xlsx_areas.specs.MergedCells.{merges_in, merges_of}
 pub regions_step : (error : XlsxError) → IsBreakError error → IsRegionsError error
 regions_step OutOfMemory is = tt
 regions_step Io is = tt
-regions_step (Xml (EndMismatch at)) is = tt
+regions_step (Xml (Break at why)) is = tt
 regions_step _ is = absurd is
 
 pub own_error : (error : XlsxError) → IsRegionsError error → IsMergesError error
@@ -29,7 +29,7 @@ own_error error is = is
 pub break_merges : (error : XlsxError) → IsBreakError error → IsMergesError error
 break_merges OutOfMemory is = tt
 break_merges Io is = tt
-break_merges (Xml (EndMismatch at)) is = tt
+break_merges (Xml (Break at why)) is = tt
 break_merges _ is = absurd is
 
 -- where the merged cells of a part can be taken, nothing refuses them

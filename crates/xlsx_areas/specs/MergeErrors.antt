@@ -2,7 +2,7 @@
 use Rattle.std.specs.Prelude.{◌≡◌, ⊤, [], codes, List, ℕ, None, Result, OnOk, IfErr}
 use Rattle.part_events.specs.Event.{Event}
 use Rattle.part_events.specs.Package.{PackageState, KeepsFaults, part_of}
-use Rattle.part_events.specs.declared.fault.XmlFault.TheVariants.{EndMismatch}
+use Rattle.part_events.specs.declared.fault.XmlFault.TheVariants.{Break}
 use Rattle.xlsx_error.specs.declared.error.XlsxError.{XlsxError}
 use Rattle.xlsx_error.specs.declared.error.XlsxError.TheVariants.{OutOfMemory, Io, Xml}
 use Rattle.xlsx_error.specs.declared.error.XlsxError.TheVariants.{XmlAttr, XmlEof}
@@ -51,7 +51,7 @@ BreaksBeforeMerges path old new error =
 abbrev pub IsRegionsError : XlsxError → Type 0
 IsRegionsError OutOfMemory = ⊤
 IsRegionsError Io = ⊤
-IsRegionsError (Xml (EndMismatch at)) = ⊤
+IsRegionsError (Xml (Break at why)) = ⊤
 IsRegionsError (XmlAttr fault) = ⊤
 IsRegionsError (Alphanumeric byte) = ⊤
 IsRegionsError RangeWithoutRowComponent = ⊤

@@ -162,11 +162,11 @@ impl Reads for LinkReader<'_> {
 /// `hyperlink` in it that has a `ref` its link, in order. Its texts are decoded, and then each
 /// `_xHHHH_` is replaced. Its target is that of the `id`, whatever stands before its colon.
 ///
-/// A part that ends before is `XmlEof("hyperlinks")`, and an end that breaks the nesting is
-/// `Xml(EndMismatch)` with its number in the part, counted from 0. Attributes that end in a fault
-/// are `XmlAttr`, where `ref`, `location`, `display`, `tooltip` or an `id` isn't before it. Of a
-/// start with `ref`, one that names no area has the refusal of its text, and a reference without a
-/// character in one of the texts is `Xml(Entity)` with the number of the start.
+/// A part that ends before is `XmlEof("hyperlinks")`, and an end that breaks the nesting, or a
+/// flaw, is `Xml(Break)` with its number in the part, counted from 0. Attributes that end in a
+/// fault are `XmlAttr`, where `ref`, `location`, `display`, `tooltip` or an `id` isn't before it.
+/// Of a start with `ref`, one that names no area has the refusal of its text, and a reference
+/// without a character in one of the texts is `Xml(Entity)` with the number of the start.
 pub fn read_hyperlinks<P: Package>(
     xml: &mut XlReader<P>,
     rels: &BTreeMap<String, String>,

@@ -4,6 +4,7 @@ ghost use Rattle.std.specs.Prelude.{IfOk, OnOk, IfErr, MatchOption};
 ghost use Rattle.part_events.specs.Package.{Uses, CountsUp, part_of, event_count};
 ghost use Rattle.part_events.specs.Reading.{IsReading, ReadsPart, events_of};
 ghost use Rattle.xlsx_error.specs.declared.error.XlsxError.TheVariants.{Io};
+ghost use Rattle.xlsx_parts.specs.WholePart.{IsOpenError};
 ghost use Rattle.xlsx_sections.specs.Failing.{FailsBy, SoundFails};
 ghost use Rattle.xlsx_sections.specs.SectionEvents.{ReadsToEnd, section_events};
 ghost use Rattle.xlsx_relationships.specs.LinkTargets.{target_held};
@@ -71,14 +72,14 @@ fn read_links<P: Package>(
     Ok(Some(links_of(xml, targets)?))
 }
 
-/// Whether there is a part at this path. Its only refusal is `Io`.
+/// Whether there is a part at this path. Its refusals are `Io` and `OutOfMemory`.
 fn has_part<P: Package>(xml: &mut XlReader<P>, path: &str) -> Result<bool, XlsxError>
     ensures uses { Uses 0 Io result xml.old.source xml.new.source }
     ensures there { xml.old.source.is_told ≡ true →
         IfOk result (λ found. found ≡ is_some (part_of xml.old.source.parts path.now)) }
     ensures begins { OnOk result (xml.new.source.taken ≡ xml.old.source.taken) }
     ensures err { IfErr result (SoundFails xml.old.source xml.new.source) }
-    ensures kind { IfErr result (λ error. error ≡ Io) }
+    ensures kind { IfErr result IsOpenError }
 {
     Ok(xml.open(path)?)
 }

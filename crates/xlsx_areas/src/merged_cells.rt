@@ -80,9 +80,9 @@ impl Reads for MergeReader {
 /// Reads the merged cells at whose start the reader stands, to its end (ECMA-376 part 1, section
 /// 18.3.1.55): the area of each `mergeCell` in it that has a `ref`, in order.
 ///
-/// A part that ends before is `XmlEof("")`, and an end that breaks the nesting is
-/// `Xml(EndMismatch)` with its number in the part, counted from 0. Attributes that end in a fault
-/// and have no `ref` are `XmlAttr`, and a `ref` that names no area has the refusal of its text.
+/// A part that ends before is `XmlEof("")`, and an end that breaks the nesting, or a flaw, is
+/// `Xml(Break)` with its number in the part, counted from 0. Attributes that end in a fault and
+/// have no `ref` are `XmlAttr`, and a `ref` that names no area has the refusal of its text.
 pub fn read_merge_cells<P: Package>(xml: &mut XlReader<P>) -> Result<Vec<Dimensions>, XlsxError>
     requires element { IsReadingElement xml.old }
     ensures reads { ReadsElement Io result xml.old xml.new }

@@ -10,7 +10,7 @@ use Rattle.part_events.specs.Event.{Tag, Event, start, end, leaf}
 use Rattle.part_events.specs.Nesting.{whole}
 use Rattle.part_events.specs.Reading.{Reading, ahead, events_of}
 use Rattle.part_events.specs.Section.{behind_start}
-use Rattle.part_events.specs.declared.fault.XmlFault.TheVariants.{EndMismatch}
+use Rattle.part_events.specs.declared.fault.XmlFault.TheVariants.{Break}
 use Rattle.xlsx_error.specs.declared.error.XlsxError.{XlsxError}
 use Rattle.xlsx_error.specs.declared.error.XlsxError.TheVariants.{OutOfMemory, Io, Xml, XmlEof}
 use Rattle.xlsx_error.specs.declared.error.XlsxError.TheVariants.{NotAWorksheet}
@@ -98,7 +98,7 @@ pub head_refused : (old new : Reading) (answer : Result (Option Dimensions) Refu
     → dimensions_in (ahead old) ≡ Err refusal) → HeadFails old new error
 head_refused old new answer Io refuses all = absurd (refuses 0)
 head_refused old new answer OutOfMemory refuses all = tt
-head_refused old new answer (Xml (EndMismatch at)) refuses all = absurd (refuses 0)
+head_refused old new answer (Xml (Break at why)) refuses all = absurd (refuses 0)
 head_refused old new answer (XmlEof element) refuses all = absurd (refuses 0)
 head_refused old new answer (NotAWorksheet name) refuses all = absurd (refuses 0)
 head_refused old new answer error refuses all = λ told.
@@ -153,7 +153,7 @@ other_kept {head = head} keeps same =
 pub no_head_cause : (events ahead after : List Event) (dimensions : Option Dimensions)
     (error : XlsxError) → behind_start is_sheet_data ahead ≡ Some after
     → dimensions_in ahead ≡ Ok dimensions → HeadCause events ahead error → ⊥
-no_head_cause events ahead after dimensions (Xml (EndMismatch at)) found sound cause =
+no_head_cause events ahead after dimensions (Xml (Break at why)) found sound cause =
     let none = cause.1 in
     absurd (cc)
 no_head_cause events ahead after dimensions (XmlEof element) found sound cause =

@@ -4,7 +4,7 @@ use Rattle.std.specs.Prelude.{if◌then◌else◌}
 use Rattle.part_events.specs.Event.{Tag, Event, start, end, leaf}
 use Rattle.part_events.specs.Reading.{Reading}
 use Rattle.part_events.specs.Section.{Element}
-use Rattle.part_events.specs.declared.fault.XmlFault.TheVariants.{EndMismatch, Unclosed}
+use Rattle.part_events.specs.declared.fault.XmlFault.TheVariants.{Break, Unclosed}
 use Rattle.xlsx_error.specs.declared.error.XlsxError.{XlsxError}
 use Rattle.xlsx_error.specs.declared.error.XlsxError.TheVariants.{OutOfMemory, Io, Xml, XmlEof}
 use Rattle.xlsx_error.specs.declared.error.XlsxError.TheVariants.{Failed}
@@ -34,7 +34,7 @@ pub start_refused : (base : ℕ) (first : Reading) (ending : List Event → Opti
     → SectionFails ending refused base first new error
 start_refused base first ending own refused new Io weaker is = absurd (is 0)
 start_refused base first ending own refused new OutOfMemory weaker is = tt
-start_refused base first ending own refused new (Xml (EndMismatch at)) weaker is = absurd (is 0)
+start_refused base first ending own refused new (Xml (Break at why)) weaker is = absurd (is 0)
 start_refused base first ending own refused new (Xml (Unclosed at)) weaker is = absurd (is 0)
 start_refused base first ending own refused new (XmlEof element) weaker is = absurd (is 0)
 start_refused base first ending own refused new error weaker is = λ told.

@@ -1,6 +1,6 @@
 -- The refusals that reading cells can have, whatever the package tells.
 use Rattle.std.specs.Prelude.{◌≡◌, ◌⊎◌, ⊤, ℕ, List, [], codes}
-use Rattle.part_events.specs.declared.fault.XmlFault.TheVariants.{EndMismatch}
+use Rattle.part_events.specs.declared.fault.XmlFault.TheVariants.{Break}
 use Rattle.xlsx_error.specs.declared.error.XlsxError.{XlsxError}
 use Rattle.xlsx_error.specs.declared.error.XlsxError.TheVariants.{OutOfMemory, Io, Xml, XmlAttr}
 use Rattle.xlsx_error.specs.declared.error.XlsxError.TheVariants.{XmlEof}
@@ -17,7 +17,7 @@ use Rattle.xlsx_error.specs.declared.error.XlsxError.TheVariants.{ParseFloat, Fa
 abbrev pub IsFindError : XlsxError → Type 0
 IsFindError OutOfMemory = ⊤
 IsFindError Io = ⊤
-IsFindError (Xml (EndMismatch at)) = ⊤
+IsFindError (Xml (Break at why)) = ⊤
 IsFindError (XmlEof element) = element.now ≡ codes "sheetData"
 IsFindError (XmlAttr fault) = ⊤
 IsFindError (Alphanumeric byte) = ⊤

@@ -11,7 +11,7 @@ use Rattle.part_events.specs.Event.{Tag, Event, start, end, leaf}
 use Rattle.part_events.specs.Nesting.{whole}
 use Rattle.part_events.specs.Reading.{Reading, BreaksAt, ahead, events_of}
 use Rattle.part_events.specs.Section.{behind_start, is_named}
-use Rattle.part_events.specs.declared.fault.XmlFault.TheVariants.{EndMismatch}
+use Rattle.part_events.specs.declared.fault.XmlFault.TheVariants.{Break}
 use Rattle.xlsx_error.specs.declared.error.XlsxError.{XlsxError}
 use Rattle.xlsx_error.specs.declared.error.XlsxError.TheVariants.{OutOfMemory, Io, Xml, XmlAttr}
 use Rattle.xlsx_error.specs.declared.error.XlsxError.TheVariants.{XmlEof}
@@ -129,8 +129,8 @@ HasSoundDimensions ahead = (area : Option Dimensions) × (dimensions_in ahead �
 -- reader: dimensions are refused, or else the nesting breaks or the part ends before the sheet's
 -- data.
 abbrev pub HeadCause : List Event → List Event → XlsxError → Type 0
-HeadCause events ahead (Xml (EndMismatch at)) =
-    BreaksAt events at × HasNoData ahead × HasSoundDimensions ahead
+HeadCause events ahead (Xml (Break at why)) =
+    BreaksAt events at why × HasNoData ahead × HasSoundDimensions ahead
 HeadCause events ahead (XmlEof element) =
     (whole events ≡ events) × HasNoData ahead × HasSoundDimensions ahead
     × LacksData (other_in ahead) (XmlEof element)
@@ -154,7 +154,7 @@ HeadFails old new error =
 abbrev pub IsHeadError : XlsxError → Type 0
 IsHeadError OutOfMemory = ⊤
 IsHeadError Io = ⊤
-IsHeadError (Xml (EndMismatch at)) = ⊤
+IsHeadError (Xml (Break at why)) = ⊤
 IsHeadError (XmlEof element) = element.now ≡ codes "worksheet"
 IsHeadError (NotAWorksheet name) = ⊤
 IsHeadError (UnexpectedNode node) = node.now ≡ codes "dimension"

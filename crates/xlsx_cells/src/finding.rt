@@ -46,8 +46,11 @@ fn pass(counters: &mut Counters, event: PartEvent<'_>) -> Result<(), XlsxError>
                 counters.end_row();
             }
         }
-        PartEvent::Text(_) | PartEvent::CharData(_) | PartEvent::EntityRef(_) | PartEvent::Other =>
-            {}
+        PartEvent::Text(_)
+        | PartEvent::CharData(_)
+        | PartEvent::EntityRef(_)
+        | PartEvent::Flaw(_)
+        | PartEvent::Other => {}
     }
     Ok(())
 }

@@ -93,6 +93,7 @@ impl Head {
             | PartEvent::Text(_)
             | PartEvent::CharData(_)
             | PartEvent::EntityRef(_)
+            | PartEvent::Flaw(_)
             | PartEvent::Other => Ok(()),
         }
     }
@@ -116,7 +117,8 @@ impl Head {
 /// fault of that text, and one whose attributes end in a fault and have no `ref` as `XmlAttr`.
 /// Where the part ends before the data, the refusal is `NotAWorksheet` with the local name of the
 /// part's first start that is no `dimension`, and `XmlEof` where there is none. Where the nesting
-/// breaks before, it is `Xml(EndMismatch)` with the number of the end, counted from 0.
+/// breaks before, or a flaw stands there, it is `Xml(Break)` with the number of that event, counted
+/// from 0.
 pub fn enter_data<P: Package>(xml: &mut XlReader<P>) -> Result<Dimensions, XlsxError>
     requires reading { IsReading xml.old }
     ensures reads { ReadsPart Io result xml.old xml.new }

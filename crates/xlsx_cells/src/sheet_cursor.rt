@@ -84,7 +84,7 @@ impl SheetCursor {
     ///
     /// Where the part ends before the data do, the refusal is `XmlEof` with the name of an open
     /// element or the empty text, or `Xml(Unclosed)` in an element that is skipped. An end that
-    /// breaks the nesting is `Xml(EndMismatch)`. Neither is told where a whole cell is left.
+    /// breaks the nesting, or a flaw, is `Xml(Break)`. Neither is told where a whole cell is left.
     pub fn next<P: Package>(
         &mut self,
         xml: &mut XlReader<P>,
@@ -212,8 +212,8 @@ impl SheetCursor {
     /// Rows and positions are refused as by `next`, and attributes that end in a fault and have no
     /// `s` as `XmlAttr`. What stands in cells is not read. A part that ends in a cell is
     /// `XmlEof("c")`, and one that ends elsewhere in the data `XmlEof("sheetData")`. An end that
-    /// breaks the nesting is `Xml(EndMismatch)`, in a cell too. None of these is told where a whole
-    /// cell is left whose id counts.
+    /// breaks the nesting, or a flaw, is `Xml(Break)`, in a cell too. None of these is told where a
+    /// whole cell is left whose id counts.
     pub fn next_styled<P: Package>(
         &mut self,
         xml: &mut XlReader<P>,

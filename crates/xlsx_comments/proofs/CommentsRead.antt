@@ -7,7 +7,7 @@ use Rattle.std.specs.Str.{bytes_eq}
 use Rattle.attr_text.specs.Attributes.{local_name_of}
 use Rattle.part_events.specs.Event.{Tag, Event, start}
 use Rattle.part_events.specs.Reading.{Reading}
-use Rattle.part_events.specs.declared.fault.XmlFault.TheVariants.{EndMismatch}
+use Rattle.part_events.specs.declared.fault.XmlFault.TheVariants.{Break}
 use Rattle.xlsx_error.specs.declared.error.XlsxError.{XlsxError}
 use Rattle.xlsx_error.specs.declared.error.XlsxError.TheVariants.{OutOfMemory, Io, Xml, XmlEof}
 use Rattle.xlsx_sections.specs.Elements.{ElementReadFails}
@@ -24,7 +24,7 @@ pub step_error : (error : XlsxError) → IsStepError (codes "comments") error
     → IsCommentsError error
 step_error OutOfMemory is = tt
 step_error Io is = tt
-step_error (Xml (EndMismatch at)) is = tt
+step_error (Xml (Break at why)) is = tt
 step_error (XmlEof element) is = inl is
 step_error _ is = absurd is
 

@@ -2,7 +2,7 @@
 use Rattle.std.specs.Prelude.{◌≡◌, ◌⊎◌, ⊤, ℕ, List, [], ◌∷◌, codes, Option, option_map}
 use Rattle.part_events.specs.Event.{Event}
 use Rattle.part_events.specs.Package.{Part, part_of, event_count}
-use Rattle.part_events.specs.declared.fault.XmlFault.TheVariants.{EndMismatch, Entity}
+use Rattle.part_events.specs.declared.fault.XmlFault.TheVariants.{Break, Entity}
 use Rattle.xlsx_error.specs.declared.error.XlsxError.{XlsxError}
 use Rattle.xlsx_error.specs.declared.error.XlsxError.TheVariants.{OutOfMemory, Io, Xml}
 use Rattle.xlsx_error.specs.declared.error.XlsxError.TheVariants.{XmlAttr, XmlEof, Alphanumeric}
@@ -46,7 +46,7 @@ IsCommentsEnd name =
 abbrev pub IsCommentsError : XlsxError → Type 0
 IsCommentsError OutOfMemory = ⊤
 IsCommentsError Io = ⊤
-IsCommentsError (Xml (EndMismatch at)) = ⊤
+IsCommentsError (Xml (Break at why)) = ⊤
 IsCommentsError (Xml (Entity at)) = ⊤
 IsCommentsError (XmlEof element) = IsCommentsEnd element.now
 IsCommentsError error = IsCommentStartError error

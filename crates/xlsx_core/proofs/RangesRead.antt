@@ -6,7 +6,7 @@ use Rattle.std.specs.Prelude.{⊤, option_map, IsSomeAnd, is_some}
 use Rattle.part_events.specs.Event.{Event}
 use Rattle.part_events.specs.Nesting.{whole}
 use Rattle.part_events.specs.Package.{Part}
-use Rattle.part_events.specs.declared.fault.XmlFault.TheVariants.{EndMismatch}
+use Rattle.part_events.specs.declared.fault.XmlFault.TheVariants.{Break}
 use Rattle.cell_data.specs.CellValue.{CellValue}
 use Rattle.cell_data.specs.Range.{bounds_of}
 use Rattle.cell_data.specs.declared.range.Range.{Range}
@@ -142,7 +142,7 @@ IsOther error = ⊤
 
 head_never : (events : List Event) (error : XlsxError) → IsNoWorksheet events → IsOther error
     → HeadCause events (whole events) error → ⊥
-head_never events (Xml (EndMismatch at)) none other cause =
+head_never events (Xml (Break at why)) none other cause =
     let breaks = cause.0 in
     let same : length (whole events) ≡ length events = ap length none.nested in
     absurd (omega (arith, same, breaks.before, breaks.breaks))

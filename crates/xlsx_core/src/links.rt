@@ -53,9 +53,9 @@ impl<P: Package> Xlsx<P> {
     /// Fails with `WorksheetNotFound` where no sheet has the name or the first such sheet has no
     /// part. Else a part of relationships that has no section `Relationships`, or ends in it, is
     /// `XmlEof("Relationships")`, and a part of a sheet that ends in its links
-    /// `XmlEof("hyperlinks")`. An end that breaks the nesting up to the end of
-    /// one of these sections is `Xml(EndMismatch)`. A start that can't be looked up, whose text
-    /// can't be decoded, or whose `ref` names no area has its refusal.
+    /// `XmlEof("hyperlinks")`. An end that breaks the nesting, or a flaw, up to the end of one of
+    /// these sections is `Xml(Break)`. A start that can't be looked up, whose text can't be
+    /// decoded, or whose `ref` names no area has its refusal.
     ///
     /// # Examples
     ///

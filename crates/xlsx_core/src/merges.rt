@@ -127,9 +127,9 @@ impl<P: Package> Xlsx<P> {
     /// Rows and columns are counted from 0. A part without that section has none.
     ///
     /// Fails with `WorksheetNotFound` where no sheet has the name or the first such sheet has no
-    /// part. Else an end that breaks the nesting up to the section's end is `Xml(EndMismatch)`, a
-    /// part that ends in the section `XmlEof("")`, and a start in it that can't be looked up, or
-    /// whose `ref` names no area, has its refusal.
+    /// part. Else an end that breaks the nesting, or a flaw, up to the section's end is
+    /// `Xml(Break)`, a part that ends in the section `XmlEof("")`, and a start in it that can't be
+    /// looked up, or whose `ref` names no area, has its refusal.
     ///
     /// # Examples
     ///
@@ -186,8 +186,8 @@ impl<P: Package> Xlsx<P> {
     /// their section refuses them, the part ends in it, or the nesting breaks there. None where no
     /// sheet has the name or the first such sheet has no part.
     ///
-    /// Its refusals are `Io`, `OutOfMemory`, and `Xml(EndMismatch)` by an end that breaks the
-    /// nesting before the section, or anywhere in a part without one.
+    /// Its refusals are `Io`, `OutOfMemory`, and `Xml(Break)` by an end that breaks the nesting, or
+    /// a flaw, before the section, or anywhere in a part without one.
     pub fn worksheet_merge_cells(
         &mut self,
         name: &str,

@@ -1,10 +1,11 @@
 ghost use Rattle.std.specs.Prelude.{◌≡◌};
 ghost use Rattle.xlsx_error.specs.declared.error.XlsxError.TheVariants.{Io, XmlAttr, OutOfMemory};
+ghost use Rattle.part_events.specs.StreamFaults.{of_package};
 ghost use Rattle.xlsx_error.specs.XlsxError.{of_stream, of_reference};
 
 use attr_text::AttrFault;
 use cell_refs::RefError;
-use part_events::{PackageFailed, StreamError, XmlFault};
+use part_events::{PackageError, StreamError, XmlFault};
 use std::alloc::{AllocError, AllocFailed};
 use std::error::Error;
 use std::fmt;
@@ -127,11 +128,14 @@ impl<T: Drop> From<AllocFailed<T>> for XlsxError {
     }
 }
 
-impl From<PackageFailed> for XlsxError {
-    ghost from_gives = { λ _ error. error ≡ Io };
+impl From<PackageError> for XlsxError {
+    ghost from_gives = { λ fault error. error ≡ of_stream (of_package fault) };
 
-    fn from(_failed: PackageFailed) -> XlsxError {
-        XlsxError::Io
+    fn from(fault: PackageError) -> XlsxError {
+        match fault {
+            PackageError::Failed => XlsxError::Io,
+            PackageError::OutOfMemory => XlsxError::OutOfMemory,
+        }
     }
 }
 

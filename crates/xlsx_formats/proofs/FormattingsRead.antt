@@ -6,7 +6,7 @@ use Rattle.attr_text.specs.Attributes.{lookup}
 use Rattle.attr_text.specs.declared.fault.AttrFault.{AttrFault}
 use Rattle.part_events.specs.Event.{Tag, Event}
 use Rattle.part_events.specs.Reading.{Reading}
-use Rattle.part_events.specs.declared.fault.XmlFault.TheVariants.{EndMismatch}
+use Rattle.part_events.specs.declared.fault.XmlFault.TheVariants.{Break}
 use Rattle.xlsx_error.specs.declared.error.XlsxError.{XlsxError}
 use Rattle.xlsx_error.specs.declared.error.XlsxError.TheVariants.{OutOfMemory, Io, Xml, XmlAttr}
 use Rattle.xlsx_error.specs.declared.error.XlsxError.TheVariants.{XmlEof}
@@ -124,7 +124,7 @@ start_fails said tag old new OutOfMemory is fails = tt
 start_fails said tag old new (XmlAttr fault) is fails = λ told.
     fails (settings_of (inside_of (section_left (length old.names) old)))
 start_fails said tag old new Io is fails = absurd (fails (Ok no_settings))
-start_fails said tag old new (Xml (EndMismatch at)) is fails = absurd (fails (Ok no_settings))
+start_fails said tag old new (Xml (Break at why)) is fails = absurd (fails (Ok no_settings))
 start_fails said tag old new (XmlEof element) is fails = absurd (fails (Ok no_settings))
 start_fails said tag old new _ is fails = absurd is
 

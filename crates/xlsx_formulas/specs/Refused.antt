@@ -1,6 +1,6 @@
 -- The refusals that reading a formula can have, whatever the package tells.
 use Rattle.std.specs.Prelude.{◌≡◌, ◌⊎◌, ⊤, codes}
-use Rattle.part_events.specs.declared.fault.XmlFault.TheVariants.{EndMismatch, Entity}
+use Rattle.part_events.specs.declared.fault.XmlFault.TheVariants.{Break, Entity}
 use Rattle.xlsx_error.specs.declared.error.XlsxError.{XlsxError}
 use Rattle.xlsx_error.specs.declared.error.XlsxError.TheVariants.{OutOfMemory, Io, Xml, XmlAttr}
 use Rattle.xlsx_error.specs.declared.error.XlsxError.TheVariants.{XmlEof, Unexpected}
@@ -28,7 +28,7 @@ IsShareError _ = ⊥
 abbrev pub IsFormulaError : XlsxError → Type 0
 IsFormulaError Io = ⊤
 IsFormulaError OutOfMemory = ⊤
-IsFormulaError (Xml (EndMismatch at)) = ⊤
+IsFormulaError (Xml (Break at why)) = ⊤
 IsFormulaError (Xml (Entity at)) = ⊤
 IsFormulaError (XmlEof element) = element.now ≡ codes "f"
 IsFormulaError (XmlAttr fault) = ⊤

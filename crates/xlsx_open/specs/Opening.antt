@@ -5,7 +5,7 @@ use Rattle.std.specs.Prelude.{MatchOption, MatchResult, string_bytes}
 use Rattle.part_events.specs.Event.{Event}
 use Rattle.part_events.specs.Package.{Part, PackageState, KeepsFaults, SameParts, part_of}
 use Rattle.part_events.specs.Package.{NeverFalls, CountsUp, event_count}
-use Rattle.part_events.specs.declared.fault.XmlFault.TheVariants.{EndMismatch, Entity}
+use Rattle.part_events.specs.declared.fault.XmlFault.TheVariants.{Break, Entity}
 use Rattle.xlsx_error.specs.declared.error.XlsxError.{XlsxError}
 use Rattle.xlsx_error.specs.declared.error.XlsxError.TheVariants.{OutOfMemory, Io, Xml}
 use Rattle.xlsx_error.specs.declared.error.XlsxError.TheVariants.{XmlAttr, XmlEof, FileNotFound}
@@ -166,7 +166,7 @@ OpeningCause parts error =
 abbrev pub IsOpeningError : XlsxError → Type 0
 IsOpeningError OutOfMemory = ⊤
 IsOpeningError Io = ⊤
-IsOpeningError (Xml (EndMismatch at)) = ⊤
+IsOpeningError (Xml (Break at why)) = ⊤
 IsOpeningError (Xml (Entity at)) = ⊤
 IsOpeningError (XmlAttr fault) = ⊤
 IsOpeningError (XmlEof element) =

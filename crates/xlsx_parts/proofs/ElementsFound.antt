@@ -8,7 +8,7 @@ use Rattle.part_events.specs.Nesting.{whole}
 use Rattle.part_events.specs.Package.{PackageState, SameParts}
 use Rattle.part_events.specs.Reading.{Reading, events_of}
 use Rattle.part_events.specs.Section.{behind_start, is_named}
-use Rattle.part_events.specs.declared.fault.XmlFault.TheVariants.{EndMismatch}
+use Rattle.part_events.specs.declared.fault.XmlFault.TheVariants.{Break}
 use Rattle.xlsx_error.specs.declared.error.XlsxError.{XlsxError}
 use Rattle.xlsx_error.specs.declared.error.XlsxError.TheVariants.{Xml}
 use Rattle.xlsx_sections.specs.Failing.{FailsBy}
@@ -77,7 +77,7 @@ element_events name events element is =
 
 broken_start : (ended : List ℕ) (events : List Event) (error : XlsxError)
     → IsBroken events error → StartCause ended events error
-broken_start ended events (Xml (EndMismatch at)) is = is
+broken_start ended events (Xml (Break at why)) is = is
 broken_start ended events _ is = absurd is
 
 -- its start isn't found, since the nesting breaks

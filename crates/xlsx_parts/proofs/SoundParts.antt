@@ -5,7 +5,7 @@ use Rattle.std.specs.Prelude.{option_map, option_and_then, MatchOption, if◌the
 use Rattle.part_events.specs.Event.{Tag, Event}
 use Rattle.part_events.specs.Nesting.{whole}
 use Rattle.part_events.specs.Section.{behind_start, is_closed, content, is_named}
-use Rattle.part_events.specs.declared.fault.XmlFault.TheVariants.{EndMismatch}
+use Rattle.part_events.specs.declared.fault.XmlFault.TheVariants.{Break}
 use Rattle.xlsx_error.specs.declared.error.XlsxError.{XlsxError}
 use Rattle.xlsx_error.specs.declared.error.XlsxError.TheVariants.{Xml}
 use Rattle.xlsx_sections.specs.Elements.{IsInsideRefused}
@@ -33,7 +33,7 @@ if_whole_says events said own is =
 
 not_broken : (events : List Event) (error : XlsxError) → is_whole events ≡ true
     → IsBroken events error → ⊥
-not_broken events (Xml (EndMismatch at)) is breaks =
+not_broken events (Xml (Break at why)) is breaks =
     let same : length (whole events) ≡ length events =
     eqb-true (length (whole events)) (length events) is in
     omega (arith, same, breaks.before, breaks.breaks)
@@ -76,8 +76,8 @@ no_lacking_cause name ending lacking meaning events error own says cause =
 pub no_whole_cause : {A : Type 0} (meaning : List Event → Result A Refusal) (events : List Event)
     (error : XlsxError) (own : A) → whole_said meaning events ≡ Some own
     → WholePartCause (IsMeaningRefused meaning) events error → ⊥
-no_whole_cause meaning events (Xml (EndMismatch at)) own says cause =
-    not_broken events (Xml (EndMismatch at))
+no_whole_cause meaning events (Xml (Break at why)) own says cause =
+    not_broken events (Xml (Break at why))
     (if_whole_says events (ok_or_none (meaning (whole events))) own says).0 cause
 no_whole_cause meaning events error own says cause =
     let both = if_whole_says events (ok_or_none (meaning (whole events))) own says in

@@ -2,17 +2,17 @@
 use Rattle.std.proofs.Common.{◌≡◌, ℕ, zero, suc, List, [], ◌∷◌, ◌++◌, length, reverse}
 use Rattle.std.proofs.Common.{true, false, Option, Some, None, refl, ◌∙◌, ap, arith}
 use Rattle.std.proofs.Common.{subst, append-nil, Result, Err}
-use Rattle.std.specs.Prelude.{slice_get, if◌then◌else◌}
+use Rattle.std.specs.Prelude.{slice_get, if◌then◌else◌, not}
 use Rattle.std.specs.Option.{option_map_or}
 use Rattle.std.specs.Str.{bytes_eq}
 use Rattle.std.proofs.lemmas.List.{length-reverse}
-use Rattle.part_events.specs.Event.{Tag, Event, start, end, leaf}
+use Rattle.part_events.specs.Event.{Tag, Event, start, end, leaf, is_flaw}
 use Rattle.part_events.specs.Nesting.{open_name, closes, whole_rest, whole}
 use Rattle.part_events.specs.Package.{PackageState}
 use Rattle.part_events.specs.Reading.{Reading, IsReading, ReadsOn, IsAtEnd, events_of}
 use Rattle.part_events.specs.Section.{content, is_closed}
 use Rattle.part_events.specs.Walk.{section_ahead, is_closed_ahead, inside}
-use Rattle.part_events.specs.declared.fault.XmlFault.TheVariants.{EndMismatch, Unclosed}
+use Rattle.part_events.specs.declared.fault.XmlFault.TheVariants.{Break, Unclosed}
 use Rattle.part_events.proofs.Onward.{whole_at_end}
 use Rattle.xlsx_error.specs.declared.error.XlsxError.{XlsxError}
 use Rattle.xlsx_error.specs.declared.error.XlsxError.TheVariants.{OutOfMemory, Io, Xml, XmlEof}
@@ -76,8 +76,13 @@ inside_part (first ∷ names) past (end name ∷ rest) are =
       | false ↦ record { content = refl; unclosed = refl }
     ]
 inside_part names past (leaf kind ∷ rest) are =
-    inside_with (leaf kind) (length names) (length names) (whole_rest (leaf kind ∷ past) rest) refl
-    refl (inside_part names (leaf kind ∷ past) rest are)
+    elim (is_flaw kind) as (λ b. IsInsidePart (length names)
+    (if not b then leaf kind ∷ whole_rest (leaf kind ∷ past) rest else [])) [
+      | true ↦ record { content = refl; unclosed = refl }
+      | false ↦ inside_with (leaf kind) (length names) (length names)
+          (whole_rest (leaf kind ∷ past) rest) refl refl
+          (inside_part names (leaf kind ∷ past) rest are)
+    ]
 
 -- what is left of a part of which nothing was taken
 pub record BeginsPart (r : Reading) : Type 0 where
@@ -131,7 +136,7 @@ pub whole_refused : {A : Type 0} (meaning : List Event → Result A Refusal) (fi
     → WholePartFails (IsMeaningRefused meaning) first last error
 whole_refused meaning first last Io begins fails = fails (λ _. None)
 whole_refused meaning first last OutOfMemory begins fails = tt
-whole_refused meaning first last (Xml (EndMismatch at)) begins fails = λ told.
+whole_refused meaning first last (Xml (Break at why)) begins fails = λ told.
     (fails (λ _. None) told).0
 whole_refused meaning first last (Xml (Unclosed at)) begins fails = λ told.
     let never : Some [] ≡ None = (fails (λ _. Some []) told).1 in absurd (cc)
@@ -147,7 +152,7 @@ whole_refused meaning first last error begins fails = λ told.
 
 broken_cause : (refused : List Event → Refusal → Type 0) (events : List Event) (error : XlsxError)
     → IsBroken events error → WholePartCause refused events error
-broken_cause refused events (Xml (EndMismatch at)) is = is
+broken_cause refused events (Xml (Break at why)) is = is
 broken_cause refused events _ is = absurd is
 
 -- a step over the part is refused, and so is the part

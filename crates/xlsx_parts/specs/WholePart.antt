@@ -7,7 +7,7 @@ use Rattle.part_events.specs.Package.{PackageState, SameParts, part_of, event_co
 use Rattle.part_events.specs.Reading.{Reading, IsReading, BreaksAt, events_of}
 use Rattle.part_events.specs.Section.{starts_by}
 use Rattle.part_events.specs.Walk.{section_ahead}
-use Rattle.part_events.specs.declared.fault.XmlFault.TheVariants.{EndMismatch}
+use Rattle.part_events.specs.declared.fault.XmlFault.TheVariants.{Break}
 use Rattle.xlsx_error.specs.declared.error.XlsxError.{XlsxError}
 use Rattle.xlsx_error.specs.declared.error.XlsxError.TheVariants.{OutOfMemory, Io, Xml}
 use Rattle.xlsx_sections.specs.Failing.{FailsBy}
@@ -30,13 +30,13 @@ pub record OpensPart (path : List ℕ) (old : PackageState) (new : Reading) : Ty
 
 -- the nesting of these events breaks
 abbrev pub IsBroken : List Event → XlsxError → Type 0
-IsBroken events (Xml (EndMismatch at)) = BreaksAt events at
+IsBroken events (Xml (Break at why)) = BreaksAt events at why
 IsBroken events _ = ⊥
 
 -- Why a part can't be read whole: its nesting breaks, or something in it is refused. Where it ends
 -- refuses nothing.
 abbrev pub WholePartCause : (List Event → Refusal → Type 0) → List Event → XlsxError → Type 0
-WholePartCause refused events (Xml (EndMismatch at)) = BreaksAt events at
+WholePartCause refused events (Xml (Break at why)) = BreaksAt events at why
 WholePartCause refused events error =
     RefusedAs (length (whole events)) (refused (whole events)) error
 
@@ -117,9 +117,15 @@ abbrev pub WholePartFails :
 WholePartFails refused first new error =
     FailsBy (WholePartCause refused (events_of first)) first.source new error
 
+-- the refusals that opening a part can have, whatever the package tells
+abbrev pub IsOpenError : XlsxError → Type 0
+IsOpenError Io = ⊤
+IsOpenError OutOfMemory = ⊤
+IsOpenError _ = ⊥
+
 -- the refusals that such a step can have, whatever the package tells
 abbrev pub IsBreakError : XlsxError → Type 0
 IsBreakError Io = ⊤
 IsBreakError OutOfMemory = ⊤
-IsBreakError (Xml (EndMismatch at)) = ⊤
+IsBreakError (Xml (Break at why)) = ⊤
 IsBreakError _ = ⊥

@@ -12,8 +12,8 @@ use xlsx_error::XlsxError;
 /// taken. Answers the number of the start in its part, counted from 0, and None where there is
 /// none. A part without one is read to its end.
 ///
-/// An end that breaks the nesting before is `Xml(EndMismatch)` with its number in the part, counted
-/// from 0.
+/// An end that breaks the nesting, or a flaw, before is `Xml(Break)` with its number in the part,
+/// counted from 0.
 pub fn find_element<P: Package>(xml: &mut XlReader<P>, name: &str) -> Result<Option<u64>, XlsxError>
     requires reading { IsReading xml.old }
     requires first { xml.old.at ≡ 0 }

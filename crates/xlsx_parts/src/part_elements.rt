@@ -13,8 +13,8 @@ use xlsx_error::XlsxError;
 /// the part, counted from 0, and None at the part's end. An element that is found has to be read to
 /// its end before the next one is asked for.
 ///
-/// An end that breaks the nesting is `Xml(EndMismatch)` with its number in the part, counted from
-/// 0.
+/// An end that breaks the nesting, or a flaw, is `Xml(Break)` with its number in the part, counted
+/// from 0.
 pub fn next_element_of_part<P: Package>(
     xml: &mut XlReader<P>,
     name: &str,

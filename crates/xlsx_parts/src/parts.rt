@@ -9,13 +9,13 @@ ghost use Rattle.xlsx_sections.specs.PartSection.{HasNoPart, KeepsSection};
 ghost use Rattle.xlsx_parts.specs.WholePart.{OpensPart, FindsSection, FindSectionFails};
 ghost use Rattle.xlsx_parts.specs.WholePart.{StandsInPart};
 ghost use Rattle.xlsx_parts.specs.WholePart.{StepsInPart, StandsAtPartEvent, StepsToPartEvent};
-ghost use Rattle.xlsx_parts.specs.WholePart.{StepFails, IsBreakError};
+ghost use Rattle.xlsx_parts.specs.WholePart.{StepFails, IsOpenError, IsBreakError};
 
 use part_events::{Package, Step, XlReader};
 use xlsx_error::XlsxError;
 
 /// Opens the part at this path, and stands before its first event. Answers false where there is no
-/// such part. Its only refusal is `Io`.
+/// such part. Its refusals are `Io` and `OutOfMemory`.
 pub fn open_part<P: Package>(xml: &mut XlReader<P>, path: &str) -> Result<bool, XlsxError>
     ensures absent { IfOk result (λ found. found ≡ false →
         HasNoPart path.now xml.old.source xml.new.source) }
@@ -23,7 +23,7 @@ pub fn open_part<P: Package>(xml: &mut XlReader<P>, path: &str) -> Result<bool, 
         OpensPart path.now xml.old.source xml.new) }
     ensures leaves { IfErr result (LeavesPackage 0 Io xml.old.source xml.new.source) }
     ensures err { IfErr result (SoundFails xml.old.source xml.new.source) }
-    ensures kind { IfErr result (λ error. error ≡ Io) }
+    ensures kind { IfErr result IsOpenError }
 {
     let found = xml.open(path)?;
     Ok(found)
@@ -32,8 +32,8 @@ pub fn open_part<P: Package>(xml: &mut XlReader<P>, path: &str) -> Result<bool, 
 /// Reads on behind the first start of this local name in a part of which nothing was taken, and
 /// answers whether there is one. A part without one is read to its end.
 ///
-/// An end that breaks the nesting before is `Xml(EndMismatch)` with its number in the part, counted
-/// from 0.
+/// An end that breaks the nesting, or a flaw, before is `Xml(Break)` with its number in the part,
+/// counted from 0.
 pub fn find_section<P: Package>(xml: &mut XlReader<P>, name: &str) -> Result<bool, XlsxError>
     requires reading { IsReading xml.old }
     requires first { xml.old.at ≡ 0 }
@@ -54,8 +54,8 @@ pub fn find_section<P: Package>(xml: &mut XlReader<P>, name: &str) -> Result<boo
 /// Reads on to the next start of this local name in a part, at any depth. Answers the number of the
 /// start in its part, counted from 0, and None at the part's end.
 ///
-/// An end that breaks the nesting is `Xml(EndMismatch)` with its number in the part, counted from
-/// 0.
+/// An end that breaks the nesting, or a flaw, is `Xml(Break)` with its number in the part, counted
+/// from 0.
 pub fn next_start_of_part<P: Package>(
     xml: &mut XlReader<P>,
     name: &str,
@@ -79,8 +79,8 @@ pub fn next_start_of_part<P: Package>(
 
 /// Takes the next event of a part. Answers its number, counted from 0, and None at the part's end.
 ///
-/// An end that breaks the nesting is `Xml(EndMismatch)` with its number in the part, counted from
-/// 0.
+/// An end that breaks the nesting, or a flaw, is `Xml(Break)` with its number in the part, counted
+/// from 0.
 pub fn next_event_of_part<P: Package>(xml: &mut XlReader<P>) -> Result<Option<u64>, XlsxError>
     requires reading { IsReading xml.old }
     ensures reads { ReadsPart Io result xml.old xml.new }

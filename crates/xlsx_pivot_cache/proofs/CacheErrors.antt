@@ -1,6 +1,6 @@
 -- Which refusals of the layers below are refusals of a pivot table's cache.
 use Rattle.std.proofs.Common.{codes, Some}
-use Rattle.part_events.specs.declared.fault.XmlFault.TheVariants.{EndMismatch, Entity}
+use Rattle.part_events.specs.declared.fault.XmlFault.TheVariants.{Break, Entity}
 use Rattle.xlsx_error.specs.declared.error.XlsxError.{XlsxError}
 use Rattle.xlsx_error.specs.declared.error.XlsxError.TheVariants.{OutOfMemory, Io, Xml, XmlEof}
 use Rattle.xlsx_error.specs.declared.error.XlsxError.TheVariants.{XmlAttr, Unexpected}
@@ -16,7 +16,7 @@ pub fields_step : (error : XlsxError) → IsStepError (codes "cacheField") error
     → IsFieldsError error
 fields_step OutOfMemory is = tt
 fields_step Io is = tt
-fields_step (Xml (EndMismatch at)) is = tt
+fields_step (Xml (Break at why)) is = tt
 fields_step (XmlEof element) is = is
 fields_step _ is = absurd is
 
@@ -24,7 +24,7 @@ pub end_error : (error : XlsxError) → IsEndError (Some (codes "cacheField")) e
     → IsFieldsError error
 end_error OutOfMemory is = tt
 end_error Io is = tt
-end_error (Xml (EndMismatch at)) is = tt
+end_error (Xml (Break at why)) is = tt
 end_error (XmlEof element) is = is
 end_error _ is = absurd is
 
@@ -47,7 +47,7 @@ decoding _ is = absurd is
 pub break_error : (error : XlsxError) → IsBreakError error → IsFieldsError error
 break_error OutOfMemory is = tt
 break_error Io is = tt
-break_error (Xml (EndMismatch at)) is = tt
+break_error (Xml (Break at why)) is = tt
 break_error _ is = absurd is
 
 pub fault_error : (error : XlsxError) → IsFaultError error → IsRecordValueError error
@@ -69,7 +69,7 @@ pub row_step : (error : XlsxError) → IsStepError (codes "pivotCacheRecords") e
     → IsRowError error
 row_step OutOfMemory is = tt
 row_step Io is = tt
-row_step (Xml (EndMismatch at)) is = tt
+row_step (Xml (Break at why)) is = tt
 row_step (XmlEof element) is = is
 row_step _ is = absurd is
 
@@ -77,7 +77,7 @@ pub row_end : (error : XlsxError) → IsEndError (Some (codes "pivotCacheRecords
     → IsRowError error
 row_end OutOfMemory is = tt
 row_end Io is = tt
-row_end (Xml (EndMismatch at)) is = tt
+row_end (Xml (Break at why)) is = tt
 row_end (XmlEof element) is = is
 row_end _ is = absurd is
 

@@ -9,7 +9,7 @@ use Rattle.part_events.specs.Package.{PackageState}
 use Rattle.part_events.specs.Reading.{Reading, PassesElement, ahead, events_of}
 use Rattle.part_events.specs.Section.{Element, content, outermost, unclosed}
 use Rattle.part_events.specs.Walk.{section_ahead, element_at}
-use Rattle.part_events.specs.declared.fault.XmlFault.TheVariants.{EndMismatch, Unclosed}
+use Rattle.part_events.specs.declared.fault.XmlFault.TheVariants.{Break, Unclosed}
 use Rattle.xlsx_error.specs.declared.error.XlsxError.{XlsxError}
 use Rattle.xlsx_error.specs.declared.error.XlsxError.TheVariants.{OutOfMemory, Io, Xml, XmlEof}
 use Rattle.xlsx_sections.specs.Answers.{some_answers, and_others_if, prepended}
@@ -87,7 +87,7 @@ fields_fail : (first : Reading) (last : PackageState) (error : XlsxError)
     → FailsBy (FieldsCause (events_of first)) first.source last error
 fields_fail first last Io begins fails = fails []
 fields_fail first last OutOfMemory begins fails = tt
-fields_fail first last (Xml (EndMismatch at)) begins fails = λ told. (fails [] told).0
+fields_fail first last (Xml (Break at why)) begins fails = λ told. (fails [] told).0
 fields_fail first last (Xml (Unclosed at)) begins fails = λ told.
     absurd (never_unclosed [] (unclosed is_field (inside_of (section_left 0 first)))
     (fails [] told).1)
@@ -124,7 +124,7 @@ fields_refused {kept = kept} {tag = tag} {first = first} last error begins list 
 
 broken_cause : (events : List Event) (error : XlsxError) → IsBroken events error
     → FieldsCause events error
-broken_cause events (Xml (EndMismatch at)) is = is
+broken_cause events (Xml (Break at why)) is = is
 broken_cause events _ is = absurd is
 
 -- the step to the next one is refused

@@ -6,7 +6,7 @@ use Rattle.part_events.specs.Event.{Tag, Event, start, end, leaf, IsStartAnd}
 use Rattle.part_events.specs.Nesting.{whole}
 use Rattle.part_events.specs.Reading.{Reading, IsReading, events_of}
 use Rattle.part_events.specs.Section.{content, is_closed, behind_start, is_named}
-use Rattle.part_events.specs.declared.fault.XmlFault.TheVariants.{EndMismatch}
+use Rattle.part_events.specs.declared.fault.XmlFault.TheVariants.{Break}
 use Rattle.xlsx_error.specs.declared.error.XlsxError.{XlsxError}
 use Rattle.xlsx_error.specs.declared.error.XlsxError.TheVariants.{Xml}
 use Rattle.xlsx_sections.specs.Failing.{FailsBy}
@@ -85,7 +85,7 @@ in_records fields new is there = record {
 
 broken_start : (events : List Event) (error : XlsxError) → IsBroken events error
     → StartCause records_name events error
-broken_start events (Xml (EndMismatch at)) is = is
+broken_start events (Xml (Break at why)) is = is
 broken_start events _ is = absurd is
 
 -- the start of the records isn't found, since the nesting breaks before

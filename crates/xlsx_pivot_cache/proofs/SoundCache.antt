@@ -6,7 +6,7 @@ use Rattle.part_events.specs.Event.{Event}
 use Rattle.part_events.specs.Nesting.{whole}
 use Rattle.part_events.specs.Package.{Part, part_of}
 use Rattle.part_events.specs.Section.{unclosed}
-use Rattle.part_events.specs.declared.fault.XmlFault.TheVariants.{EndMismatch}
+use Rattle.part_events.specs.declared.fault.XmlFault.TheVariants.{Break}
 use Rattle.cell_data.specs.CellValue.{CellValue}
 use Rattle.xlsx_error.specs.declared.error.XlsxError.{XlsxError}
 use Rattle.xlsx_error.specs.declared.error.XlsxError.TheVariants.{Xml, XmlEof, FileNotFound}
@@ -46,8 +46,8 @@ no_fields_cause events (XmlEof element) own says cause =
     (whole_said fields_in events) own says in
     let never = cause.1 in
     absurd (cc)
-no_fields_cause events (Xml (EndMismatch at)) own says cause =
-    no_whole_cause fields_in events (Xml (EndMismatch at)) own
+no_fields_cause events (Xml (Break at why)) own says cause =
+    no_whole_cause fields_in events (Xml (Break at why)) own
     (says_whole (is_none (unclosed is_field (whole events))) (whole_said fields_in events) own says)
     cause
 no_fields_cause events error own says cause =

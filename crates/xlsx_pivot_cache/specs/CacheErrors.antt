@@ -1,6 +1,6 @@
 -- Which refusals reading a pivot table's cache can have.
 use Rattle.std.specs.Prelude.{◌≡◌, ⊤, codes, IsSomeAnd}
-use Rattle.part_events.specs.declared.fault.XmlFault.TheVariants.{EndMismatch, Entity}
+use Rattle.part_events.specs.declared.fault.XmlFault.TheVariants.{Break, Entity}
 use Rattle.xlsx_error.specs.declared.error.XlsxError.{XlsxError}
 use Rattle.xlsx_error.specs.declared.error.XlsxError.TheVariants.{OutOfMemory, Io, Xml, XmlAttr}
 use Rattle.xlsx_error.specs.declared.error.XlsxError.TheVariants.{XmlEof, FileNotFound}
@@ -18,7 +18,7 @@ IsItemError _ = ⊥
 abbrev pub IsFieldsError : XlsxError → Type 0
 IsFieldsError OutOfMemory = ⊤
 IsFieldsError Io = ⊤
-IsFieldsError (Xml (EndMismatch at)) = ⊤
+IsFieldsError (Xml (Break at why)) = ⊤
 IsFieldsError (Xml (Entity at)) = ⊤
 IsFieldsError (XmlAttr fault) = ⊤
 IsFieldsError (XmlEof element) = element.now ≡ codes "cacheField"
@@ -43,6 +43,6 @@ IsRecordValueError error = IsFaultError error
 -- those of a record, whatever the package tells
 abbrev pub IsRowError : XlsxError → Type 0
 IsRowError Io = ⊤
-IsRowError (Xml (EndMismatch at)) = ⊤
+IsRowError (Xml (Break at why)) = ⊤
 IsRowError (XmlEof element) = element.now ≡ codes "pivotCacheRecords"
 IsRowError error = IsRecordValueError error

@@ -10,7 +10,7 @@ use Rattle.part_events.specs.Package.{Part, part_of}
 use Rattle.part_events.specs.Reading.{BreaksAt}
 use Rattle.part_events.specs.Section.{Element, outermost, children, content, behind_start, is_named}
 use Rattle.part_events.specs.Section.{unclosed}
-use Rattle.part_events.specs.declared.fault.XmlFault.TheVariants.{EndMismatch}
+use Rattle.part_events.specs.declared.fault.XmlFault.TheVariants.{Break}
 use Rattle.cell_data.specs.CellValue.{CellValue, value_of_data}
 use Rattle.xlsx_error.specs.declared.error.XlsxError.{XlsxError}
 use Rattle.xlsx_error.specs.declared.error.XlsxError.TheVariants.{Xml, XmlEof}
@@ -131,7 +131,7 @@ fields_kept fields = map field_kept fields
 -- Why the fields of a part can't be taken: its nesting breaks, the part ends in one, or one is
 -- refused.
 abbrev pub FieldsCause : List Event → XlsxError → Type 0
-FieldsCause events (Xml (EndMismatch at)) = BreaksAt events at
+FieldsCause events (Xml (Break at why)) = BreaksAt events at why
 FieldsCause events (XmlEof element) =
     (whole events ≡ events) × (is_none (unclosed is_field (whole events)) ≡ false)
     × (element.now ≡ codes "cacheField")

@@ -169,6 +169,7 @@ impl FieldContents {
             PartEvent::Text(_)
             | PartEvent::CharData(_)
             | PartEvent::EntityRef(_)
+            | PartEvent::Flaw(_)
             | PartEvent::Other => Ok(()),
         }
     }

@@ -55,9 +55,9 @@ fn fields_in<P: Package>(xml: &mut XlReader<P>) -> Result<Vec<CacheField>, XlsxE
 /// first `sharedItems` in it.
 ///
 /// A part that is absent is `FileNotFound` of its path, one that ends in a `cacheField` is
-/// `XmlEof("cacheField")`, and an end that breaks the nesting is `Xml(EndMismatch)` with its number
-/// in the part, counted from 0. A name with a reference without a character is `Xml(Entity)` with
-/// the number of its start, also where the element is no field. Attributes that end in a fault
+/// `XmlEof("cacheField")`, and an end that breaks the nesting, or a flaw, is `Xml(Break)` with its
+/// number in the part, counted from 0. A name with a reference without a character is `Xml(Entity)`
+/// with the number of its start, also where the element is no field. Attributes that end in a fault
 /// before what is looked up in them are `XmlAttr`.
 pub fn read_fields<P: Package>(
     xml: &mut XlReader<P>,

@@ -132,9 +132,9 @@ impl PivotCursor {
     /// place. None behind the end of the records, and behind a refusal, where nothing is read.
     ///
     /// A part without that section, and one that ends in it, is `XmlEof("pivotCacheRecords")`. An
-    /// end that breaks the nesting is `Xml(EndMismatch)` with its number in the part, counted from
-    /// 0. Attributes that end in a fault and have no `v` are `XmlAttr`. A `v` of an `x` that is no
-    /// number of 64 bits, one where no field stands, and one past the items of its field is
+    /// end that breaks the nesting, or a flaw, is `Xml(Break)` with its number in the part, counted
+    /// from 0. Attributes that end in a fault and have no `v` are `XmlAttr`. A `v` of an `x` that
+    /// is no number of 64 bits, one where no field stands, and one past the items of its field is
     /// `Unexpected` of the text that says so.
     pub fn next<P: Package>(
         &mut self,

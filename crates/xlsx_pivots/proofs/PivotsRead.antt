@@ -2,7 +2,7 @@
 use Rattle.std.proofs.Common.{◌≡◌, ◌⊎◌, ℕ, List, Option, Result, Err, codes, inl}
 use Rattle.std.proofs.Common.{ap}
 use Rattle.part_events.specs.Package.{PackageState}
-use Rattle.part_events.specs.declared.fault.XmlFault.TheVariants.{EndMismatch, Entity}
+use Rattle.part_events.specs.declared.fault.XmlFault.TheVariants.{Break, Entity}
 use Rattle.xlsx_error.specs.declared.error.XlsxError.{XlsxError}
 use Rattle.xlsx_error.specs.declared.error.XlsxError.TheVariants.{OutOfMemory, Io, Xml, XmlEof}
 use Rattle.xlsx_error.specs.declared.error.XlsxError.TheVariants.{XmlAttr, Unexpected}
@@ -22,7 +22,7 @@ use Rattle.xlsx_pivots.specs.declared.single.Single.{Single}
 pub related_error : (error : XlsxError) → IsRelatedError error → IsPivotsError error
 related_error OutOfMemory is = tt
 related_error Io is = tt
-related_error (Xml (EndMismatch at)) is = tt
+related_error (Xml (Break at why)) is = tt
 related_error (Xml (Entity at)) is = tt
 related_error (XmlAttr fault) is = tt
 related_error (XmlEof element) is = inl is
@@ -32,7 +32,7 @@ pub relationships_step : (error : XlsxError) → IsStepError (codes "Relationshi
     → IsPivotsError error
 relationships_step OutOfMemory is = tt
 relationships_step Io is = tt
-relationships_step (Xml (EndMismatch at)) is = tt
+relationships_step (Xml (Break at why)) is = tt
 relationships_step (XmlEof element) is = inl is
 relationships_step _ is = absurd is
 
@@ -45,7 +45,7 @@ name_error _ is = absurd is
 pub break_error : (error : XlsxError) → IsBreakError error → IsPivotsError error
 break_error OutOfMemory is = tt
 break_error Io is = tt
-break_error (Xml (EndMismatch at)) is = tt
+break_error (Xml (Break at why)) is = tt
 break_error _ is = absurd is
 
 pub single_error : (error : XlsxError) → IsSingleError error → IsPivotsError error

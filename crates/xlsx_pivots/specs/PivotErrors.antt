@@ -1,6 +1,6 @@
 -- Which refusals pivot tables have.
 use Rattle.std.specs.Prelude.{◌≡◌, ◌⊎◌, ⊤, codes, IsSomeAnd}
-use Rattle.part_events.specs.declared.fault.XmlFault.TheVariants.{EndMismatch, Entity}
+use Rattle.part_events.specs.declared.fault.XmlFault.TheVariants.{Break, Entity}
 use Rattle.xlsx_error.specs.declared.error.XlsxError.{XlsxError}
 use Rattle.xlsx_error.specs.declared.error.XlsxError.TheVariants.{OutOfMemory, Io, Xml, XmlAttr}
 use Rattle.xlsx_error.specs.declared.error.XlsxError.TheVariants.{XmlEof, FileNotFound, Unexpected}
@@ -16,7 +16,7 @@ IsSingleError _ = ⊥
 abbrev pub IsPivotsError : XlsxError → Type 0
 IsPivotsError OutOfMemory = ⊤
 IsPivotsError Io = ⊤
-IsPivotsError (Xml (EndMismatch at)) = ⊤
+IsPivotsError (Xml (Break at why)) = ⊤
 IsPivotsError (Xml (Entity at)) = ⊤
 IsPivotsError (XmlAttr fault) = ⊤
 IsPivotsError (XmlEof element) =

@@ -119,9 +119,9 @@ pub fn read_sheet_pivots<P: Package>(
 /// it is `FileNotFound` of the path. Without a name, definitions or records, or with a second one,
 /// it is `Unexpected` of the text that says so. A part of relationships that has no section
 /// `Relationships`, or ends in it, is `XmlEof("Relationships")`, and that of a pivot table likewise
-/// `XmlEof("pivotTableDefinition")`. An end that breaks the nesting is `Xml(EndMismatch)`, and a
-/// name or a target with a reference without a character `Xml(Entity)`, each with its number in the
-/// part, counted from 0. Attributes that end in a fault and lack one of the wanted keys are
+/// `XmlEof("pivotTableDefinition")`. An end that breaks the nesting, or a flaw, is `Xml(Break)`,
+/// and a name or a target with a reference without a character `Xml(Entity)`, each with its number
+/// in the part, counted from 0. Attributes that end in a fault and lack one of the wanted keys are
 /// `XmlAttr`.
 pub fn find_pivot_tables<P: Package>(
     xml: &mut XlReader<P>,

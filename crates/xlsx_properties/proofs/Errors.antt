@@ -1,5 +1,5 @@
 -- Which refusals of the layers below are refusals of properties.
-use Rattle.part_events.specs.declared.fault.XmlFault.TheVariants.{EndMismatch, Entity}
+use Rattle.part_events.specs.declared.fault.XmlFault.TheVariants.{Break, Entity}
 use Rattle.xlsx_error.specs.declared.error.XlsxError.{XlsxError}
 use Rattle.xlsx_error.specs.declared.error.XlsxError.TheVariants.{OutOfMemory, Io, Xml, XmlAttr}
 use Rattle.xlsx_sections.specs.Names.{IsNameError}
@@ -10,7 +10,7 @@ use Rattle.xlsx_properties.specs.Errors.{IsPropertyError}
 pub step_error : (error : XlsxError) → IsBreakError error → IsPropertyError error
 step_error OutOfMemory is = tt
 step_error Io is = tt
-step_error (Xml (EndMismatch at)) is = tt
+step_error (Xml (Break at why)) is = tt
 step_error _ is = absurd is
 
 pub decode_error : (error : XlsxError) → IsDecodeError error → IsPropertyError error

@@ -7,7 +7,7 @@ use Rattle.part_events.specs.Nesting.{whole}
 use Rattle.part_events.specs.Package.{PackageState}
 use Rattle.part_events.specs.Reading.{Reading, events_of}
 use Rattle.part_events.specs.Walk.{section_ahead}
-use Rattle.part_events.specs.declared.fault.XmlFault.TheVariants.{EndMismatch}
+use Rattle.part_events.specs.declared.fault.XmlFault.TheVariants.{Break}
 use Rattle.xlsx_error.specs.declared.error.XlsxError.{XlsxError}
 use Rattle.xlsx_error.specs.declared.error.XlsxError.TheVariants.{OutOfMemory, Io, Xml}
 use Rattle.xlsx_sections.specs.Answers.{or_earlier, or_later}
@@ -55,7 +55,7 @@ later_refused kept (Err own) refusal is = is
 told_cause : (refused : List Event → Refusal → Type 0) (events : List Event) (error : XlsxError)
     → RefusedAs (length (whole events)) (refused (whole events)) error
     → WholePartCause refused events error
-told_cause refused events (Xml (EndMismatch at)) refuses = absurd refuses
+told_cause refused events (Xml (Break at why)) refuses = absurd refuses
 told_cause refused events error refuses = refuses
 
 part_refused : (at behind : ℕ) (first : Reading) (own : Refusal → Type 0)

@@ -4,7 +4,7 @@ use Rattle.std.proofs.Common.{Ok, Err, refl, sym, ap, ◌∙◌, arith}
 use Rattle.part_events.specs.Event.{Event}
 use Rattle.part_events.specs.Nesting.{whole}
 use Rattle.part_events.specs.Package.{Part, part_of}
-use Rattle.part_events.specs.declared.fault.XmlFault.TheVariants.{EndMismatch}
+use Rattle.part_events.specs.declared.fault.XmlFault.TheVariants.{Break}
 use Rattle.xlsx_error.specs.declared.error.XlsxError.{XlsxError}
 use Rattle.xlsx_error.specs.declared.error.XlsxError.TheVariants.{Xml}
 use Rattle.xlsx_sections.specs.Answers.{or_later}
@@ -36,7 +36,7 @@ second_says (Err other) (Err refusal) said is = absurd (cc)
 part_never : {K A : Type 0} (saying : Saying K A) (key : K) (events : List Event) (said : Option A)
     (error : XlsxError) → whole events ≡ events → saying key events ≡ Ok said
     → WholePartCause (AreRefused saying) events error → ⊥
-part_never saying key events said (Xml (EndMismatch at)) same is breaks =
+part_never saying key events said (Xml (Break at why)) same is breaks =
     omega (arith, ap length same, breaks.before, breaks.breaks)
 part_never saying key events said error same is cause =
     never_refused (length (whole events)) (AreRefused saying (whole events)) error

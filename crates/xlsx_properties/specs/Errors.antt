@@ -1,6 +1,6 @@
 -- The refusals that reading properties can have.
 use Rattle.std.specs.Prelude.{⊤}
-use Rattle.part_events.specs.declared.fault.XmlFault.TheVariants.{EndMismatch, Entity}
+use Rattle.part_events.specs.declared.fault.XmlFault.TheVariants.{Break, Entity}
 use Rattle.xlsx_error.specs.declared.error.XlsxError.{XlsxError}
 use Rattle.xlsx_error.specs.declared.error.XlsxError.TheVariants.{OutOfMemory, Io, Xml, XmlAttr}
 
@@ -8,7 +8,7 @@ use Rattle.xlsx_error.specs.declared.error.XlsxError.TheVariants.{OutOfMemory, I
 abbrev pub IsPropertyError : XlsxError → Type 0
 IsPropertyError Io = ⊤
 IsPropertyError OutOfMemory = ⊤
-IsPropertyError (Xml (EndMismatch at)) = ⊤
+IsPropertyError (Xml (Break at why)) = ⊤
 IsPropertyError (Xml (Entity at)) = ⊤
 IsPropertyError (XmlAttr fault) = ⊤
 IsPropertyError _ = ⊥

@@ -47,7 +47,7 @@ pub(crate) trait KeepsTexts {
 }
 
 /// Reads a part of which nothing was taken to its end, and keeps the texts that it says. An end
-/// that breaks the nesting is `Xml(EndMismatch)` with its number in the part, counted from 0.
+/// that breaks the nesting, or a flaw, is `Xml(Break)` with its number in the part, counted from 0.
 #[tactic(auto, using(crate::proofs::Errors::step_error))]
 fn keep_texts<P: Package, K: KeepsTexts>(
     xml: &mut XlReader<P>,

@@ -175,6 +175,7 @@ impl KeepsTexts for CustomKeeper {
             PartEvent::Text(_)
             | PartEvent::CharData(_)
             | PartEvent::EntityRef(_)
+            | PartEvent::Flaw(_)
             | PartEvent::Other => push_leaf(&mut self.place, event, at)?,
         }
         Ok(())

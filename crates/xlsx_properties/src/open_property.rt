@@ -134,6 +134,7 @@ impl KeepsTexts for PropertyKeeper {
             PartEvent::Text(_)
             | PartEvent::CharData(_)
             | PartEvent::EntityRef(_)
+            | PartEvent::Flaw(_)
             | PartEvent::Other => push_leaf(&mut self.started, event, at)?,
         }
         Ok(())

@@ -19,7 +19,7 @@ use xlsx_error::XlsxError;
 /// `docProps/app.xml` the program's, of each the last text that isn't empty, and of
 /// `docProps/custom.xml` those that users named. Each part may be absent, and is read to its end.
 ///
-/// A part whose nesting breaks is `Xml(EndMismatch)` with the number of the end that breaks it, a
+/// A part whose nesting breaks is `Xml(Break)` with the number of the event that breaks it, a
 /// reference without a character in a text or in a user's name `Xml(Entity)` with the number of its
 /// event, counted from 0, and a lookup of such a name that is refused `XmlAttr`.
 pub fn read_properties<P: Package>(xml: &mut XlReader<P>) -> Result<WorkbookProperties, XlsxError>

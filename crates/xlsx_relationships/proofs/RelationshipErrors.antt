@@ -1,6 +1,6 @@
 -- Which refusals of the layers below are refusals of relationships.
 use Rattle.std.proofs.Common.{codes}
-use Rattle.part_events.specs.declared.fault.XmlFault.TheVariants.{EndMismatch, Entity}
+use Rattle.part_events.specs.declared.fault.XmlFault.TheVariants.{Break, Entity}
 use Rattle.xlsx_error.specs.declared.error.XlsxError.{XlsxError}
 use Rattle.xlsx_error.specs.declared.error.XlsxError.TheVariants.{OutOfMemory, Io, Xml, XmlEof}
 use Rattle.xlsx_sections.specs.PartSection.{IsStepError}
@@ -11,7 +11,7 @@ pub relationships_step : (error : XlsxError) → IsStepError (codes "Relationshi
     → IsRelationshipsError error
 relationships_step OutOfMemory is = tt
 relationships_step Io is = tt
-relationships_step (Xml (EndMismatch at)) is = tt
+relationships_step (Xml (Break at why)) is = tt
 relationships_step (XmlEof element) is = is
 relationships_step _ is = absurd is
 
@@ -24,7 +24,7 @@ pub related_step : (error : XlsxError) → IsStepError (codes "Relationships") e
     → IsRelatedError error
 related_step OutOfMemory is = tt
 related_step Io is = tt
-related_step (Xml (EndMismatch at)) is = tt
+related_step (Xml (Break at why)) is = tt
 related_step (XmlEof element) is = is
 related_step _ is = absurd is
 

@@ -1,6 +1,6 @@
 -- Which refusals reading relationships can have.
 use Rattle.std.specs.Prelude.{◌≡◌, ⊤, codes}
-use Rattle.part_events.specs.declared.fault.XmlFault.TheVariants.{EndMismatch, Entity}
+use Rattle.part_events.specs.declared.fault.XmlFault.TheVariants.{Break, Entity}
 use Rattle.xlsx_error.specs.declared.error.XlsxError.{XlsxError}
 use Rattle.xlsx_error.specs.declared.error.XlsxError.TheVariants.{OutOfMemory, Io, Xml}
 use Rattle.xlsx_error.specs.declared.error.XlsxError.TheVariants.{XmlAttr, XmlEof, FileNotFound}
@@ -10,7 +10,7 @@ use Rattle.xlsx_error.specs.declared.error.XlsxError.TheVariants.{RelationshipNo
 abbrev pub IsRelatedError : XlsxError → Type 0
 IsRelatedError OutOfMemory = ⊤
 IsRelatedError Io = ⊤
-IsRelatedError (Xml (EndMismatch at)) = ⊤
+IsRelatedError (Xml (Break at why)) = ⊤
 IsRelatedError (Xml (Entity at)) = ⊤
 IsRelatedError (XmlAttr fault) = ⊤
 IsRelatedError (XmlEof element) = element.now ≡ codes "Relationships"

@@ -98,9 +98,9 @@ impl Reads for Leads<'_> {
 /// part without a part of relationships leads nowhere.
 ///
 /// A part of relationships that has no section `Relationships`, or ends in it, is
-/// `XmlEof("Relationships")`, and an end that breaks the nesting before the section's end
-/// `Xml(EndMismatch)` with its number, counted from 0. Attributes that end in a fault and lack
-/// `Type` or `Target` are `XmlAttr`. A target of this type with a reference without a character is
+/// `XmlEof("Relationships")`, and an end that breaks the nesting, or a flaw, before the section's
+/// end `Xml(Break)` with its number, counted from 0. Attributes that end in a fault and lack `Type`
+/// or `Target` are `XmlAttr`. A target of this type with a reference without a character is
 /// `Xml(Entity)` with the number of its start, counted from 0.
 #[tactic(auto, using(crate::proofs::RelationshipErrors::related_step))]
 pub fn related_parts<P: Package>(

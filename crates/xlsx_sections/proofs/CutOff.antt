@@ -10,7 +10,7 @@ use Rattle.part_events.specs.Section.{outermost_from, unclosed, unclosed_from}
 use Rattle.part_events.specs.Walk.{inside, section_ahead, WalkFails}
 use Rattle.part_events.specs.declared.fault.StreamError.{StreamError}
 use Rattle.part_events.specs.declared.fault.StreamError.TheVariants as stream
-use Rattle.part_events.specs.declared.fault.XmlFault.TheVariants.{EndMismatch, Unclosed, Entity}
+use Rattle.part_events.specs.declared.fault.XmlFault.TheVariants.{Break, Unclosed, Entity}
 use Rattle.xlsx_error.specs.XlsxError.{of_stream}
 use Rattle.xlsx_error.specs.declared.error.XlsxError.{XlsxError}
 use Rattle.xlsx_error.specs.declared.error.XlsxError.TheVariants.{OutOfMemory, Io, Xml, XmlEof}
@@ -20,7 +20,7 @@ use Rattle.xlsx_sections.specs.PartSection.{Ending, Refusing, SectionFails, sect
 
 pub cut_weaker : (after before : Type 0) (error : XlsxError) → (after → before)
     → IfCutOff after error → IfCutOff before error
-cut_weaker after before (Xml (EndMismatch at)) weaker is = weaker is
+cut_weaker after before (Xml (Break at why)) weaker is = weaker is
 cut_weaker after before (Xml (Unclosed at)) weaker is = weaker is
 cut_weaker after before (XmlEof element) weaker is = weaker is
 cut_weaker after before error weaker is = tt
@@ -29,7 +29,7 @@ cut_weaker after before error weaker is = tt
 pub cut_open : (base : ℕ) (old new : Reading) (ending : Ending) (refused : Refusing)
     (error : XlsxError) → SectionFails ending refused base old new error
     → IfCutOff (old.source.is_told ≡ true → has_end (section_left base old) ≡ false) error
-cut_open base old new ending refused (Xml (EndMismatch at)) fails = λ told. (fails told).1
+cut_open base old new ending refused (Xml (Break at why)) fails = λ told. (fails told).1
 cut_open base old new ending refused (Xml (Unclosed at)) fails = λ told. (fails told).0.1
 cut_open base old new ending refused (XmlEof element) fails = λ told. (fails told).0.1
 cut_open base old new ending refused error fails = tt
@@ -41,7 +41,7 @@ pub fails_cut_off : (cause : XlsxError → Type 0) (lacks : Type 0) (old new : P
     → FailsBy (λ own. cause own × IfCutOff lacks own) old new error
 fails_cut_off cause lacks old new Io fails cut = fails
 fails_cut_off cause lacks old new OutOfMemory fails cut = tt
-fails_cut_off cause lacks old new (Xml (EndMismatch at)) fails cut = λ told. (fails told, cut told)
+fails_cut_off cause lacks old new (Xml (Break at why)) fails cut = λ told. (fails told, cut told)
 fails_cut_off cause lacks old new (Xml (Unclosed at)) fails cut = λ told. (fails told, cut told)
 fails_cut_off cause lacks old new (XmlEof element) fails cut = λ told. (fails told, cut told)
 fails_cut_off cause lacks old new error fails cut = λ told. (fails told, tt)
@@ -86,7 +86,7 @@ pub walk_cut : (wanted : Tag → Bool) (base : ℕ) (old new : Reading) (error :
     (of_stream error)
 walk_cut wanted base old new stream.Io fails = tt
 walk_cut wanted base old new stream.OutOfMemory fails = tt
-walk_cut wanted base old new (stream.Xml (EndMismatch at)) fails = λ told.
+walk_cut wanted base old new (stream.Xml (Break at why)) fails = λ told.
     none_left wanted (inside base old) (ahead old) (fails told).2
 walk_cut wanted base old new (stream.Xml (Unclosed at)) fails = absurd fails
 walk_cut wanted base old new (stream.Xml (Entity at)) fails = absurd fails

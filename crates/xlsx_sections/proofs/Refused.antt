@@ -5,7 +5,7 @@ use Rattle.std.proofs.Common.{◌∙◌, sym, subst, arith, ap}
 use Rattle.std.specs.Prelude.{IsSomeAnd}
 use Rattle.part_events.specs.Package.{PackageState, SameParts}
 use Rattle.part_events.specs.Reading.{Reading}
-use Rattle.part_events.specs.declared.fault.XmlFault.TheVariants.{EndMismatch, Unclosed, Entity}
+use Rattle.part_events.specs.declared.fault.XmlFault.TheVariants.{Break, Unclosed, Entity}
 use Rattle.xlsx_error.specs.declared.error.XlsxError.{XlsxError}
 use Rattle.xlsx_error.specs.declared.error.XlsxError.TheVariants.{OutOfMemory, Io, Xml, XmlEof}
 use Rattle.xlsx_sections.specs.Failing.{FailsBy}
@@ -104,7 +104,7 @@ cause_outside : {first second : Ending} {after before : Refusing} {more : ℕ}
     {inner outer : PartSection} (error : XlsxError)
     → LiesIn first second after before more inner outer
     → SectionCause first after inner error → SectionCause second before outer error
-cause_outside (Xml (EndMismatch at)) lies cause =
+cause_outside (Xml (Break at why)) lies cause =
     rw lies.events (cause.0, lies.open_too cause.1)
 cause_outside (Xml (Unclosed at)) lies cause =
     rw lies.events
@@ -176,7 +176,7 @@ refused_as base old ending after before new error weaker fails =
 -- an event of a section is refused
 told_cause : (ending : Ending) (refused : Refusing) (s : PartSection) (error : XlsxError)
     → RefusedAs (last_of s) (refused s) error → SectionCause ending refused s error
-told_cause ending refused s (Xml (EndMismatch at)) refuses = absurd refuses
+told_cause ending refused s (Xml (Break at why)) refuses = absurd refuses
 told_cause ending refused s (Xml (Unclosed at)) refuses = absurd refuses
 told_cause ending refused s (XmlEof element) refuses = absurd refuses
 told_cause ending refused s error refuses = refuses

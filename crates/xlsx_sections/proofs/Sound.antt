@@ -6,7 +6,7 @@ use Rattle.part_events.specs.Event.{Event}
 use Rattle.part_events.specs.Nesting.{whole}
 use Rattle.part_events.specs.Package.{Part, part_of}
 use Rattle.part_events.specs.Section.{content, is_closed, behind_start, is_named}
-use Rattle.part_events.specs.declared.fault.XmlFault.TheVariants.{EndMismatch, Unclosed}
+use Rattle.part_events.specs.declared.fault.XmlFault.TheVariants.{Break, Unclosed}
 use Rattle.xlsx_error.specs.declared.error.XlsxError.{XlsxError}
 use Rattle.xlsx_error.specs.declared.error.XlsxError.TheVariants.{Xml, XmlEof, FileNotFound}
 use Rattle.xlsx_sections.specs.PartSection.{PartSection, inside_of, has_end, last_of, section_from}
@@ -68,7 +68,7 @@ both_ends s closed is_open = cc
 pub no_section_cause : (ending : List Event → Option (List ℕ)) (refused : PartSection → Refusal
     → Type 0) (s : PartSection) (error : XlsxError) → has_end s ≡ true
     → ((refusal : Refusal) → refused s refusal → ⊥) → SectionCause ending refused s error → ⊥
-no_section_cause ending refused s (Xml (EndMismatch at)) closed never cause =
+no_section_cause ending refused s (Xml (Break at why)) closed never cause =
     both_ends s closed cause.1
 no_section_cause ending refused s (Xml (Unclosed at)) closed never cause =
     both_ends s closed cause.0.1

@@ -6,7 +6,7 @@ use Rattle.std.specs.Prelude.{IsSomeAnd}
 use Rattle.part_events.specs.Event.{Tag, Event}
 use Rattle.part_events.specs.Reading.{Reading}
 use Rattle.part_events.specs.Section.{PlacedTag, starts_by}
-use Rattle.part_events.specs.declared.fault.XmlFault.TheVariants.{EndMismatch, Unclosed, Entity}
+use Rattle.part_events.specs.declared.fault.XmlFault.TheVariants.{Break, Unclosed, Entity}
 use Rattle.xlsx_error.specs.declared.error.XlsxError.{XlsxError}
 use Rattle.xlsx_error.specs.declared.error.XlsxError.TheVariants.{OutOfMemory, Io, Xml, XmlEof}
 use Rattle.xlsx_sections.specs.Answers.{or_earlier, or_later, last_answer, some_answers}
@@ -112,7 +112,7 @@ each_refused P last error i all = each_told (λ j own. P j (plain own)) (plain_t
 each_cause : {I : Type 0} (ending : Ending) (refused : I → Refusing) (s : PartSection)
     (error : XlsxError) (i : I) → ((j : I) → SectionCause ending (refused j) s error)
     → SectionCause ending (λ own refusal. (j : I) → refused j own refusal) s error
-each_cause ending refused s (Xml (EndMismatch at)) i all = all i
+each_cause ending refused s (Xml (Break at why)) i all = all i
 each_cause ending refused s (Xml (Unclosed at)) i all = all i
 each_cause ending refused s (XmlEof element) i all = all i
 each_cause ending refused s error i all =

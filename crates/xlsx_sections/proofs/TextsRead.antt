@@ -8,7 +8,7 @@ use Rattle.part_events.specs.Reading.{Reading, BreaksAt, ahead}
 use Rattle.part_events.specs.Section.{content}
 use Rattle.part_events.specs.declared.fault.StreamError.{StreamError}
 use Rattle.part_events.specs.declared.fault.StreamError.TheVariants as stream
-use Rattle.part_events.specs.declared.fault.XmlFault.TheVariants.{EndMismatch, Unclosed, Entity}
+use Rattle.part_events.specs.declared.fault.XmlFault.TheVariants.{Break, Unclosed, Entity}
 use Rattle.xlsx_error.specs.XlsxError.{of_stream}
 use Rattle.xlsx_error.specs.declared.error.XlsxError.{XlsxError}
 use Rattle.xlsx_sections.specs.Elements.{ElementReadFails}
@@ -31,9 +31,9 @@ pub text_refused : (name : List ℕ) (data_too : Bool) (old new : Reading) (erro
     → ElementReadFails (always name) (element_text data_too) old new (of_stream error)
 text_refused name data_too old new stream.Io fails = fails
 text_refused name data_too old new stream.OutOfMemory fails = tt
-text_refused name data_too old new (stream.Xml (EndMismatch at)) fails = λ told.
+text_refused name data_too old new (stream.Xml (Break at why)) fails = λ told.
     let cause = fails told in (
-      subst (λ (events : List Event). BreaksAt events at) cause.0.0 cause.0.1,
+      subst (λ (events : List Event). BreaksAt events at why) cause.0.0 cause.0.1,
       own_end old ∙ cause.1,
     )
 text_refused name data_too old new (stream.Xml (Unclosed at)) fails = absurd fails

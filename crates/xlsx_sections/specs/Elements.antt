@@ -7,7 +7,7 @@ use Rattle.part_events.specs.Reading.{Reading, ahead}
 use Rattle.part_events.specs.Section.{Element, unclosed, is_named}
 use Rattle.part_events.specs.Walk.{IsNextElement, ClosesSection, section_ahead, is_closed_ahead}
 use Rattle.part_events.specs.Walk.{behind_section, section_end}
-use Rattle.part_events.specs.declared.fault.XmlFault.TheVariants.{EndMismatch, Unclosed, Entity}
+use Rattle.part_events.specs.declared.fault.XmlFault.TheVariants.{Break, Unclosed, Entity}
 use Rattle.xlsx_error.specs.declared.error.XlsxError.{XlsxError}
 use Rattle.xlsx_error.specs.declared.error.XlsxError.TheVariants.{OutOfMemory, Io, Xml, XmlEof}
 use Rattle.xlsx_sections.specs.PartSection.{PartSection, KeepsSection, SectionFails, inside_of}
@@ -69,7 +69,7 @@ pub record KeepsStarts (base : ℕ) (first now : Reading) : Type 0 where
 abbrev pub IsTextError : List ℕ → XlsxError → Type 0
 IsTextError name Io = ⊤
 IsTextError name OutOfMemory = ⊤
-IsTextError name (Xml (EndMismatch at)) = ⊤
+IsTextError name (Xml (Break at why)) = ⊤
 IsTextError name (Xml (Entity at)) = ⊤
 IsTextError name (XmlEof element) = element.now ≡ name
 IsTextError name _ = ⊥
@@ -78,7 +78,7 @@ IsTextError name _ = ⊥
 abbrev pub IsEndError : Option (List ℕ) → XlsxError → Type 0
 IsEndError name Io = ⊤
 IsEndError name OutOfMemory = ⊤
-IsEndError name (Xml (EndMismatch at)) = ⊤
+IsEndError name (Xml (Break at why)) = ⊤
 IsEndError None (Xml (Unclosed at)) = ⊤
 IsEndError (Some name) (XmlEof element) = element.now ≡ name
 IsEndError name _ = ⊥
@@ -91,7 +91,7 @@ pub record ReachesEnd (base : ℕ) (old new : Reading) : Type 0 where
 
 -- where an error tells of the part's end, or of an end that breaks the nesting
 abbrev pub IfCutOff : Type 0 → XlsxError → Type 0
-IfCutOff lacks (Xml (EndMismatch at)) = lacks
+IfCutOff lacks (Xml (Break at why)) = lacks
 IfCutOff lacks (Xml (Unclosed at)) = lacks
 IfCutOff lacks (XmlEof element) = lacks
 IfCutOff lacks _ = ⊤

@@ -12,7 +12,7 @@ use Rattle.part_events.specs.Reading.{BreaksAt, ahead, events_of}
 use Rattle.part_events.specs.Section.{content, is_closed, behind_start, is_named}
 use Rattle.part_events.specs.Walk.{is_closed_ahead, TakesInside, TakesLastEnd, IsNextStart}
 use Rattle.part_events.specs.Walk.{ClosesSection, inside}
-use Rattle.part_events.specs.declared.fault.XmlFault.TheVariants.{EndMismatch, Unclosed}
+use Rattle.part_events.specs.declared.fault.XmlFault.TheVariants.{Break, Unclosed}
 use Rattle.xlsx_error.specs.declared.error.XlsxError.{XlsxError}
 use Rattle.xlsx_error.specs.declared.error.XlsxError.TheVariants.{OutOfMemory, Io, Xml, XmlEof}
 use Rattle.xlsx_error.specs.declared.error.XlsxError.TheVariants.{FileNotFound}
@@ -90,7 +90,7 @@ Refusing = PartSection → Refusal → Type 0
 abbrev pub SectionCause :
     Ending → Refusing → PartSection → XlsxError
     → Type 0
-SectionCause ending refused s (Xml (EndMismatch at)) = BreaksAt s.events at × (has_end s ≡ false)
+SectionCause ending refused s (Xml (Break at why)) = BreaksAt s.events at why × (has_end s ≡ false)
 SectionCause ending refused s (Xml (Unclosed at)) =
     EndsOpenIn s × (ending (inside_of s) ≡ None) × (at ≡ length s.events)
 SectionCause ending refused s (XmlEof element) =
@@ -114,7 +114,7 @@ Never s refusal = ⊥
 
 -- why the start of a section isn't found
 abbrev pub StartCause : List ℕ → List Event → XlsxError → Type 0
-StartCause name events (Xml (EndMismatch at)) = BreaksAt events at
+StartCause name events (Xml (Break at why)) = BreaksAt events at why
 StartCause name events (XmlEof element) = (element.now ≡ name) × (whole events ≡ events)
 StartCause name events _ = ⊥
 
@@ -244,6 +244,6 @@ FindsStartIn wanted base (Some at) old new =
 abbrev pub IsStepError : List ℕ → XlsxError → Type 0
 IsStepError name Io = ⊤
 IsStepError name OutOfMemory = ⊤
-IsStepError name (Xml (EndMismatch at)) = ⊤
+IsStepError name (Xml (Break at why)) = ⊤
 IsStepError name (XmlEof element) = element.now ≡ name
 IsStepError name _ = ⊥

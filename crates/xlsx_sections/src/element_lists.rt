@@ -51,8 +51,8 @@ pub trait ReadsEach {
 /// Appends what the outermost elements of these local names say in a section, whose element is
 /// number `base` of the open ones, counted from 1. Reads to the section's end.
 ///
-/// A part that ends between them is `XmlEof(section)`, and an end that breaks the nesting is
-/// `Xml(EndMismatch)` with its number in the part, counted from 0.
+/// A part that ends between them is `XmlEof(section)`, and an end that breaks the nesting, or a
+/// flaw, is `Xml(Break)` with its number in the part, counted from 0.
 pub fn keep_elements_in<P: Package, R: ReadsEach>(
     xml: &mut XlReader<P>,
     base: usize,

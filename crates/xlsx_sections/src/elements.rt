@@ -24,8 +24,8 @@ use xlsx_error::XlsxError;
 ///
 /// An element that is found has to be read to its end before the next one is asked for.
 ///
-/// A part that ends in the section is `XmlEof(section)`, and an end that breaks the nesting is
-/// `Xml(EndMismatch)` with its number in the part, counted from 0. Neither comes while such an
+/// A part that ends in the section is `XmlEof(section)`, and an end that breaks the nesting, or a
+/// flaw, is `Xml(Break)` with its number in the part, counted from 0. Neither comes while such an
 /// element is left.
 pub fn next_element_in<P: Package>(
     xml: &mut XlReader<P>,
@@ -62,8 +62,8 @@ pub fn next_element_in<P: Package>(
 ///
 /// A child that is found has to be read to its end before the next one is asked for.
 ///
-/// A part that ends in the element is `XmlEof(section)`, and an end that breaks the nesting is
-/// `Xml(EndMismatch)` with its number in the part, counted from 0.
+/// A part that ends in the element is `XmlEof(section)`, and an end that breaks the nesting, or a
+/// flaw, is `Xml(Break)` with its number in the part, counted from 0.
 pub fn next_child_in<P: Package>(
     xml: &mut XlReader<P>,
     base: usize,
@@ -98,8 +98,8 @@ pub fn next_child_in<P: Package>(
 /// appended.
 ///
 /// A part that ends in the element is `XmlEof(name)`. A reference without a character is
-/// `Xml(Entity)`, and an end that breaks the nesting is `Xml(EndMismatch)`, each with its number in
-/// the part, counted from 0.
+/// `Xml(Entity)`, and an end that breaks the nesting, or a flaw, is `Xml(Break)`, each with its
+/// number in the part, counted from 0.
 pub fn read_element_text<P: Package>(
     xml: &mut XlReader<P>,
     out: &mut String,
@@ -128,8 +128,8 @@ pub fn read_element_text<P: Package>(
 
 /// Reads on to the end of the element that is number `base` of the open ones, counted from 1. Where
 /// the part ends before, the refusal is `XmlEof` with this name, and without one `Xml(Unclosed)`
-/// with the number of the part's events. An end that breaks the nesting is `Xml(EndMismatch)` with
-/// its number in the part, counted from 0.
+/// with the number of the part's events. An end that breaks the nesting, or a flaw, is `Xml(Break)`
+/// with its number in the part, counted from 0.
 pub fn read_to_end<P: Package>(
     xml: &mut XlReader<P>,
     base: usize,
@@ -157,8 +157,8 @@ pub fn read_to_end<P: Package>(
 
 /// Reads to the end of the element at whose start the reader stands. Where the part ends before,
 /// the refusal is `XmlEof` with this name, and without one `Xml(Unclosed)` with the number of the
-/// part's events. An end that breaks the nesting is `Xml(EndMismatch)` with its number in the part,
-/// counted from 0.
+/// part's events. An end that breaks the nesting, or a flaw, is `Xml(Break)` with its number in the
+/// part, counted from 0.
 pub fn skip_element_in<P: Package>(
     xml: &mut XlReader<P>,
     name: Option<&'static str>,

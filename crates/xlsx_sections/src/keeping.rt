@@ -49,8 +49,8 @@ pub trait Keeps {
 /// Keeps what the starts of these local names give in a section, whose element is number `base` of
 /// the open ones, counted from 1. Reads to the section's end.
 ///
-/// A part that ends in the section is `XmlEof(section)`, and an end that breaks the nesting is
-/// `Xml(EndMismatch)` with its number in the part, counted from 0.
+/// A part that ends in the section is `XmlEof(section)`, and an end that breaks the nesting, or a
+/// flaw, is `Xml(Break)` with its number in the part, counted from 0.
 pub fn keep_starts<P: Package, K: Keeps>(
     xml: &mut XlReader<P>,
     base: usize,

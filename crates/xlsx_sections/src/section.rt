@@ -32,8 +32,8 @@ pub fn start_tag<P: Package>(xml: &XlReader<P>) -> StartTag<'_>
 
 /// Reads on behind the first start of this local name in a part.
 ///
-/// A part that ends before is `XmlEof(name)`, and an end that breaks the nesting is
-/// `Xml(EndMismatch)` with its number in the part, counted from 0.
+/// A part that ends before is `XmlEof(name)`, and an end that breaks the nesting, or a flaw, is
+/// `Xml(Break)` with its number in the part, counted from 0.
 pub fn enter<P: Package>(xml: &mut XlReader<P>, name: &'static str) -> Result<(), XlsxError>
     requires reading { IsReading xml.old }
     ensures reads { ReadsPart Io result xml.old xml.new }
@@ -55,8 +55,8 @@ pub fn enter<P: Package>(xml: &mut XlReader<P>, name: &'static str) -> Result<()
 /// `base` of the open ones, counted from 1. Answers the number of the start in its part, counted
 /// from 0, and None at the section's end.
 ///
-/// A part that ends in the section is `XmlEof(section)`, and an end that breaks the nesting is
-/// `Xml(EndMismatch)` with its number in the part, counted from 0.
+/// A part that ends in the section is `XmlEof(section)`, and an end that breaks the nesting, or a
+/// flaw, is `Xml(Break)` with its number in the part, counted from 0.
 pub fn next_start_among<P: Package>(
     xml: &mut XlReader<P>,
     base: usize,
@@ -90,8 +90,8 @@ pub fn next_start_among<P: Package>(
 /// the open ones, counted from 1. Answers the number of the start in its part, counted from 0, and
 /// None at the section's end.
 ///
-/// A part that ends in the section is `XmlEof(section)`, and an end that breaks the nesting is
-/// `Xml(EndMismatch)` with its number in the part, counted from 0.
+/// A part that ends in the section is `XmlEof(section)`, and an end that breaks the nesting, or a
+/// flaw, is `Xml(Break)` with its number in the part, counted from 0.
 pub fn next_start_in<P: Package>(
     xml: &mut XlReader<P>,
     base: usize,
@@ -120,8 +120,8 @@ pub fn next_start_in<P: Package>(
 /// 1. Answers the number of the event in its part, counted from 0, and None where that was the
 /// section's end.
 ///
-/// A part that ends in the section is `XmlEof(section)`, and an end that breaks the nesting is
-/// `Xml(EndMismatch)` with its number in the part, counted from 0.
+/// A part that ends in the section is `XmlEof(section)`, and an end that breaks the nesting, or a
+/// flaw, is `Xml(Break)` with its number in the part, counted from 0.
 pub fn next_event_in<P: Package>(
     xml: &mut XlReader<P>,
     base: usize,
@@ -147,7 +147,7 @@ pub fn next_event_in<P: Package>(
 /// name. Answers false where there is no such part.
 ///
 /// A part that has no such section is `XmlEof(name)`, and one whose nesting breaks before is
-/// `Xml(EndMismatch)` with the number of the end that breaks it, counted from 0.
+/// `Xml(Break)` with the number of the event that breaks it, counted from 0.
 pub fn enter_part<P: Package>(
     xml: &mut XlReader<P>,
     path: &str,

@@ -10,7 +10,7 @@ use Rattle.attr_text.specs.declared.fault.AttrFault.{AttrFault}
 use Rattle.part_events.specs.Event.{Tag, Event}
 use Rattle.part_events.specs.Package.{Part, part_of}
 use Rattle.part_events.specs.Section.{Element, is_named}
-use Rattle.part_events.specs.declared.fault.XmlFault.TheVariants.{EndMismatch, Entity}
+use Rattle.part_events.specs.declared.fault.XmlFault.TheVariants.{Break, Entity}
 use Rattle.xlsx_error.specs.declared.error.XlsxError.{XlsxError}
 use Rattle.xlsx_error.specs.declared.error.XlsxError.TheVariants.{OutOfMemory, Io, Xml, XmlAttr}
 use Rattle.xlsx_error.specs.declared.error.XlsxError.TheVariants.{XmlEof}
@@ -123,7 +123,7 @@ HasStrings parts path strings =
 abbrev pub IsStringError : XlsxError → Type 0
 IsStringError Io = ⊤
 IsStringError OutOfMemory = ⊤
-IsStringError (Xml (EndMismatch at)) = ⊤
+IsStringError (Xml (Break at why)) = ⊤
 IsStringError (Xml (Entity at)) = ⊤
 IsStringError (XmlAttr fault) = ⊤
 IsStringError (XmlEof element) = (element.now ≡ codes "t") ⊎ (element.now ≡ [])
@@ -137,7 +137,7 @@ IsStringsEnd name = (name ≡ codes "sst") ⊎ ((name ≡ codes "t") ⊎ (name �
 abbrev pub AreStringsError : XlsxError → Type 0
 AreStringsError Io = ⊤
 AreStringsError OutOfMemory = ⊤
-AreStringsError (Xml (EndMismatch at)) = ⊤
+AreStringsError (Xml (Break at why)) = ⊤
 AreStringsError (Xml (Entity at)) = ⊤
 AreStringsError (XmlAttr fault) = ⊤
 AreStringsError (XmlEof element) = IsStringsEnd element.now

@@ -1,6 +1,6 @@
 -- The refusals that reading an element of styles can have, whatever the package tells.
 use Rattle.std.specs.Prelude.{◌≡◌, ◌⊎◌, ⊤, ℕ, List, codes}
-use Rattle.part_events.specs.declared.fault.XmlFault.TheVariants.{EndMismatch, Entity}
+use Rattle.part_events.specs.declared.fault.XmlFault.TheVariants.{Break, Entity}
 use Rattle.xlsx_error.specs.declared.error.XlsxError.{XlsxError}
 use Rattle.xlsx_error.specs.declared.error.XlsxError.TheVariants.{OutOfMemory, Io, Xml, XmlAttr}
 use Rattle.xlsx_error.specs.declared.error.XlsxError.TheVariants.{XmlEof}
@@ -9,7 +9,7 @@ use Rattle.xlsx_error.specs.declared.error.XlsxError.TheVariants.{XmlEof}
 abbrev pub IsPlainError : List ℕ → XlsxError → Type 0
 IsPlainError name Io = ⊤
 IsPlainError name OutOfMemory = ⊤
-IsPlainError name (Xml (EndMismatch at)) = ⊤
+IsPlainError name (Xml (Break at why)) = ⊤
 IsPlainError name (XmlAttr fault) = ⊤
 IsPlainError name (XmlEof element) = element.now ≡ name
 IsPlainError name _ = ⊥
@@ -18,7 +18,7 @@ IsPlainError name _ = ⊥
 abbrev pub IsFontError : XlsxError → Type 0
 IsFontError Io = ⊤
 IsFontError OutOfMemory = ⊤
-IsFontError (Xml (EndMismatch at)) = ⊤
+IsFontError (Xml (Break at why)) = ⊤
 IsFontError (Xml (Entity at)) = ⊤
 IsFontError (XmlAttr fault) = ⊤
 IsFontError (XmlEof element) = element.now ≡ codes "font"
@@ -28,7 +28,7 @@ IsFontError _ = ⊥
 abbrev pub IsBorderError : XlsxError → Type 0
 IsBorderError Io = ⊤
 IsBorderError OutOfMemory = ⊤
-IsBorderError (Xml (EndMismatch at)) = ⊤
+IsBorderError (Xml (Break at why)) = ⊤
 IsBorderError (XmlAttr fault) = ⊤
 IsBorderError (XmlEof element) =
     (element.now ≡ codes "border") ⊎ (element.now ≡ codes "border side")

@@ -1,6 +1,6 @@
 -- The refusals that reading the styles part can have, whatever the package tells.
 use Rattle.std.specs.Prelude.{◌≡◌, ◌⊎◌, ⊤, ℕ, List, codes}
-use Rattle.part_events.specs.declared.fault.XmlFault.TheVariants.{EndMismatch, Entity}
+use Rattle.part_events.specs.declared.fault.XmlFault.TheVariants.{Break, Entity}
 use Rattle.xlsx_error.specs.declared.error.XlsxError.{XlsxError}
 use Rattle.xlsx_error.specs.declared.error.XlsxError.TheVariants.{OutOfMemory, Io, Xml, XmlAttr}
 use Rattle.xlsx_error.specs.declared.error.XlsxError.TheVariants.{XmlEof}
@@ -17,7 +17,7 @@ IsStylesEnd name =
 abbrev pub AreStylesError : XlsxError → Type 0
 AreStylesError Io = ⊤
 AreStylesError OutOfMemory = ⊤
-AreStylesError (Xml (EndMismatch at)) = ⊤
+AreStylesError (Xml (Break at why)) = ⊤
 AreStylesError (Xml (Entity at)) = ⊤
 AreStylesError (XmlAttr fault) = ⊤
 AreStylesError (XmlEof element) = IsStylesEnd element.now

@@ -1,7 +1,7 @@
 -- Which refusals of the layers below are refusals of tables.
 use Rattle.std.proofs.Common.{◌≡◌, ℕ, List, Result, Err, ap}
 use Rattle.cell_refs.specs.declared.dimensions.Dimensions.{Dimensions}
-use Rattle.part_events.specs.declared.fault.XmlFault.TheVariants.{EndMismatch, Entity}
+use Rattle.part_events.specs.declared.fault.XmlFault.TheVariants.{Break, Entity}
 use Rattle.xlsx_error.specs.declared.error.XlsxError.{XlsxError}
 use Rattle.xlsx_error.specs.declared.error.XlsxError.TheVariants.{OutOfMemory, Io, Xml, XmlEof}
 use Rattle.xlsx_error.specs.declared.error.XlsxError.TheVariants.{XmlAttr}
@@ -21,12 +21,12 @@ name_error _ is = absurd is
 pub break_error : (error : XlsxError) → IsBreakError error → IsTableError error
 break_error OutOfMemory is = tt
 break_error Io is = tt
-break_error (Xml (EndMismatch at)) is = tt
+break_error (Xml (Break at why)) is = tt
 break_error _ is = absurd is
 
 pub start_error : (error : XlsxError) → IsTableStartError error → IsTableError error
 start_error Io is = absurd is
-start_error (Xml (EndMismatch at)) is = absurd is
+start_error (Xml (Break at why)) is = absurd is
 start_error (XmlEof element) is = absurd is
 start_error error is = is
 

@@ -1,7 +1,7 @@
 -- Which refusals tables have, and when.
 use Rattle.std.specs.Prelude.{◌≡◌, ⊤, codes, List}
 use Rattle.part_events.specs.Event.{Event}
-use Rattle.part_events.specs.declared.fault.XmlFault.TheVariants.{EndMismatch, Entity}
+use Rattle.part_events.specs.declared.fault.XmlFault.TheVariants.{Break, Entity}
 use Rattle.xlsx_error.specs.declared.error.XlsxError.{XlsxError}
 use Rattle.xlsx_error.specs.declared.error.XlsxError.TheVariants.{OutOfMemory, Io, Xml}
 use Rattle.xlsx_error.specs.declared.error.XlsxError.TheVariants.{XmlAttr, XmlEof, ParseInt}
@@ -35,6 +35,6 @@ IsTableStartError _ = ⊥
 -- and those of a whole table, whatever the package tells
 abbrev pub IsTableError : XlsxError → Type 0
 IsTableError Io = ⊤
-IsTableError (Xml (EndMismatch at)) = ⊤
+IsTableError (Xml (Break at why)) = ⊤
 IsTableError (XmlEof element) = element.now ≡ codes "Table"
 IsTableError error = IsTableStartError error

@@ -119,9 +119,9 @@ fn table_of<P: Package>(xml: &mut XlReader<P>) -> Result<TablePart, XlsxError>
 /// last ones as `totalsRowCount` says, else none. Rows and columns are counted from 0.
 ///
 /// A part that has no table, or ends in it, is `XmlEof("Table")`, and an end that breaks the
-/// nesting before the table's end is `Xml(EndMismatch)` with its number in the part, counted from
-/// 0. Attributes that end in a fault and lack one of the wanted keys are `XmlAttr`, and a name with
-/// a reference without a character is `Xml(Entity)` with the number of its start. A `ref` that
+/// nesting, or a flaw, before the table's end is `Xml(Break)` with its number in the part, counted
+/// from 0. Attributes that end in a fault and lack one of the wanted keys are `XmlAttr`, and a name
+/// with a reference without a character is `Xml(Entity)` with the number of its start. A `ref` that
 /// names no area has the refusal of its text, as an absent one has, and a count that isn't a number
 /// of 32 bits in decimal digits alone is `ParseInt` of its text.
 pub fn read_table_part<P: Package>(xml: &mut XlReader<P>) -> Result<TablePart, XlsxError>

@@ -4,7 +4,7 @@ use Rattle.std.proofs.Common.{ap}
 use Rattle.part_events.specs.Event.{Event}
 use Rattle.part_events.specs.Reading.{Reading}
 use Rattle.part_events.specs.Section.{PlacedTag}
-use Rattle.part_events.specs.declared.fault.XmlFault.TheVariants.{EndMismatch, Unclosed}
+use Rattle.part_events.specs.declared.fault.XmlFault.TheVariants.{Break, Unclosed}
 use Rattle.cell_styles.specs.declared.color.Color.{Color}
 use Rattle.xlsx_error.specs.declared.error.XlsxError.{XlsxError}
 use Rattle.xlsx_error.specs.declared.error.XlsxError.TheVariants.{OutOfMemory, Io, Xml, XmlAttr}
@@ -18,7 +18,7 @@ use Rattle.xlsx_theme.specs.ColorScheme.{model_answer, or_black}
 pub step_kind : (error : XlsxError) → IsEndError None error → IsSchemeError error
 step_kind OutOfMemory is = tt
 step_kind Io is = tt
-step_kind (Xml (EndMismatch at)) is = tt
+step_kind (Xml (Break at why)) is = tt
 step_kind (Xml (Unclosed at)) is = tt
 step_kind _ is = absurd is
 
@@ -38,7 +38,7 @@ pub told_by_number : (base : ℕ) (ending : List Event → Option (List ℕ))
     → SectionFails (named_end None) refused base old new error
 told_by_number base ending refused old new OutOfMemory is fails = tt
 told_by_number base ending refused old new Io is fails = fails
-told_by_number base ending refused old new (Xml (EndMismatch at)) is fails = fails
+told_by_number base ending refused old new (Xml (Break at why)) is fails = fails
 told_by_number base ending refused old new (Xml (Unclosed at)) is fails = λ told.
     ((fails told).0, refl, (fails told).2)
 told_by_number base ending refused old new (XmlAttr fault) is fails = fails

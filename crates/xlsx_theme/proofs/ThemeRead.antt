@@ -9,7 +9,7 @@ use Rattle.part_events.specs.Package.{Part, part_of}
 use Rattle.part_events.specs.Reading.{Reading, IsReading, ahead, events_of}
 use Rattle.part_events.specs.Section.{content, is_closed, behind_start, is_named}
 use Rattle.part_events.specs.Walk.{inside, section_ahead, is_closed_ahead}
-use Rattle.part_events.specs.declared.fault.XmlFault.TheVariants.{EndMismatch, Unclosed}
+use Rattle.part_events.specs.declared.fault.XmlFault.TheVariants.{Break, Unclosed}
 use Rattle.xlsx_error.specs.declared.error.XlsxError.{XlsxError}
 use Rattle.xlsx_error.specs.declared.error.XlsxError.TheVariants.{Xml, XmlEof}
 use Rattle.cell_styles.specs.declared.color.Color.{Color}
@@ -72,7 +72,7 @@ faulty_section : (events : List Event) (found : Option (List Event)) (error : Xl
     (λ s. SectionCause (named_end None) (IsInsideRefused scheme_colors) s error)
     → option_and_then colors_inside (option_and_then if_closed found) ≡ None
 faulty_section events None error cause = refl
-faulty_section events (Some left) (Xml (EndMismatch at)) cause =
+faulty_section events (Some left) (Xml (Break at why)) cause =
     no_colors (is_closed 0 left) (content 0 left) cause.1
 faulty_section events (Some left) (Xml (Unclosed at)) cause =
     no_colors (is_closed 0 left) (content 0 left) cause.0.1

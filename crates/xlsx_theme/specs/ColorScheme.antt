@@ -6,7 +6,7 @@ use Rattle.attr_text.specs.Attributes.{lookup}
 use Rattle.attr_text.specs.declared.fault.AttrFault.{AttrFault}
 use Rattle.part_events.specs.Event.{Tag, Event}
 use Rattle.part_events.specs.Section.{PlacedTag, starts_by, is_named}
-use Rattle.part_events.specs.declared.fault.XmlFault.TheVariants.{EndMismatch, Unclosed}
+use Rattle.part_events.specs.declared.fault.XmlFault.TheVariants.{Break, Unclosed}
 use Rattle.xlsx_error.specs.declared.error.XlsxError.{XlsxError}
 use Rattle.xlsx_error.specs.declared.error.XlsxError.TheVariants.{OutOfMemory, Io, Xml, XmlAttr}
 use Rattle.cell_styles.specs.declared.color.Color.{Color}
@@ -102,7 +102,7 @@ scheme_colors inside = all_numbered (slot_colors inside)
 abbrev pub IsSchemeError : XlsxError → Type 0
 IsSchemeError Io = ⊤
 IsSchemeError OutOfMemory = ⊤
-IsSchemeError (Xml (EndMismatch at)) = ⊤
+IsSchemeError (Xml (Break at why)) = ⊤
 IsSchemeError (Xml (Unclosed at)) = ⊤
 IsSchemeError (XmlAttr fault) = ⊤
 IsSchemeError _ = ⊥

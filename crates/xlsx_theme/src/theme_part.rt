@@ -53,8 +53,8 @@ fn theme_of(alloc: Global, slots: Vec<Color>) -> Result<ThemeColors, AllocError>
 /// one of fewer than four slots. Reads to the end of the scheme, and of a part that has none.
 ///
 /// A part that ends in its scheme is `Xml(Unclosed)` with the number of the part's events. An end
-/// that breaks the nesting before the scheme's end is `Xml(EndMismatch)` with its number, counted
-/// from 0. A lookup in a slot that is refused is `XmlAttr`.
+/// that breaks the nesting, or a flaw, before the scheme's end is `Xml(Break)` with its number,
+/// counted from 0. A lookup in a slot that is refused is `XmlAttr`.
 pub fn read_theme_colors<P: Package>(xml: &mut XlReader<P>) -> Result<ThemeColors, XlsxError>
     requires reading { IsReading xml.old }
     requires first { xml.old.at ≡ 0 }

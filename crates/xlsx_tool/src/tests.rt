@@ -4,7 +4,7 @@ use crate::input::INPUT_LIMIT;
 use crate::program::{answer, ending};
 use crate::sink::MemorySink;
 use crate::source::MemorySource;
-use part_events::XmlFault;
+use part_events::{BreakCause, XmlFault};
 use std::alloc::Global;
 use std::process::ExitCode;
 use std::test::Fail;
@@ -412,7 +412,10 @@ fn ending_of(
 fn an_answer_has_an_ending(rt: HostRuntime) -> Result<(), Fail> {
     let alloc = rt.alloc();
     let absent = XlsxError::WorksheetNotFound(String::from_str(alloc, "X")?);
-    let no_end = XlsxError::Xml(XmlFault::EndMismatch { at: 7 });
+    let no_end = XlsxError::Xml(XmlFault::Break {
+        at: 7,
+        why: BreakCause::EndMismatch,
+    });
     for (answer, room, status, written) in [
         (Ok(()), 100, ExitCode::SUCCESS, ""),
         (Err(ToolError::Usage), 100, ExitCode::from(2), "usage\n"),

@@ -6,7 +6,7 @@ use Rattle.part_events.specs.Nesting.{starts_in, ends_in}
 use Rattle.part_events.specs.Reading.{Reading, IsReadingElement, ahead}
 use Rattle.part_events.specs.Section.{content}
 use Rattle.part_events.specs.Walk.{section_ahead, TakesInside}
-use Rattle.part_events.specs.declared.fault.XmlFault.TheVariants.{EndMismatch, Unclosed, Entity}
+use Rattle.part_events.specs.declared.fault.XmlFault.TheVariants.{Break, Unclosed, Entity}
 use Rattle.xlsx_error.specs.declared.error.XlsxError.{XlsxError}
 use Rattle.xlsx_error.specs.declared.error.XlsxError.TheVariants.{OutOfMemory, Io, Xml, XmlEof}
 use Rattle.xlsx_error.specs.declared.error.XlsxError.TheVariants.{Unexpected, Unrecognized}
@@ -37,7 +37,7 @@ text_value _ is = absurd is
 pub joined_text : (error : XlsxError) → IsTextError (codes "v") error → IsValueError error
 joined_text OutOfMemory is = tt
 joined_text Io is = tt
-joined_text (Xml (EndMismatch at)) is = tt
+joined_text (Xml (Break at why)) is = tt
 joined_text (Xml (Entity at)) is = tt
 joined_text (XmlEof element) is = is
 joined_text _ is = absurd is
@@ -45,7 +45,7 @@ joined_text _ is = absurd is
 pub skipped : (error : XlsxError) → IsEndError None error → IsValueError error
 skipped OutOfMemory is = tt
 skipped Io is = tt
-skipped (Xml (EndMismatch at)) is = tt
+skipped (Xml (Break at why)) is = tt
 skipped (Xml (Unclosed at)) is = tt
 skipped _ is = absurd is
 

@@ -1,6 +1,6 @@
 -- What the types of this crate are to definitions, and the refusals that a value can have.
 use Rattle.std.specs.Prelude.{◌≡◌, ⊤, map, codes, string_bytes}
-use Rattle.part_events.specs.declared.fault.XmlFault.TheVariants.{EndMismatch, Unclosed, Entity}
+use Rattle.part_events.specs.declared.fault.XmlFault.TheVariants.{Break, Unclosed, Entity}
 use Rattle.xlsx_error.specs.declared.error.XlsxError.{XlsxError}
 use Rattle.xlsx_error.specs.declared.error.XlsxError.TheVariants.{OutOfMemory, Io, Xml, XmlEof}
 use Rattle.xlsx_error.specs.declared.error.XlsxError.TheVariants.{Unexpected, Unrecognized}
@@ -48,7 +48,7 @@ IsTextValueError _ = ⊥
 abbrev pub IsValueError : XlsxError → Type 0
 IsValueError OutOfMemory = ⊤
 IsValueError Io = ⊤
-IsValueError (Xml (EndMismatch at)) = ⊤
+IsValueError (Xml (Break at why)) = ⊤
 IsValueError (Xml (Unclosed at)) = ⊤
 IsValueError (Xml (Entity at)) = ⊤
 IsValueError (XmlEof element) = element.now ≡ codes "v"

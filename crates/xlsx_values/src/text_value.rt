@@ -181,6 +181,7 @@ pub(crate) fn value_of_event(
         | PartEvent::End(_)
         | PartEvent::CharData(_)
         | PartEvent::EntityRef(_)
+        | PartEvent::Flaw(_)
         | PartEvent::Other => Ok(DataRef::Empty),
     }
 }

@@ -2,7 +2,7 @@
 use Rattle.std.proofs.Common.{◌≡◌, ℕ, List, Bool, true, Option, Result, Err, codes, ap, arith}
 use Rattle.part_events.specs.Event.{Event}
 use Rattle.part_events.specs.JoinedText.{is_unknown}
-use Rattle.part_events.specs.declared.fault.XmlFault.TheVariants.{EndMismatch, Entity}
+use Rattle.part_events.specs.declared.fault.XmlFault.TheVariants.{Break, Entity}
 use Rattle.xlsx_error.specs.declared.error.XlsxError.{XlsxError}
 use Rattle.xlsx_error.specs.declared.error.XlsxError.TheVariants.{OutOfMemory, Io, Xml, XmlAttr}
 use Rattle.xlsx_error.specs.declared.error.XlsxError.TheVariants.{XmlEof}
@@ -20,7 +20,7 @@ pub workbook_step : (error : XlsxError) → IsStepError (codes "workbook") error
     → IsWorkbookError error
 workbook_step OutOfMemory is = tt
 workbook_step Io is = tt
-workbook_step (Xml (EndMismatch at)) is = tt
+workbook_step (Xml (Break at why)) is = tt
 workbook_step (XmlEof element) is = is
 workbook_step _ is = absurd is
 

@@ -1,6 +1,6 @@
 -- Which refusals reading the workbook's own part can have.
 use Rattle.std.specs.Prelude.{◌≡◌, ◌⊎◌, ⊤, codes}
-use Rattle.part_events.specs.declared.fault.XmlFault.TheVariants.{EndMismatch, Entity}
+use Rattle.part_events.specs.declared.fault.XmlFault.TheVariants.{Break, Entity}
 use Rattle.xlsx_error.specs.declared.error.XlsxError.{XlsxError}
 use Rattle.xlsx_error.specs.declared.error.XlsxError.TheVariants.{OutOfMemory, Io, Xml}
 use Rattle.xlsx_error.specs.declared.error.XlsxError.TheVariants.{XmlAttr, XmlEof}
@@ -11,7 +11,7 @@ use Rattle.xlsx_error.specs.declared.error.XlsxError.TheVariants.{Unrecognized}
 abbrev pub IsWorkbookError : XlsxError → Type 0
 IsWorkbookError OutOfMemory = ⊤
 IsWorkbookError Io = ⊤
-IsWorkbookError (Xml (EndMismatch at)) = ⊤
+IsWorkbookError (Xml (Break at why)) = ⊤
 IsWorkbookError (Xml (Entity at)) = ⊤
 IsWorkbookError (XmlAttr fault) = ⊤
 IsWorkbookError (XmlEof element) = element.now ≡ codes "workbook"

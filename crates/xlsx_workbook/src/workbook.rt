@@ -117,6 +117,7 @@ fn take_event(
         | PartEvent::Text(_)
         | PartEvent::CharData(_)
         | PartEvent::EntityRef(_)
+        | PartEvent::Flaw(_)
         | PartEvent::Other => Ok(()),
     }
 }

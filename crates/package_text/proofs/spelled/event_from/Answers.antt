@@ -10,4 +10,4 @@ returns-in-len4-up c =
     let same = c.as_slice.ensures.value in
     let long : 4 ≤ length (map view values) =
     rw length-map (rw same at c.in-len4-up.len_at_least) in
-    rw (← c.in_ok-as_array.ensures) (sym (long_is_no_event c.args.has_empty (map view values) long))
+    rw (← c.in_ok-as_array.ensures) (sym (long_is_no_event c.args.is_second (map view values) long))

@@ -12,10 +12,10 @@ loop-value-preserved c =
     let invariant = c.loop-value.invariant in
     let done = invariant.0 in
     let own = events_of c.in-Some.event in
-    let rest = events_in c.args.has_empty
+    let rest = events_in c.args.is_second
     (items_view (drop (c.loop-value.value-index + 1) c.args.events.now)) in
     let old = c.args.«package».now in
-    let first = events_more c.args.has_empty c.args.events.now c.loop-value.value-index
+    let first = events_more c.args.is_second c.args.events.now c.loop-value.value-index
     c.value-item.result own c.loop-value-test.true c.value-item.is c.in-Some.ensures in (
       done ++ own,
       c.in_ok-push_spelled.ensures

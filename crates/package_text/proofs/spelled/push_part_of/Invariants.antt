@@ -11,5 +11,5 @@ invariant-loop-value l =
     (done : List Event)
     × (let old = l.fn.«package» in
     l.«package» ≡ closed (old.parts ++ record { name = l.name; events = done } ∷ []) old.taken)
-    × (let left = events_in l.has_empty (items_view (drop l.value-index l.events)) in
-    option_map (λ rest. done ++ rest) left ≡ events_in l.has_empty (items_view l.events))
+    × (let left = events_in l.is_second (items_view (drop l.value-index l.events)) in
+    option_map (λ rest. done ++ rest) left ≡ events_in l.is_second (items_view l.events))
