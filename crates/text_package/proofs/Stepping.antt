@@ -69,9 +69,9 @@ next_is : (events : List Event) (n : ℕ) (event : Event) (rest : List Event)
 next_is events n first rest is = elim (cases_lt n (length events)) [
   | inr past ↦ let none : drop n events ≡ [] = drop_all n events past in absurd cc
   | inl inside ↦
-    let own : drop n events ≡ get_or events n (leaf other) ∷ drop (n + 1) events =
-    drop_more events n (leaf other) inside in
-    record { within = inside; is = cc; behind = cc }
+      let own : drop n events ≡ get_or events n (leaf other) ∷ drop (n + 1) events =
+      drop_more events n (leaf other) inside in
+      record { within = inside; is = cc; behind = cc }
 ]
 
 pub stepped : (text : Option (List ℕ)) (size : ℕ) (old new : Reading) → IsReading text size old

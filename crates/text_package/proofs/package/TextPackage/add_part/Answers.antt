@@ -10,8 +10,12 @@ invariant_of-self-2 c =
       tt,
       finds_more c.push-2.new.self parts c.push.new.self.items c.args.name.now c.args.bytes.items
           (c.in_default.ensures.ok (map part_told parts) c.self.invariant.1
-          (omega (arith, c.len-place.ensures, c.self.inside.parts.ok.0,
-          length-map parts part_told)))
+          (omega (
+            arith,
+            c.len-place.ensures,
+            c.self.inside.parts.ok.0,
+            length-map parts part_told,
+          )))
           (c.in_ok-push.ensures.items
           ∙ ap (λ (part : TextOfPart). parts ++ part ∷ []) c.in_ok-part.ensures),
     )

@@ -19,15 +19,15 @@ returns-clause-value c =
     let key = folded c.args.name.now in
     rw (← c.self.view_is) (elim c.match-place.branch [
       | in-Some w ↦
-        let is = w.in-Some.ensures.found (map part_told parts) c.self.invariant.1 in
-        let within = found_within parts key w.in-Some.part is in
-        w.result-is ∙ w.flaw.ensures
-        ∙ ap part_flaw
-        (bytes_read parts w.in-Some.part w.index.result.now within w.index.ensures)
-        ∙ ap (λ (found : Option ℕ). option_and_then
-        (λ place. part_flaw (bytes_at parts place)) found) is
+          let is = w.in-Some.ensures.found (map part_told parts) c.self.invariant.1 in
+          let within = found_within parts key w.in-Some.part is in
+          w.result-is ∙ w.flaw.ensures
+          ∙ ap part_flaw
+          (bytes_read parts w.in-Some.part w.index.result.now within w.index.ensures)
+          ∙ ap (λ (found : Option ℕ). option_and_then
+          (λ place. part_flaw (bytes_at parts place)) found) is
       | in-None w ↦ w.result-is
-        ∙ ap (λ (found : Option ℕ). option_and_then
-        (λ place. part_flaw (bytes_at parts place)) found)
-        (w.in-None.ensures.found (map part_told parts) c.self.invariant.1)
+          ∙ ap (λ (found : Option ℕ). option_and_then
+          (λ place. part_flaw (bytes_at parts place)) found)
+          (w.in-None.ensures.found (map part_told parts) c.self.invariant.1)
     ])

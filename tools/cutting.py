@@ -1,0 +1,65 @@
+"""What tools/markup.py and the program cut_events cut the bytes of a part into, as the lines that
+the latter prints."""
+
+import json
+import pathlib
+import re
+import subprocess
+
+import markup
+
+TOP = pathlib.Path(__file__).resolve().parent.parent
+OUT = TOP / "crates" / "cut_events" / "out"
+# The gate builds the program twice, by two compilers.
+BUILDS = ["cut_events", "cut_events.by-rattle"]
+
+ESCAPES = str.maketrans({"\\": "\\\\", "\t": "\\t", "\n": "\\n", "\r": "\\r"})
+MALFORMED, NO_TEXT = "x\tmalformed markup", "x\tnot a text in UTF-8"
+PLACE = re.compile(r"at character (\d+)$")
+
+# How parts begin that tools/markup.py reads, and the program doesn't.
+UTF_16 = (b"\xff\xfe", b"\xfe\xff", b"<\0", b"\0<")
+
+
+def line(letter, *texts):
+    return "\t".join([letter, *(text.translate(ESCAPES) for text in texts)])
+
+
+def told(found):
+    """The lines of events, each a list of texts."""
+    for letter, *texts in found:
+        if letter == "b":
+            yield line("s", *texts)
+            yield line("e", texts[0])
+        else:
+            yield line(letter, *texts)
+
+
+def cut_whole(data):
+    """The lines of the events that tools/markup.py cuts of what it doesn't refuse."""
+    lists = [event for some in markup.events([data]) for event in some]
+    return list(told(json.loads(f"[{','.join(lists)}]")))
+
+
+def wanted(data):
+    """The same, with a flaw at the end in place of a refusal."""
+    try:
+        return cut_whole(data)
+    except markup.MarkupFault as fault:
+        place = PLACE.search(str(fault))
+    if place is None:
+        return [NO_TEXT]
+    try:
+        # The place is one of characters, behind a byte order mark.
+        text = data.decode("utf-8-sig")
+    except UnicodeDecodeError:
+        return [NO_TEXT]
+    if "\0" in text:
+        return [NO_TEXT]
+    return cut_whole(text[: int(place[1])].encode()) + [MALFORMED]
+
+
+def found(build, data):
+    """The lines that a build of the program prints."""
+    ran = subprocess.run([OUT / build], input=data, capture_output=True, check=True)
+    return ran.stdout.decode().split("\n")[:-1]
