@@ -350,6 +350,42 @@ class Wrapper(FrontCopy):
         }
         self.assertEqual(written, wanted)
 
+    def test_a_folder_of_workbooks_side_by_side_and_in_an_array_of_jobs(self):
+        """As docs/USING.md shows it, word for word."""
+        self.list_with()
+        using = (TOP / "docs" / "USING.md").read_text(encoding="utf-8")
+        blocks = using.split("```rust")[0].split("```\n")[1::2]
+        folder, job = (block for block in blocks if "xargs" in block or "SLURM" in block)
+        top = self.folder / "top"
+        (top / "books" / "more").mkdir(parents=True)
+        for name in ("a b.xlsx", "more/it's.xlsx"):
+            shutil.copy(self.book, top / "books" / name)
+        (top / "books" / "no.xlsx").write_text("nut")
+        names = ["books/a b.xlsx", "books/more/it's.xlsx", "books/no.xlsx"]
+        (top / "list").write_text("".join(f"{name}\n" for name in names))
+        given = {"cwd": top, "env": self.environment(), "stdout": subprocess.PIPE}
+        wanted = [f"{status} {name}" for status, name in zip((0, 0, 14), names)]
+        subprocess.run(["sh", "-c", folder], **given)
+        told = (top / "statuses").read_text().splitlines()
+        self.assertEqual(sorted(told, key=lambda line: line.split(" ", 1)[1]), wanted)
+        self.check_written(names)
+        for number, line in enumerate(wanted, 1):
+            given["env"]["SLURM_ARRAY_TASK_ID"] = str(number)
+            ran = subprocess.run(["sh", "-c", job], **given)
+            self.assertEqual((ran.stdout, f"{ran.returncode} {names[number - 1]}"), (b"", line))
+            self.assertEqual((top / f"{names[number - 1]}.status").read_text(), f"{line}\n")
+        self.check_written(names)
+
+    def check_written(self, names):
+        """What stands beside two workbooks and one that is none, and none of it any more."""
+        for name in names:
+            made = [self.folder / "top" / f"{name}{end}" for end in (".csv", ".said")]
+            none = "" if name != names[-1] else f"{name}: no zip archive, and so no .xlsx workbook\n"
+            first = "" if none else "csv of First\n"
+            self.assertEqual([path.read_text() for path in made], [first, none])
+            for path in made:
+                path.unlink()
+
     def test_no_worksheet_is_written_where_one_is_refused(self):
         self.list_with()
         self.written("failing", "")
@@ -611,6 +647,15 @@ class Wrapper(FrontCopy):
             self.assertEqual(
                 self.run_on("book.xlsx", "cells", "S", stdout=full), (7, None, "write fault\n")
             )
+
+    def test_the_first_command_of_the_readme_prints_what_stands_there(self):
+        self.build(PROGRAM)
+        readme = (TOP / "README.md").read_text(encoding="utf-8")
+        found = re.search(r"^\$ \./xlsx --unproved (.*) \| head -n 4\n([^`]*)```\n", readme, re.M)
+        (sample, *words), shown = found[1].split(), found[2]
+        status, lines, said = self.run_on(TOP / sample, *words)
+        self.assertEqual((status, said), (0, ""))
+        self.assertEqual("".join(lines.decode().splitlines(keepends=True)[:4]), shown)
 
     def test_all_worksheets_of_all_samples(self):
         self.build(PROGRAM)
