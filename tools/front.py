@@ -14,8 +14,9 @@ import sys
 import tempfile
 
 import words as of_words
+from place import PROGRAM, is_ready
 from program import LIMIT, PROVING, UNPROVED, UNPROVED_SAYS, WRITE_FAULT, Ended, Program
-from program import build, end_by_signals, is_fresh, say
+from program import build, end_by_signals, say
 from words import Reads, one_line
 
 # The most address space that the proved program gets, in MiB; 0 sets no bound.
@@ -405,19 +406,19 @@ def answered(words):
     words, saved = of_words.saved_apart(words)
     if words == ["--help"]:
         help_page(os.environ.get("XLSX_MEMORY", MEMORY))
-        if not is_fresh():
+        if not is_ready():
             return 0
     with contextlib.ExitStack() as stack:
         source = source_of(path, words, stack)
         if words == [of_words.PACKAGE]:
             return write_package(source)
-        if is_fresh():
+        if is_ready():
             is_proved = True
         elif is_proved:
             build()
         else:
             say(UNPROVED_SAYS)
-        front = Front(Program(is_proved, memory), source)
+        front = Front(Program(PROGRAM if is_proved else None, memory), source)
         if saved is not None:
             return front.save(words, saved)
         if of_words.is_all(words):

@@ -1,5 +1,6 @@
 """Tries ./xlsx with a program and an rt that stand in for the real ones, and with those."""
 
+import fcntl
 import os
 import re
 import resource
@@ -8,6 +9,7 @@ import signal
 import subprocess
 import sys
 import unittest
+import unittest.mock
 
 from fixtures import LINES, MINIMAL, archive, package_text, relationships
 from front_copy import TOP, FrontCopy
@@ -81,7 +83,7 @@ class Wrapper(FrontCopy):
     # The build
 
     def log(self):
-        return self.crate / "out" / "proving.log"
+        return self.place / "proving.log"
 
     def proving(self, *proved):
         """What is said before and during a build in which these crates are proved."""
@@ -113,10 +115,10 @@ class Wrapper(FrontCopy):
         prove.write_text(prove.read_text().replace("os.cpu_count() or 1", "2"))
         status, lines, said = self.run_on("cells", "0", data=b"12")
         self.assertEqual((status, lines), (0, b"cells 0: 2\n"), said)
-        # What is built lies beside its crate, and the copies are gone.
+        # What is built lies beside the program's copy, and nothing in the crates.
         built = [f"../{name}/out/rlib" for name in ("left", "low", "right")]
         self.assertEqual(self.log().read_text().splitlines()[-3:], built)
-        self.assertFalse((self.crate / "out" / "lanes").is_dir())
+        self.assertEqual(list(crates.glob("*/out")), [])
 
     def test_a_second_proof_waits_for_the_first(self):
         self.written("waiting", "")
@@ -129,12 +131,43 @@ class Wrapper(FrontCopy):
         waits = b"xlsx: another proof is at work here, and this one waits for it\n"
         self.assertEqual(sum(waits in error for _, error in said), 1, said)
 
-    def test_what_an_ended_proof_left_is_no_hindrance(self):
-        left = self.crate / "out" / "lanes" / "low" / "crates" / "low" / "out"
-        left.mkdir(parents=True)
-        (left / "kept").write_text("")
+    def test_what_an_ended_proof_left_is_begun_with(self):
+        crate = self.place / "lanes" / "low" / "crates" / "low"
+        for name in ("out/kept", "src/gone"):
+            (crate / name).parent.mkdir(parents=True)
+            (crate / name).write_text("")
+        (crate.parent / "gone").mkdir()
+        (self.place / "lanes" / "low" / "gone").mkdir()
         self.assertEqual(self.run_on("cells", "0"), (0, b"cells 0: 0\n", self.built()))
-        self.assertTrue((self.crate.parent / "low" / "out" / "kept").is_file())
+        found = [str(path.relative_to(crate.parent.parent)) for path in crate.rglob("*")]
+        self.assertEqual(sorted(found), [f"crates/low/out{end}" for end in ("", "/kept", "/rlib")])
+
+    def test_what_is_built_has_a_place_without_git_and_in_a_worktree(self):
+        git = self.place.parent
+        git.rmdir()
+        cache = self.folder / "cache"
+        with unittest.mock.patch.dict(os.environ, {"XDG_CACHE_HOME": str(cache)}):
+            self.assertEqual(self.run_on("cells", "0")[:2], (0, b"cells 0: 0\n"))
+            self.assertEqual(len(list(cache.glob("xlsx-*/xlsx_tool"))), 1)
+            git.write_text("gitdir: ../of/worktree\n")
+            (self.folder / "of" / "worktree").mkdir(parents=True)
+            self.assertEqual(self.run_on("cells", "0")[:2], (0, b"cells 0: 0\n"))
+        self.assertTrue((self.folder / "of" / "worktree" / "xlsx" / "xlsx_tool").is_file())
+
+    def test_the_program_of_the_gate_is_taken_if_it_is_whole_and_nobody_works_on_it(self):
+        left = self.crate / "out" / "xlsx_tool"
+        left.parent.mkdir()
+        shutil.copy(self.folder / "program", left)
+        held = os.open(self.crate, os.O_RDONLY)
+        fcntl.flock(held, fcntl.LOCK_EX)
+        self.assertFalse(self.run_on("--help")[1].endswith(b"\npage\n"))
+        os.close(held)
+        self.written("failing", "")
+        self.assertEqual(self.run_on("cells", "0"), (0, b"cells 0: 0\n", ""))
+        self.assertEqual(self.program.read_bytes(), left.read_bytes())
+        self.program.unlink()
+        left.write_bytes(b"#!/bin/sh\nexit 1\n")
+        self.assertEqual(self.run_on("cells", "0")[0], 1)
 
     def test_a_long_proof_tells_how_far_it_is(self):
         self.written("waiting", "")
