@@ -13,7 +13,7 @@ import unittest.mock
 
 from fixtures import LINES, MINIMAL, archive, package_text, relationships
 from front_copy import TOP, FrontCopy
-from words import COMMANDS, USAGE
+from words import COMMANDS, USAGE, is_of_sheet
 
 PROGRAM = TOP / "crates" / "xlsx_tool" / "out" / "xlsx_tool"
 
@@ -50,6 +50,18 @@ pivot:*) echo "Pivot Table '$3' was not found on worksheet" >&2; exit 6 ;;
 *) [ ! -e "$FAILING" ] || [ "$2" = First ] || { echo "box too large" >&2; exit 10; }
     printf '%s of %s\\n' "$1" "$2" ;;
 esac
+"""
+# Tells its words, and of one sheet.
+WORDED = """\
+#!/bin/sh
+cat >/dev/null
+[ "$1" != sheets ] || { printf 'First\\tworksheet\\tvisible\\n'; exit; }
+[ "$1" != tables ] || exit 0
+[ "$1" != part ] || { echo xl/worksheets/sheet1.xml; exit; }
+said=$1
+shift
+for word; do said="$said | $word"; done
+printf '%s\\n' "$said"
 """
 # Tells which parts the package has.
 FED = """\
@@ -282,7 +294,7 @@ class Wrapper(FrontCopy):
 
     def test_words_that_are_no_command(self):
         """What is wrong is told, before anything is built or read."""
-        sheet = "the name of a sheet, or --sheet and its number"
+        sheet = "the name of a sheet, or --sheet and its number, or neither for the first worksheet"
         quotes = "put a name that has blanks in quotes"
         rows = "sample takes a number of rows, from 1 to 20,000"
         number = "--sheet takes the number of a sheet, from 1, and not"
@@ -293,8 +305,6 @@ class Wrapper(FrontCopy):
             (["cell", "S"], f"there is no command 'cell', {no_file}: the nearest is cells"),
             (["none"], f"there is no command 'none', {no_file}"),
             (["CSV", "S"], f"there is no command 'CSV', {no_file}: the nearest is csv"),
-            (["cells"], f"cells takes {sheet}"),
-            (["csv"], f"csv takes {sheet}"),
             (["cells", "Sheet", "1"], f"cells takes {sheet}: {quotes}"),
             (["sheets", "S"], "sheets takes no further words"),
             (["-h"], "there is no option '-h'"),
@@ -308,9 +318,28 @@ class Wrapper(FrontCopy):
             (["cells", b"\xff"], "'\\udcff' isn't UTF-8"),
             (["--unproved", "book.xlsx", "cell", "S"], f"{no_command} 'cell': the nearest is cells"),
             (["book.xlsx", "list"], "there is no command 'list': the nearest is links"),
-            (["book.xlsx", "cells"], f"cells takes {sheet}"),
+            (["book.xlsx", "cells", "--", "S", "--sheet"], f"cells takes {sheet}: {quotes}"),
+            (["book.xlsx", "cells", "S", "--sheet", "2"], f"cells takes {sheet}"),
             (["book.xlsx", "table"], "table takes the name of a table"),
-            (["book.xlsx", "pivot", "S"], "pivot takes two names, of a sheet and of a pivot table"),
+            (["book.xlsx", "table", "--sheet", "2"], "table takes no option '--sheet'"),
+            (["book.xlsx", "pivot"], f"pivot takes {sheet}, and the name of a pivot table"),
+            (["dependents", "S"], f"dependents takes {sheet}, and the reference of a cell, and not 'S'"),
+            (["book.xlsx", "dependents"], f"dependents takes {sheet}, and the reference of a cell"),
+            (["book.xlsx", "cells", "--dates"], "cells takes no option '--dates'"),
+            (["book.xlsx", "--dates", "cells"], "cells takes no option '--dates'"),
+            (["book.xlsx", "csv", "--date", "S"], "csv takes no option '--date'"),
+            (["book.xlsx", "csv", "S", "--dates", "--dates"], "--dates stands twice behind csv"),
+            (["book.xlsx", "csv", "--digits", "3"], "csv takes no option '--digits'"),
+            (["book.xlsx", "cells", "--sheet"], "--sheet takes the number of a sheet, from 1"),
+            (["cells", "--sheet", "1", "--sheet", "1"], "--sheet stands twice"),
+            (["book.xlsx", "csv", "--all"], "--all takes the name of a folder"),
+            (["book.xlsx", "csv", "S", "--all", "x"], "csv --all takes a folder, and no sheet"),
+            (["book.xlsx", "cells", "--all", "x"], "cells takes no option '--all'"),
+            (["book.xlsx", "csv", "--to", "x"], "csv takes no option '--to'"),
+            (["book.xlsx", "resave", "S", "--to"], "--to takes the name of a file"),
+            (["book.xlsx", "sheets", "--crlf"], "sheets takes no option '--crlf'"),
+            (["cells", "--help"], "--help stands alone"),
+            (["--dates"], "there is no command beside '--dates'"),
             (["book.xlsx", "sample", "5"], "sample makes its own package, and reads no file"),
             (["book.xlsx", "-h"], "there is no option '-h'"),
             (["book.xlsx", "--help"], "--help stands alone"),
@@ -357,8 +386,6 @@ class Wrapper(FrontCopy):
             with open(self.book, "rb") as file:
                 ran = self.run_on("cells", "--sheet", number, data=None, stdin=file)
             self.assertEqual(ran, wanted)
-        # This is the sheet of that name.
-        self.assertEqual(self.run_on("book.xlsx", "csv", "--sheet")[1], b"csv of --sheet\n")
         for number, said in (
             ("6", "there is no sheet 6: the workbook has 5 sheets"),
             ("9" * 30, f"there is no sheet {10**10}: the workbook has 5 sheets"),
@@ -367,9 +394,44 @@ class Wrapper(FrontCopy):
             ran = self.run_on("book.xlsx", "cells", "--sheet", number)
             self.assertEqual(ran, (6, b"", f"xlsx: {said}\n"))
 
-    def test_the_first_worksheet_as_csv(self):
+    def test_the_first_worksheet_where_no_sheet_is_named(self):
         self.list_with()
-        self.assertEqual(self.run_on("book.xlsx", "csv"), (0, b"csv of First\n", ""))
+        for command in COMMANDS.values():
+            if is_of_sheet(command):
+                more = {"dependents": ["A1"], "pivot": ["none"]}.get(command.word, [])
+                wanted = self.run_on("book.xlsx", command.word, "First", *more)
+                self.assertIn(b"First", wanted[1] + wanted[2].encode())
+                self.assertEqual(self.run_on("book.xlsx", command.word, *more), wanted)
+                self.assertEqual(self.run_on(command.word, *more, data=b"{}")[:2], wanted[:2])
+        self.build(self.written("none", "#!/bin/sh\nprintf 'Chart\\tchartsheet\\tvisible\\n'\n"))
+        ran = self.run_on("book.xlsx", "cells")
+        self.assertEqual(ran, (6, b"", "xlsx: the workbook has no worksheet\n"))
+
+    def test_options_stand_anywhere_and_names_behind_two_hyphens(self):
+        self.build(self.written("words", WORDED))
+        csv = ["csv", "S", "--dates", "--crlf"]
+        for words, wanted in (
+            (["csv", "S", "--dates", "--crlf"], csv),
+            (["csv", "--dates", "S", "--crlf"], csv),
+            (["--dates", "csv", "--crlf", "S"], csv),
+            (["csv", "--dates", "--crlf"], ["csv", "First", *csv[2:]]),
+            (["csv", "--dates", "--sheet", "1"], ["csv", "First", "--dates"]),
+            (["--sheet", "1", "cells"], ["cells", "First"]),
+            (["dependents", "--sheet", "1", "A1"], ["dependents", "First", "A1"]),
+            (["csv", "--crlf", "--", "--dates"], ["csv", "--dates", "--crlf"]),
+            (["cells", "--", "--"], ["cells", "--"]),
+            (["pivot", "--", "-a", "--b"], ["pivot", "-a", "--b"]),
+            (["csv-table", "--bom", "--", "--bom"], ["csv-table", "--bom", "--bom"]),
+        ):
+            with self.subTest(words=words):
+                said = f"{' | '.join(wanted)}\n".encode()
+                self.assertEqual(self.run_on("book.xlsx", *words), (0, said, ""))
+                self.assertEqual(self.run_on(*words, data=b"{}"), (0, said, ""))
+        first = [*csv[2:], "book.xlsx", "csv", "S"]
+        self.assertEqual(self.run_on(*first), (0, f"{' | '.join(csv)}\n".encode(), ""))
+        self.program.unlink()
+        ran = self.run_on("book.xlsx", "cells", "0", "--unproved")
+        self.assertEqual(ran, (0, f"cells 0: {self.size}\n".encode(), UNPROVED))
 
     def test_all_worksheets_as_csv(self):
         self.list_with()
@@ -653,11 +715,14 @@ class Wrapper(FrontCopy):
 
     def test_the_words_that_are_commands_are_those_of_the_program(self):
         self.build(PROGRAM)
+        of_sheets = [command.word for command in COMMANDS.values() if is_of_sheet(command)]
+        others = [word for word in COMMANDS if word not in of_sheets]
         for words in (
-            *([word] for word in (*COMMANDS, "--help", "--version", "x", "")),
-            *([word, "S"] for word in (*COMMANDS, "--help", "Cells", "")),
+            # Where no sheet is named, it is found before the program gets its words.
+            *([word] for word in (*others, "--help", "--version", "x", "")),
+            *([word, "S"] for word in (*COMMANDS, "--help", "Cells", "") if word != "pivot"),
             ["cells", "S", "x"],
-            ["cells", "--help"],
+            ["pivot", "S", "x"],
             *(["dependents", "S", word] for word in REFERENCES),
             ["dependents", "S", "A1", "B1"],
         ):
