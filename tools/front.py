@@ -14,6 +14,7 @@ import sys
 import tempfile
 
 import words as of_words
+from escapes import unescaped
 from place import PROGRAM, is_ready
 from program import LIMIT, PROVING, UNPROVED, UNPROVED_SAYS, WRITE_FAULT, Ended, Program
 from program import build, end_by_signals, say
@@ -25,15 +26,8 @@ MEMORY = "4096"
 # How many names are told where one isn't found.
 TOLD = 10
 
-# What a name in a listing has in place of these characters.
-ESCAPED = {"\\\\": "\\", "\\t": "\t", "\\n": "\n", "\\r": "\r"}
-
 # What the name of a file can't have on one system or another, and `%`, which stands for it.
 UNFIT = re.compile(r'[\0-\x1f\x7f"%*/:<>?\\|]')
-
-
-def unescaped(field):
-    return re.sub(r"\\[\\tnr]", lambda found: ESCAPED[found[0]], field)
 
 
 def file_of(name):

@@ -63,7 +63,8 @@ fi
 mkdir -p out/rlib
 """
 # What ./xlsx is made of.
-FRONT = ("front", "markup", "package_text", "place", "program", "prove", "words", "workbook_file")
+FRONT = ("escapes", "front", "markup", "package_text", "place", "program", "prove", "words")
+FRONT += ("workbook_file",)
 FILES = ("xlsx", *(f"tools/{name}.py" for name in FRONT))
 
 

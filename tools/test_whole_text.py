@@ -8,8 +8,9 @@ import tempfile
 import unittest
 import warnings
 
+from escapes import unescaped
 from fixtures import BROKEN_THEME, LISTED, MINIMAL, MIXED, SALES, archive, relationships
-from front import Book, Front, Refused, unescaped
+from front import Book, Front, Refused
 from package_text import Refusal, Sheets, workbook_of
 from place import OF_GATE
 from program import LIMIT, Program
