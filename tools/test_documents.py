@@ -20,8 +20,8 @@ OF_TESTS = {
     "worked_writing",
 }
 
-# The newest list that a part says, which is a command, too, and the newest kind of value, by its name
-# in code and in the definitions.
+# The newest list that a part says, which is a command, too, and the newest kind of value, by its
+# name in code and in the definitions.
 NEWEST_LIST = "comments"
 NEWEST_VALUE = ("DateTimeIso", "iso_time")
 # Documents that tell of each command and list. The others tell of what was chosen and measured.
@@ -175,8 +175,8 @@ class Documents(unittest.TestCase):
                 self.assertEqual(sorted(set(self.public_functions(crate)) - told), [])
 
     def sought(self):
-        """The files in which a command, a list, a kind of value and an escape have their places: what
-        tests one is its own choice, and so are proofs beside a function, under its name."""
+        """The files in which a command, a list, a kind of value and an escape have their places:
+        what tests one is its own choice, and so are proofs beside a function, under its name."""
         for path, code in self.code.items():
             crate, part, *names = path.relative_to(TOP / "crates").parts
             is_beside = part == "proofs" and len(names) > 1
@@ -192,8 +192,9 @@ class Documents(unittest.TestCase):
 
     def places(self, pattern):
         """The files that have a pattern, by their paths from the top."""
-        found = re.compile(pattern, re.M)
-        return {path.relative_to(TOP).as_posix() for path, code in self.sought() if found.search(code)}
+        named = re.compile(pattern, re.M)
+        found = (path for path, code in self.sought() if named.search(code))
+        return {path.relative_to(TOP).as_posix() for path in found}
 
     def told(self, title):
         """The files that a section of the guide tells of."""
@@ -219,7 +220,8 @@ class Documents(unittest.TestCase):
 
     def test_every_place_of_the_newest_list_is_told(self):
         spoken = rf'"{NEWEST_LIST}"|`{NEWEST_LIST}[ `]|\bxlsx_tool {NEWEST_LIST}\b'
-        spoken += rf"|book\.xlsx {NEWEST_LIST}\b|\bxlsx_{NEWEST_LIST}\b|(?<!\w){NEWEST_LIST}_by_sheet"
+        spoken += rf"|book\.xlsx {NEWEST_LIST}\b|\bxlsx_{NEWEST_LIST}\b|\b{NEWEST_LIST}_by_sheet"
+        spoken += rf"|\b{NEWEST_LIST}\.lines\b"
         coded, own = rf"(?i:{NEWEST_LIST[:-1]})", f"crates/xlsx_{NEWEST_LIST}/"
         in_code = {path for path in self.places(coded) if path.startswith("crates/")}
         in_words = {path for path in self.places(spoken) if not path.startswith("crates/")}

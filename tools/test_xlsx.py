@@ -295,7 +295,7 @@ class Wrapper(FrontCopy):
     def test_words_that_are_no_command(self):
         """What is wrong is told, before anything is built or read."""
         sheet = "the name of a sheet, or --sheet and its number, or neither for the first worksheet"
-        quotes = "put a name that has blanks in quotes"
+        quotes, reference = "put a name that has blanks in quotes", "and the reference of a cell"
         rows = "sample takes a number of rows, from 1 to 20,000"
         number = "--sheet takes the number of a sheet, from 1, and not"
         no_file = "and no file of that name"
@@ -323,8 +323,8 @@ class Wrapper(FrontCopy):
             (["book.xlsx", "table"], "table takes the name of a table"),
             (["book.xlsx", "table", "--sheet", "2"], "table takes no option '--sheet'"),
             (["book.xlsx", "pivot"], f"pivot takes {sheet}, and the name of a pivot table"),
-            (["dependents", "S"], f"dependents takes {sheet}, and the reference of a cell, and not 'S'"),
-            (["book.xlsx", "dependents"], f"dependents takes {sheet}, and the reference of a cell"),
+            (["dependents", "S"], f"dependents takes {sheet}, {reference}, and not 'S'"),
+            (["book.xlsx", "dependents"], f"dependents takes {sheet}, {reference}"),
             (["book.xlsx", "cells", "--dates"], "cells takes no option '--dates'"),
             (["book.xlsx", "--dates", "cells"], "cells takes no option '--dates'"),
             (["book.xlsx", "csv", "--date", "S"], "csv takes no option '--date'"),

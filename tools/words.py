@@ -224,8 +224,8 @@ COMMANDS = {
     )
 }
 
-# The options of a command that writes CSV, each once and in any order: words alone, and words with a
-# value.
+# The options of a command that writes CSV, each once and in any order: words alone, and words with
+# a value.
 FLAGS = {
     "csv": ("--dates", "--crlf", "--bom", "--from-a1"),
     "csv-table": ("--dates", "--crlf", "--bom"),
