@@ -112,6 +112,7 @@ class FrontCopy(unittest.TestCase):
         about = {"STAND_IN": self.folder / "program", "FAILING": self.folder / "failing"}
         about["WAITING"] = self.folder / "waiting"
         about["MEETING"] = self.folder / "meeting"
+        about["XDG_CACHE_HOME"] = self.folder / "cache"
         if memory is not None:
             about["XLSX_MEMORY"] = memory
         return {**os.environ, **about, "PATH": path}

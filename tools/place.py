@@ -1,8 +1,9 @@
 """Where ./xlsx keeps what it proves and builds, and whether the proved program is there.
 
-`rt ci` takes the folders `out` of all crates away while it is at work, and refuses a list of crates
-in a second place of the repository, .git aside. So the place is a folder of .git, and where there
-is none one of the user's cache. What `rt ci` built is taken from where it leaves that.
+`rt ci` takes the folders `out` of all crates away while it is at work, and `rt` refuses a second
+list of crates and sources of Rattle in any other place of the repository, also in .git. So the
+copies in which crates are proved are in the user's cache. The program is in a folder of .git, and
+where there is none in the cache, too. What `rt ci` built is taken from where it leaves that.
 """
 
 import fcntl
@@ -31,26 +32,21 @@ def git_of(top):
     return git if os.path.isdir(git) else None
 
 
-def place_of(top):
-    """The folder that is ours alone."""
-    git = git_of(top)
-    if git is not None:
-        return os.path.join(git, "xlsx")
+def cache_of(top):
+    """The folder of the user's cache for the repository at this place."""
     cache = os.environ.get("XDG_CACHE_HOME") or os.path.expanduser("~/.cache")
     return os.path.join(cache, f"xlsx-{hashlib.sha256(os.fsencode(top)).hexdigest()[:16]}")
 
 
-PLACE = place_of(TOP)
+def place_of(top):
+    """The folder of the program."""
+    git = git_of(top)
+    return cache_of(top) if git is None else os.path.join(git, "xlsx")
+
+
+PLACE, LANES = place_of(TOP), os.path.join(cache_of(TOP), "lanes")
 PROGRAM = os.path.join(PLACE, NAME)
 LOG = os.path.join(PLACE, "proving.log")
-
-
-def make_place():
-    """Makes the folder, as one that `rt` doesn't enter where it looks for crates: this file marks
-    another repository."""
-    os.makedirs(PLACE, exist_ok=True)
-    with open(os.path.join(PLACE, "MODULE.bazel"), "a"):
-        pass
 
 
 def needs_of(top, table):
@@ -129,7 +125,7 @@ def is_taken():
         fcntl.flock(held, fcntl.LOCK_EX | fcntl.LOCK_NB)
         if not is_fresh(OF_GATE):
             return False
-        make_place()
+        os.makedirs(PLACE, exist_ok=True)
         publish(OF_GATE, os.stat(OF_GATE).st_mtime_ns)
         return True
     except (OSError, subprocess.CalledProcessError):

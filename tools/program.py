@@ -9,7 +9,7 @@ import subprocess
 import sys
 import tempfile
 
-from place import CRATE, LOG, NAME, PLACE, TOP, make_place
+from place import CRATE, LANES, LOG, NAME, PLACE, TOP
 from words import one_line
 
 # The most bytes that the program reads.
@@ -96,11 +96,12 @@ def build():
     find("rt", "the command of the Rattle kit")
     say(f"no proved program is there yet: proving takes {PROVING}; {ANSWERS}")
     say(f"proving; what rt says goes to {LOG}")
-    try:
-        make_place()
-        tempfile.TemporaryFile(dir=PLACE).close()
-    except OSError as error:
-        raise Ended(1, f"{PLACE} can't be written: {error.strerror}") from None
+    for folder in (PLACE, LANES):
+        try:
+            os.makedirs(folder, exist_ok=True)
+            tempfile.TemporaryFile(dir=folder).close()
+        except OSError as error:
+            raise Ended(1, f"{folder} can't be written: {error.strerror}") from None
     words = [sys.executable, "tools/prove.py", NAME]
     with child_of(words, cwd=TOP, stdin=subprocess.DEVNULL, stdout=2) as child:
         status = status_of(child)

@@ -19,7 +19,7 @@ import sys
 import tempfile
 import time
 
-from place import LOG, PLACE, is_left, locks, needs_of, now, publish
+from place import LANES, LOG, PLACE, is_left, locks, needs_of, now, publish
 
 # What one proof may take of memory, in KiB.
 MEMORY = 4 * 1024 * 1024
@@ -95,8 +95,8 @@ class Lane:
     side by side in two copies alone.
     """
 
-    def __init__(self, name, table, lanes):
-        self.name, self.top = name, os.path.join(lanes, name)
+    def __init__(self, name, table):
+        self.name, self.top = name, os.path.join(LANES, name)
         crates = os.path.join(self.top, "crates")
         os.makedirs(place(self.top, name), exist_ok=True)
         clear(self.top, ("crates",))
@@ -109,7 +109,7 @@ class Lane:
         for need in names:
             to = place(self.top, need)
             copy(place(".", need), to, ignore=shutil.ignore_patterns("out"), dirs_exist_ok=True)
-            built = place(os.path.join(lanes, need), need, "out", "rlib")
+            built = place(os.path.join(LANES, need), need, "out", "rlib")
             # Where another `rt` took it away since it was built, this one builds it again.
             if need != name and os.path.isdir(built):
                 copy(built, place(self.top, need, "out", "rlib"))
@@ -159,14 +159,13 @@ class Proving:
         self.program, self.table, self.log, self.held = program, table, log, held
         self.needs = needs_of(program, table)
         self.heights = heights(self.needs)
-        self.lanes = os.path.join(PLACE, "lanes")
         self.proved, self.at_work, self.jobs = set(), {}, {}
         self.began = self.told = time.monotonic()
 
     def begin(self, name, jobs):
         """Begins the proof of a crate with so many processors, in a copy."""
         self.jobs[name] = jobs
-        lane = Lane(name, self.table, self.lanes)
+        lane = Lane(name, self.table)
         words = ["rt", "lib", "--jobs", str(jobs)]
         if name == self.program:
             words = ["rt", "run", "--jobs", str(jobs), "--", "--version"]
@@ -174,7 +173,7 @@ class Proving:
 
     def built(self):
         """The program, as it is built in its copy."""
-        return place(os.path.join(self.lanes, self.program), self.program, "out", self.program)
+        return place(os.path.join(LANES, self.program), self.program, "out", self.program)
 
     def begin_some(self, most):
         """Begins what can be proved now, each with one processor, or with two where no crate waits

@@ -9,8 +9,10 @@ import subprocess
 import tempfile
 import time
 import unittest
+import unittest.mock
 
 from front_copy import FILES, TOP
+from place import cache_of
 
 LOW = """\
 // What is told.
@@ -60,11 +62,16 @@ class Gate(unittest.TestCase):
             shutil.copy(TOP / name, self.top / name)
         self.git = self.top / ".git"
         self.git.mkdir()
-        self.lanes = self.git / "xlsx" / "lanes"
+        cache = tempfile.TemporaryDirectory()
+        self.addCleanup(cache.cleanup)
+        self.environment = {**os.environ, "XDG_CACHE_HOME": cache.name}
+        with unittest.mock.patch.dict(os.environ, self.environment):
+            self.lanes = pathlib.Path(cache_of(str(self.top))) / "lanes"
 
     def begin(self, words):
         given = {"stdin": subprocess.DEVNULL, "stdout": subprocess.PIPE, "text": True}
-        child = subprocess.Popen(words, cwd=self.top, stderr=subprocess.STDOUT, **given)
+        given.update(cwd=self.top, env=self.environment, stderr=subprocess.STDOUT)
+        child = subprocess.Popen(words, **given)
         self.addCleanup(child.stdout.close)
         self.addCleanup(child.kill)
         return child
@@ -123,6 +130,8 @@ class Gate(unittest.TestCase):
         self.assertIn("xlsx: built\ntold 1\n", self.end(self.begin_xlsx()))
         log = (self.git / "xlsx" / "proving.log").read_text()
         self.assertNotIn("fn low::told", log)
+        # Each rt at the top goes on working.
+        self.end(self.begin(["rt", "all", "check"]))
 
     def test_xlsx_behind_the_gate_takes_its_program(self):
         self.pass_gate()
@@ -141,7 +150,7 @@ class Gate(unittest.TestCase):
         self.check_passed(self.end(gate))
         left = "xlsx: the other one left a proved program\nxlsx: built\ntold 1\n"
         self.assertEqual(self.end(xlsx, said), said + left)
-        self.assertFalse(self.lanes.exists())
+        self.assertEqual(list(self.lanes.iterdir()), [])
 
     def test_the_gate_waits_for_xlsx(self):
         held = self.held(self.lanes / "low" / "crates" / "low")

@@ -9,7 +9,6 @@ import signal
 import subprocess
 import sys
 import unittest
-import unittest.mock
 
 from fixtures import LINES, MINIMAL, archive, package_text, relationships
 from front_copy import TOP, FrontCopy
@@ -144,12 +143,15 @@ class Wrapper(FrontCopy):
         self.assertEqual(sum(waits in error for _, error in said), 1, said)
 
     def test_what_an_ended_proof_left_is_begun_with(self):
-        crate = self.place / "lanes" / "low" / "crates" / "low"
+        self.run_on("cells", "0")
+        self.program.unlink()
+        (lanes,) = (self.folder / "cache").glob("xlsx-*/lanes")
+        crate = lanes / "low" / "crates" / "low"
         for name in ("out/kept", "src/gone"):
-            (crate / name).parent.mkdir(parents=True)
+            (crate / name).parent.mkdir(exist_ok=True)
             (crate / name).write_text("")
         (crate.parent / "gone").mkdir()
-        (self.place / "lanes" / "low" / "gone").mkdir()
+        (lanes / "low" / "gone").mkdir()
         self.assertEqual(self.run_on("cells", "0"), (0, b"cells 0: 0\n", self.built()))
         found = [str(path.relative_to(crate.parent.parent)) for path in crate.rglob("*")]
         self.assertEqual(sorted(found), [f"crates/low/out{end}" for end in ("", "/kept", "/rlib")])
@@ -157,13 +159,11 @@ class Wrapper(FrontCopy):
     def test_what_is_built_has_a_place_without_git_and_in_a_worktree(self):
         git = self.place.parent
         git.rmdir()
-        cache = self.folder / "cache"
-        with unittest.mock.patch.dict(os.environ, {"XDG_CACHE_HOME": str(cache)}):
-            self.assertEqual(self.run_on("cells", "0")[:2], (0, b"cells 0: 0\n"))
-            self.assertEqual(len(list(cache.glob("xlsx-*/xlsx_tool"))), 1)
-            git.write_text("gitdir: ../of/worktree\n")
-            (self.folder / "of" / "worktree").mkdir(parents=True)
-            self.assertEqual(self.run_on("cells", "0")[:2], (0, b"cells 0: 0\n"))
+        self.assertEqual(self.run_on("cells", "0")[:2], (0, b"cells 0: 0\n"))
+        self.assertEqual(len(list((self.folder / "cache").glob("xlsx-*/xlsx_tool"))), 1)
+        git.write_text("gitdir: ../of/worktree\n")
+        (self.folder / "of" / "worktree").mkdir(parents=True)
+        self.assertEqual(self.run_on("cells", "0")[:2], (0, b"cells 0: 0\n"))
         self.assertTrue((self.folder / "of" / "worktree" / "xlsx" / "xlsx_tool").is_file())
 
     def test_the_program_of_the_gate_is_taken_if_it_is_whole_and_nobody_works_on_it(self):
