@@ -11,7 +11,9 @@ import time
 from typing import NamedTuple
 
 TOP = pathlib.Path(__file__).resolve().parent.parent
-PROGRAM = TOP / "crates" / "xlsx_tool" / "out" / "xlsx_tool"
+sys.path.append(str(TOP / "tools"))
+
+from place import PROGRAM  # noqa: E402
 
 # The most bytes that the program reads.
 LIMIT = 67_108_864

@@ -6,6 +6,7 @@ import pathlib
 import subprocess
 from dataclasses import dataclass
 
+from escapes import unescaped
 from noted import RELATIONSHIPS, ROOT, SMALLEST, TYPES, WORKBOOK, events_of
 
 TOP = pathlib.Path(__file__).resolve().parent.parent
@@ -16,7 +17,6 @@ BUILDS = ["call_answers", "call_answers.by-rattle"]
 
 # What leads to the workbook, and the workbook.
 LEADING = [ROOT, RELATIONSHIPS, WORKBOOK]
-ESCAPED = {"t": "\t", "n": "\n", "r": "\r", "\\": "\\"}
 
 
 def fields_of(case):
@@ -78,16 +78,6 @@ class Case:
 def opened(shown, own, *calls, fails=()):
     """A case whose package opens."""
     return Case(shown, own, [(("open",), ""), *calls], fails)
-
-
-def unescaped(answer):
-    front, *pieces = answer.split("\\")
-    pieces = iter(pieces)
-    out = [front]
-    for piece in pieces:
-        # Two backslashes are one.
-        out.append("\\" + next(pieces) if piece == "" else ESCAPED[piece[0]] + piece[1:])
-    return "".join(out)
 
 
 def lines_of(cases):

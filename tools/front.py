@@ -14,8 +14,10 @@ import sys
 import tempfile
 
 import words as of_words
+from escapes import unescaped
+from place import PROGRAM, is_ready
 from program import LIMIT, PROVING, UNPROVED, UNPROVED_SAYS, WRITE_FAULT, Ended, Program
-from program import build, end_by_signals, is_fresh, say
+from program import build, end_by_signals, say
 from words import Reads, one_line
 
 # The most address space that the proved program gets, in MiB; 0 sets no bound.
@@ -24,15 +26,8 @@ MEMORY = "4096"
 # How many names are told where one isn't found.
 TOLD = 10
 
-# What a name in a listing has in place of these characters.
-ESCAPED = {"\\\\": "\\", "\\t": "\t", "\\n": "\n", "\\r": "\r"}
-
 # What the name of a file can't have on one system or another, and `%`, which stands for it.
 UNFIT = re.compile(r'[\0-\x1f\x7f"%*/:<>?\\|]')
-
-
-def unescaped(field):
-    return re.sub(r"\\[\\tnr]", lambda found: ESCAPED[found[0]], field)
 
 
 def file_of(name):
@@ -147,10 +142,9 @@ class Book:
 class Text:
     """A package text of standard input, which has all that there is."""
 
-    def __init__(self, words):
+    def __init__(self, asked):
         self.text = Package(standard_input())
-        is_read_again = of_words.has_number(words) or of_words.is_all(words)
-        if is_read_again and not self.text.is_repeated():
+        if asked.is_read_again() and not self.text.is_repeated():
             self.text = Package(kept(self.text.file, LIMIT + 1))
 
     def has_choice(self):
@@ -233,20 +227,19 @@ class Front:
         names = dict.fromkeys(name for name, *_ in sheets)
         return [name for name in names if first[name] == "worksheet"]
 
-    def named(self, words):
-        """The program's words for words that tell a sheet by its number, or none where one is
-        meant."""
-        if of_words.has_number(words):
-            number = words[2].lstrip("0")
+    def named(self, asked):
+        """The program's words, by the name of the sheet where that is told by its number, or is the
+        first worksheet."""
+        if not asked.lacks_sheet():
+            return asked.of_program()
+        if asked.number is not None:
+            number = asked.number.lstrip("0")
             # No workbook has so many sheets, and so large a number is none of Python's.
-            place = int(number) if len(number) < 10 else 10**10
-            return [words[0], self.sheet(place), *words[3:]]
-        if words == ["csv"]:
-            worksheets = self.worksheets()
-            if not worksheets:
-                raise Ended(6, "the workbook has no worksheet")
-            return ["csv", worksheets[0]]
-        return words
+            return asked.of_program(self.sheet(int(number) if len(number) < 10 else 10**10))
+        worksheets = self.worksheets()
+        if not worksheets:
+            raise Ended(6, "the workbook has no worksheet")
+        return asked.of_program(worksheets[0])
 
     def names(self, words, said):
         """What is asked for and not found, and all names that there are of its kind."""
@@ -276,9 +269,9 @@ class Front:
             more = f", and {len(found) - TOLD} more" if len(found) > TOLD else ""
             say(f"there are these {kind}: {shown}{more}")
 
-    def answer(self, words):
-        """Runs the program on words, onto standard output: the status."""
-        words = self.named(words)
+    def answer(self, asked):
+        """Has the program answer, onto standard output: the status."""
+        words = self.named(asked)
         status, said = self.program.run(words, self.package(words).input(), 1)
         if status == 7 and said == WRITE_FAULT and is_reader_gone():
             return 7
@@ -291,12 +284,11 @@ class Front:
         if status == 6 and len(words) > 1:
             self.say_names(words, said)
 
-    def save(self, words, path):
-        """Runs the program on words, and writes the package text that it answers as a workbook
-        file: the status."""
+    def save(self, asked):
+        """Has the program answer, and writes its package text as a workbook file: the status."""
         from workbook_file import save
 
-        words = self.named(words)
+        words, path = self.named(asked), asked.saved
         with tempfile.TemporaryFile() as answer:
             status, said = self.program.run(words, self.package(words).input(), answer.fileno())
             self.tell(words, status, said)
@@ -306,9 +298,9 @@ class Front:
                     save(answer, path)
         return status
 
-    def write_all(self, folder, options):
+    def write_all(self, asked):
         """Writes each worksheet as CSV into a file of a folder: the status."""
-        worksheets = self.worksheets()
+        folder, options, worksheets = asked.folder, asked.options, self.worksheets()
         try:
             os.makedirs(folder, exist_ok=True)
             with tempfile.TemporaryDirectory(dir=folder) as made:
@@ -346,22 +338,23 @@ def help_page(memory):
         raise Refused(7, b"" if is_reader_gone() else WRITE_FAULT) from None
 
 
-def file_and_words(words):
-    """The workbook file among words, if any, and the words behind it, which are a command."""
+def file_and_asked(words):
+    """The workbook file among words, if any, and what is asked for by those behind it."""
     if not words:
         raise Refused(2, of_words.USAGE.encode())
-    first = words[0]
-    has_file = first == of_words.STANDARD_INPUT or os.path.exists(first)
-    if of_words.is_command(words) or not has_file and not is_file_name(first):
-        of_words.check(words)
-        return None, words
-    rest = words[1:]
+    words = of_words.file_first(words, is_file)
+    first, rest = words[0], words[1:]
+    if of_words.is_command(words) or not is_file(first):
+        return None, of_words.asked_by(words)
     if first in of_words.COMMANDS and not of_words.is_command(rest):
         # A file of a command's name is there, but it is the command that lacks words.
-        of_words.check(words)
-    if rest != ["csv"]:
-        of_words.check(rest, first)
-    return first, rest
+        of_words.asked_by(words)
+    return first, of_words.asked_by(rest, first)
+
+
+def is_file(word):
+    """Whether a word is a workbook file, there or not."""
+    return word == of_words.STANDARD_INPUT or os.path.exists(word) or is_file_name(word)
 
 
 def is_file_name(word):
@@ -377,14 +370,14 @@ def memory_of(word):
     return int(word)
 
 
-def source_of(path, words, stack):
+def source_of(path, asked, stack):
     """What is read: a workbook file, or a package text of standard input."""
     if path is not None:
-        return Book(path, sys.maxsize if words == [of_words.PACKAGE] else LIMIT, stack)
-    if words[0] not in of_words.PAGES and words[0] != "sample" and os.isatty(0):
-        call = f"./xlsx FILE.xlsx {words[0]} .."
+        return Book(path, sys.maxsize if asked.is_package() else LIMIT, stack)
+    if not asked.is_page() and asked.word != "sample" and os.isatty(0):
+        call = f"./xlsx FILE.xlsx {asked.word} .."
         say(f"waiting for a package text at the terminal; {call} reads a file")
-    return Text(words)
+    return Text(asked)
 
 
 def write_package(book):
@@ -399,30 +392,29 @@ def write_package(book):
 
 def answered(words):
     """The status of a call."""
-    is_proved = words[:1] != ["--unproved"]
+    is_proved, words = of_words.with_proof(words)
     memory = memory_of(os.environ.get("XLSX_MEMORY", MEMORY))
-    path, words = file_and_words(words if is_proved else words[1:])
-    words, saved = of_words.saved_apart(words)
-    if words == ["--help"]:
+    path, asked = file_and_asked(words)
+    if asked.is_page() and asked.word == "--help":
         help_page(os.environ.get("XLSX_MEMORY", MEMORY))
-        if not is_fresh():
+        if not is_ready():
             return 0
     with contextlib.ExitStack() as stack:
-        source = source_of(path, words, stack)
-        if words == [of_words.PACKAGE]:
+        source = source_of(path, asked, stack)
+        if asked.is_package():
             return write_package(source)
-        if is_fresh():
+        if is_ready():
             is_proved = True
         elif is_proved:
             build()
         else:
             say(UNPROVED_SAYS)
-        front = Front(Program(is_proved, memory), source)
-        if saved is not None:
-            return front.save(words, saved)
-        if of_words.is_all(words):
-            return front.write_all(words[2], words[3:])
-        return front.answer(words)
+        front = Front(Program(PROGRAM if is_proved else None, memory), source)
+        if asked.saved is not None:
+            return front.save(asked)
+        if asked.folder is not None:
+            return front.write_all(asked)
+        return front.answer(asked)
 
 
 def main(words):

@@ -47,6 +47,7 @@ flock 9
 [ ! -e "$FAILING" ] || [ "$1" != run ] || exit 1
 if [ "$1" = run ]; then
     ls -d ../*/out/rlib
+    mkdir -p out
     cp "$STAND_IN" out/xlsx_tool
     exit
 fi
@@ -62,7 +63,8 @@ fi
 mkdir -p out/rlib
 """
 # What ./xlsx is made of.
-FRONT = ("front", "markup", "package_text", "program", "prove", "words", "workbook_file")
+FRONT = ("escapes", "front", "markup", "package_text", "place", "program", "prove", "words")
+FRONT += ("workbook_file",)
 FILES = ("xlsx", *(f"tools/{name}.py" for name in FRONT))
 
 
@@ -72,7 +74,9 @@ class FrontCopy(unittest.TestCase):
         self.addCleanup(folder.cleanup)
         self.folder = pathlib.Path(folder.name)
         self.crate = self.folder / "top" / "crates" / "xlsx_tool"
-        self.program = self.crate / "out" / "xlsx_tool"
+        self.place = self.folder / "top" / ".git" / "xlsx"
+        self.place.parent.mkdir(parents=True)
+        self.program = self.place / "xlsx_tool"
         (self.crate / "src").mkdir(parents=True)
         self.source = self.crate / "src" / "main.rt"
         self.source.write_text("")
@@ -108,6 +112,7 @@ class FrontCopy(unittest.TestCase):
         about = {"STAND_IN": self.folder / "program", "FAILING": self.folder / "failing"}
         about["WAITING"] = self.folder / "waiting"
         about["MEETING"] = self.folder / "meeting"
+        about["XDG_CACHE_HOME"] = self.folder / "cache"
         if memory is not None:
             about["XLSX_MEMORY"] = memory
         return {**os.environ, **about, "PATH": path}

@@ -1,4 +1,4 @@
-"""The proved program xlsx_tool: whether it is there, how it is built, and how it is run."""
+"""The proved program xlsx_tool: how it is built, and how it is run."""
 
 import contextlib
 import os
@@ -9,11 +9,8 @@ import subprocess
 import sys
 import tempfile
 
+from place import CRATE, LANES, LOG, NAME, PLACE, TOP
 from words import one_line
-
-TOP = os.path.dirname(os.path.dirname(os.path.realpath(__file__)))
-CRATE = os.path.join(TOP, "crates", "xlsx_tool")
-PROGRAM = os.path.join(CRATE, "out", "xlsx_tool")
 
 # The most bytes that the program reads.
 LIMIT = 64 * 1024 * 1024
@@ -46,40 +43,6 @@ def find(command, what):
     """Sees that a command is there."""
     if shutil.which(command) is None:
         raise Ended(1, f"{command}, {what}, is not among the commands (PATH)")
-
-
-def newer(folder, moment):
-    """Whether a folder or something in it is newer than a moment, in nanoseconds."""
-    try:
-        if os.stat(folder).st_mtime_ns > moment:
-            return True
-        with os.scandir(folder) as entries:
-            return any(
-                newer(entry.path, moment)
-                if entry.is_dir(follow_symlinks=False)
-                else entry.stat(follow_symlinks=False).st_mtime_ns > moment
-                for entry in entries
-            )
-    except FileNotFoundError:
-        return False
-
-
-def is_fresh():
-    """Whether the program is there, and not older than what it is made from."""
-    from prove import needs_of
-
-    if not os.access(PROGRAM, os.X_OK):
-        return False
-    moment = os.stat(PROGRAM).st_mtime_ns
-    with open(os.path.join(TOP, "crates.txt")) as table:
-        needs = needs_of("xlsx_tool", table.read())
-        if os.fstat(table.fileno()).st_mtime_ns > moment:
-            return False
-    return not any(
-        newer(os.path.join(TOP, "crates", crate, folder), moment)
-        for crate in needs
-        for folder in ("src", "specs", "proofs")
-    )
 
 
 # These signals end ./xlsx.
@@ -131,31 +94,28 @@ def status_of(child):
 def build():
     """Proves and builds the program."""
     find("rt", "the command of the Rattle kit")
-    out = os.path.dirname(PROGRAM)
-    log = os.path.join(out, "proving.log")
     say(f"no proved program is there yet: proving takes {PROVING}; {ANSWERS}")
-    say(f"proving; what rt says goes to {log}")
-    try:
-        os.makedirs(out, exist_ok=True)
-        with tempfile.NamedTemporaryFile(dir=out) as began:
-            moment = os.stat(began.name).st_mtime_ns
-    except OSError as error:
-        raise Ended(1, f"{out} can't be written: {error.strerror}") from None
-    words = [sys.executable, "tools/prove.py", "xlsx_tool", log]
+    say(f"proving; what rt says goes to {LOG}")
+    for folder in (PLACE, LANES):
+        try:
+            os.makedirs(folder, exist_ok=True)
+            tempfile.TemporaryFile(dir=folder).close()
+        except OSError as error:
+            raise Ended(1, f"{folder} can't be written: {error.strerror}") from None
+    words = [sys.executable, "tools/prove.py", NAME]
     with child_of(words, cwd=TOP, stdin=subprocess.DEVNULL, stdout=2) as child:
         status = status_of(child)
     if status:
-        raise Ended(1, f"xlsx_tool could not be built: the end of {log} says why")
-    # What changes during a build counts as newer than the program.
-    os.utime(PROGRAM, ns=(moment, moment))
+        raise Ended(1, f"{NAME} could not be built: the end of {LOG} says why")
     say("built")
 
 
 class Program:
-    """How the program is run: proved, within so many MiB of address space, or unproved."""
+    """How the program is run: as it is built, within so many MiB of address space, or unproved,
+    where no built one is named."""
 
-    def __init__(self, is_proved, memory):
-        self.is_proved, self.memory = is_proved, memory
+    def __init__(self, built, memory):
+        self.built, self.memory = built, memory
 
     def bound(self):
         """Gives this process the address space that the program may have, in KiB as a shell does.
@@ -170,10 +130,10 @@ class Program:
     def run(self, words, package, output):
         """Runs words on the package text of an open file, by its number, and has the lines go to
         another. The status, and what is said of a refusal."""
-        if not self.is_proved:
+        if self.built is None:
             return self.run_unproved(words, package, output)
         given = {"stdin": package, "stdout": output, "stderr": subprocess.PIPE}
-        with child_of([PROGRAM, *words], self.bound, **given) as child, child.stderr:
+        with child_of([self.built, *words], self.bound, **given) as child, child.stderr:
             said = child.stderr.read()
             return status_of(child), said
 

@@ -1,15 +1,15 @@
 #!/usr/bin/env python3
 """Proves the crates that a program stands on, side by side, and then proves and builds the program.
 
-prove.py PROGRAM LOG          at the top of the repository
+prove.py PROGRAM              at the top of the repository
 
 Standard output has a line for each crate once it is proved, and, where none is for a while, one for
-those at work, with how many of their functions are proved; all that `rt` says goes to the file LOG.
-The status is 0 where all is proved and built, and else 1.
+those at work, with how many of their functions are proved, and one where another proof is waited
+for; all that `rt` says goes to a file (tools/place.py). The status is 0 where all is proved and
+built, and else 1.
 """
 
 import contextlib
-import fcntl
 import os
 import re
 import shutil
@@ -19,6 +19,8 @@ import sys
 import tempfile
 import time
 
+from place import LANES, LOG, PLACE, is_left, locks, needs_of, now, publish
+
 # What one proof may take of memory, in KiB.
 MEMORY = 4 * 1024 * 1024
 
@@ -27,23 +29,6 @@ QUIET = 60
 
 # What `rt` says of functions that are proved: how many are by then, of how many.
 CHECKED = re.compile(rb"^so far: (\d+) of (\d+) functions checked", re.MULTILINE)
-
-
-def needs_of(top, table):
-    """The crates of this repository below one, itself included, each with those it stands on.
-
-    `table` is the text of crates.txt: a line `NAME: CRATE ..` for each crate, and `#` before what
-    isn't read.
-    """
-    lines = (line.split("#")[0].partition(":") for line in table.splitlines())
-    below = {name.split()[0]: needs.split() for name, colon, needs in lines if colon}
-    found, waiting = {}, [top]
-    while waiting:
-        name = waiting.pop()
-        if name not in found:
-            found[name] = [need for need in below[name] if need in below]
-            waiting += found[name]
-    return found
 
 
 def heights(needs):
@@ -77,21 +62,6 @@ def side_by_side():
     return max(1, most)
 
 
-def lock(folder):
-    """Waits until no other run works here, and answers what keeps others out while it is open."""
-    os.makedirs(folder, exist_ok=True)
-    held = os.open(folder, os.O_RDONLY)
-    try:
-        fcntl.flock(held, fcntl.LOCK_EX | fcntl.LOCK_NB)
-    except BlockingIOError:
-        print("xlsx: another proof is at work here, and this one waits for it", flush=True)
-        fcntl.flock(held, fcntl.LOCK_EX)
-    except OSError:
-        # Some file systems have no locks.
-        pass
-    return held
-
-
 def link(old, new):
     """Has a file in a second place, as the same one where the file system allows that."""
     try:
@@ -109,33 +79,40 @@ def place(top, name, *below):
     return os.path.join(top, "crates", name, *below)
 
 
-def move_out(name, old, new):
-    """Moves what is built of a crate to another copy of the repository that has nothing of it."""
-    if os.path.isdir(place(old, name, "out")) and not os.path.lexists(place(new, name, "out")):
-        os.rename(place(old, name, "out"), place(new, name, "out"))
+def clear(folder, kept=()):
+    """Removes what is in a folder, but for what is kept."""
+    for name in os.listdir(folder):
+        path = os.path.join(folder, name)
+        if name not in kept:
+            shutil.rmtree(path) if os.path.isdir(path) else os.remove(path)
 
 
 class Lane:
-    """A copy of the repository, as far as one crate needs it, in which that crate is proved.
+    """A copy of the repository, as far as one crate needs it, in which that crate is proved. What
+    `rt` keeps of the proof stays there, and `rt` finds it for a check in another copy, too.
 
     `rt` keeps others out of the folders of all crates below the one at work, so that two proofs go
     side by side in two copies alone.
     """
 
-    def __init__(self, name, table, folder):
-        self.name, self.top = name, os.path.join(folder, name)
-        os.makedirs(os.path.join(self.top, "crates"))
+    def __init__(self, name, table):
+        self.name, self.top = name, os.path.join(LANES, name)
+        crates = os.path.join(self.top, "crates")
+        os.makedirs(place(self.top, name), exist_ok=True)
+        clear(self.top, ("crates",))
+        clear(crates, (name,))
+        clear(place(self.top, name), ("out",))
         if os.path.exists("HANDLES"):
             link("HANDLES", os.path.join(self.top, "HANDLES"))
         names = needs_of(name, table)
         self.list_crates(names, table)
         for need in names:
-            copy(place(".", need), place(self.top, need), ignore=shutil.ignore_patterns("out"))
-            built = place(".", need, "out", "rlib")
+            to = place(self.top, need)
+            copy(place(".", need), to, ignore=shutil.ignore_patterns("out"), dirs_exist_ok=True)
+            built = place(os.path.join(LANES, need), need, "out", "rlib")
             # Where another `rt` took it away since it was built, this one builds it again.
             if need != name and os.path.isdir(built):
                 copy(built, place(self.top, need, "out", "rlib"))
-        move_out(name, ".", self.top)
 
     def list_crates(self, names, table):
         """Lists these crates alone, since `rt` wants each that is listed to be there."""
@@ -143,17 +120,11 @@ class Lane:
         with open(os.path.join(self.top, "crates.txt"), "w") as own:
             own.writelines(line for line in lines if line.split(":")[0].split(" ")[0] in names)
 
-    def leave(self):
-        """Brings back what is built of the crate."""
-        move_out(self.name, self.top, ".")
-        shutil.rmtree(self.top, ignore_errors=True)
-
 
 class Work:
     """The proof of a crate that is at work in a folder, and what `rt` says of it."""
 
-    def __init__(self, words, folder, held, lane=None):
-        self.lane = lane
+    def __init__(self, words, folder, held):
         self.said = tempfile.TemporaryFile()
         self.child = subprocess.Popen(
             words,
@@ -162,7 +133,7 @@ class Work:
             stdout=self.said,
             stderr=self.said,
             # So others are kept out while it works, also where this process is killed.
-            pass_fds=(held,),
+            pass_fds=held,
         )
 
     def text(self):
@@ -175,9 +146,7 @@ class Work:
         return "" if not told else f", {told[-1][0].decode()} of {told[-1][1].decode()} functions"
 
     def end(self, log):
-        """Adds what was said to the whole log, and has what was built where it belongs."""
-        if self.lane is not None:
-            self.lane.leave()
+        """Adds what was said to the whole log."""
         with self.said:
             log.write(self.text())
         log.flush()
@@ -190,20 +159,21 @@ class Proving:
         self.program, self.table, self.log, self.held = program, table, log, held
         self.needs = needs_of(program, table)
         self.heights = heights(self.needs)
-        self.lanes = place(".", program, "out", "lanes")
         self.proved, self.at_work, self.jobs = set(), {}, {}
         self.began = self.told = time.monotonic()
 
     def begin(self, name, jobs):
-        """Begins the proof of a crate with so many processors, in a copy but for the program's."""
+        """Begins the proof of a crate with so many processors, in a copy."""
         self.jobs[name] = jobs
+        lane = Lane(name, self.table)
+        words = ["rt", "lib", "--jobs", str(jobs)]
         if name == self.program:
             words = ["rt", "run", "--jobs", str(jobs), "--", "--version"]
-            self.at_work[name] = Work(words, place(".", name), self.held)
-        else:
-            lane = Lane(name, self.table, self.lanes)
-            words = ["rt", "lib", "--jobs", str(jobs)]
-            self.at_work[name] = Work(words, place(lane.top, name), self.held, lane)
+        self.at_work[name] = Work(words, place(lane.top, name), self.held)
+
+    def built(self):
+        """The program, as it is built in its copy."""
+        return place(os.path.join(LANES, self.program), self.program, "out", self.program)
 
     def begin_some(self, most):
         """Begins what can be proved now, each with one processor, or with two where no crate waits
@@ -260,18 +230,9 @@ class Proving:
             # What is said then goes nowhere where the log can't be written, either.
             with contextlib.suppress(OSError):
                 work.end(self.log)
-        self.clear()
-
-    def clear(self):
-        """Brings back what is built in a copy that is left of a run that was killed."""
-        if os.path.isdir(self.lanes):
-            for name in os.listdir(self.lanes):
-                move_out(name, os.path.join(self.lanes, name), ".")
-            shutil.rmtree(self.lanes, ignore_errors=True)
 
     def run(self, most):
         """Whether all is proved, with at most so many processors."""
-        self.clear()
         while len(self.proved) < len(self.needs):
             self.begin_some(most)
             if not self.take_ended():
@@ -279,18 +240,25 @@ class Proving:
         return True
 
 
-def main(program, path):
-    with open("crates.txt") as listed:
-        table = listed.read()
+def main(program):
     signal.signal(signal.SIGTERM, lambda number, frame: sys.exit(128 + number))
     signal.signal(signal.SIGHUP, lambda number, frame: sys.exit(128 + number))
-    held = lock(place(".", program, "out"))
-    with open(path, "wb") as log:
+    held, has_waited = locks()
+    if has_waited and is_left():
+        print("xlsx: the other one left a proved program", flush=True)
+        return 0
+    moment = now(PLACE)
+    with open("crates.txt") as listed:
+        table = listed.read()
+    with open(LOG, "wb") as log:
         proving = Proving(program, table, log, held)
         try:
-            return 0 if proving.run(side_by_side()) else 1
+            if not proving.run(side_by_side()):
+                return 1
         finally:
             proving.stop()
+    publish(proving.built(), moment)
+    return 0
 
 
 if __name__ == "__main__":

@@ -214,6 +214,12 @@ FORMULAS = [
         "C1\t-\t=A1048576\t-\nC2\t-\t=#REF!\t-\n",
     ),
     (
+        "of an area between the names of another sheet the second corner moves alone",
+        '<row r="1"><c r="A1"><f t="shared" ref="A1:A2" si="0">\'S\'!A1:\'S\'!B2+\u00e9A1+A1:Ende</f>'
+        '</c></row><row r="2"><c r="A2"><f t="shared" si="0"/></c></row>',
+        "A1\t-\t='S'!A1:'S'!B2+\u00e9A1+A1:Ende\t-\nA2\t-\t='S'!A1:'S'!B3+\u00e9A2+A1:Ende\t-\n",
+    ),
+    (
         "the last master before a derived formula counts, also one that says nothing",
         '<row r="1"><c r="A1"><f t="shared" si="0"/></c><c r="B1">'
         '<f t="shared" ref="B1:D1" si="0">Z1</f></c><c r="C1"><f t="shared" si="0">X9</f></c>'

@@ -20,6 +20,13 @@ OF_TESTS = {
     "worked_writing",
 }
 
+# The newest list that a part says, which is a command, too, and the newest kind of value, by its
+# name in code and in the definitions.
+NEWEST_LIST = "comments"
+NEWEST_VALUE = ("DateTimeIso", "iso_time")
+# Documents that tell of each command and list. The others tell of what was chosen and measured.
+OF_EACH = ("ARCHITECTURE", "CLAUSES", "FORMAT", "PROMISES", "USING")
+
 QUOTED = re.compile(r"`([^`\n]+)`")
 WORD = re.compile(r"[A-Za-z_][A-Za-z0-9_]*")
 NAME = re.compile(r"[A-Za-z_][A-Za-z0-9_]*(?:(?:::|\.)[A-Za-z_][A-Za-z0-9_]*)*(?:\(\))?")
@@ -167,30 +174,80 @@ class Documents(unittest.TestCase):
             with self.subTest(crate=crate):
                 self.assertEqual(sorted(set(self.public_functions(crate)) - told), [])
 
-    def last_command(self):
-        """What names the last command that works on a package that is given, in code and in words."""
-        commands = text(TOP / "crates" / "xlsx_commands" / "specs" / "Command.antt")
-        data = re.search(r"^pub data Command .*\n((?:  .*\n)+)", commands, re.M)[1]
-        name = [own for own in re.findall(r"^  (\w+) :", data, re.M) if own != "sample"][-1]
-        word, variant = name.replace("_", "-"), name.title().replace("_", "")
-        spoken = rf'"{word}"|`{word}[ `]|\bxlsx_tool {word}\b'
-        coded = rf"\b(?:asked\.|Command::){variant}\b|\b{name} (?:sheet|name|parts)\b"
-        return re.compile(f"{spoken}|{coded}")
+    def sought(self):
+        """The files in which a command, a list, a kind of value and an escape have their places:
+        what tests one is its own choice, and so are proofs beside a function, under its name."""
+        for path, code in self.code.items():
+            crate, part, *names = path.relative_to(TOP / "crates").parts
+            is_beside = part == "proofs" and len(names) > 1
+            if not (re.match("worked_|test_", crate) or path.stem.endswith("tests") or is_beside):
+                yield path, re.sub(r"^\s*(?://|--).*$", "", code, flags=re.M)
+        for folder in ("tools", "bench", "samples"):
+            for path in (TOP / folder).glob("*.py"):
+                if not path.stem.startswith("test_"):
+                    yield path, text(path)
+        documents = [TOP / "docs" / f"{name}.md" for name in OF_EACH]
+        for path in (TOP / "README.md", TOP / "samples" / "README.md", *documents):
+            yield path, text(path)
+
+    def places(self, pattern):
+        """The files that have a pattern, by their paths from the top."""
+        named = re.compile(pattern, re.M)
+        found = (path for path, code in self.sought() if named.search(code))
+        return {path.relative_to(TOP).as_posix() for path in found}
+
+    def told(self, title):
+        """The files that a section of the guide tells of."""
+        guide = text(TOP / "CONTRIBUTING.md")
+        section = re.search(rf"^## {title}\n(.*?)^## ", guide, re.M | re.S)[1]
+        told = set(re.findall(r"\b(?:\w+/[\w./]*|README)\.(?:antt|rt|py|md)\b", section))
+        # Beside tests there are paths within the crate that was named before them.
+        return {path for path in told if not re.match("src/|specs/|proofs/|tools/test_", path)}
 
     def test_every_place_of_the_last_command_is_told(self):
-        named = self.last_command()
-        guide = text(TOP / "CONTRIBUTING.md")
-        section = re.search(r"^## To add a command\n(.*?)^## ", guide, re.M | re.S)[1]
-        told = {TOP / one for one in re.findall(r"\b\w+/[\w./]*\.(?:antt|rt|py|md)\b", section)}
-        sought = [TOP / "crates" / "xlsx_commands", TOP / "crates" / "xlsx_tool"]
-        sought = [path for folder in sought for path in sources_in(folder)]
-        sought += [*(TOP / "tools").glob("*.py"), PROMISES[1], TOP / "docs" / "FORMAT.md"]
-        # What tests a command is its own choice.
-        sought = [path for path in sought if "test" not in path.stem]
-        places = {path for path in sought if named.search(text(path))}
-        self.assertEqual(sorted(map(str, places)), sorted(map(str, told & set(sought))))
-        for path in told:
-            self.assertTrue(path.exists(), path)
+        commands = text(TOP / "crates" / "xlsx_commands" / "specs" / "Command.antt")
+        data = re.search(r"^pub data Command .*\n((?:  .*\n)+)", commands, re.M)[1]
+        names = [own for own in re.findall(r"^  (\w+) :", data, re.M) if own != "sample"]
+        self.assertIn(NEWEST_LIST, names)
+        last = names[-1]
+        word, variant = last.replace("_", "-"), last.title().replace("_", "")
+        spoken = rf'"{word}"|`{word}[ `]|\bxlsx_tool {word}\b|book\.xlsx {word}\b'
+        coded = rf"\b(?:asked\.|Command::){variant}\b|\b{last}\b(?= *(?:sheet|name|parts|[:,}}=]))"
+        places, told = self.places(f"{spoken}|{coded}"), self.told("To add a command")
+        self.assertEqual(sorted(places - told), [])
+        # How much a command takes is measured of lists alone.
+        self.assertEqual(sorted(told - places), ["bench/lists.py"])
+
+    def test_every_place_of_the_newest_list_is_told(self):
+        spoken = rf'"{NEWEST_LIST}"|`{NEWEST_LIST}[ `]|\bxlsx_tool {NEWEST_LIST}\b'
+        spoken += rf"|book\.xlsx {NEWEST_LIST}\b|\bxlsx_{NEWEST_LIST}\b|\b{NEWEST_LIST}_by_sheet"
+        spoken += rf"|\b{NEWEST_LIST}\.lines\b"
+        coded, own = rf"(?i:{NEWEST_LIST[:-1]})", f"crates/xlsx_{NEWEST_LIST}/"
+        in_code = {path for path in self.places(coded) if path.startswith("crates/")}
+        in_words = {path for path in self.places(spoken) if not path.startswith("crates/")}
+        places = {path for path in in_code | in_words if not path.startswith(own)}
+        told = self.told("To add a list") | self.told("To add a command")
+        self.assertEqual(sorted(places - told), [])
+        self.assertEqual(sorted(told - places), [])
+
+    def test_every_place_of_the_newest_kind_of_value_is_told(self):
+        places = self.places(rf"\b(?:{'|'.join(NEWEST_VALUE)})\b|ISO date")
+        self.assertEqual(sorted(places - self.told("To add a kind of value")), [])
+        self.assertGreaterEqual(len(places), 25)
+
+    def test_every_place_of_the_escapes_is_told(self):
+        coded = r"\b(?:is_unescaped|unescaped_len|escape_of|special_is_ascii)\b"
+        # The bytes on one line, each behind a backslash.
+        listed = r"^(?=.*\\\\)(?=.*[^\\]\\t)(?=.*[^\\]\\n)(?=.*[^\\]\\r)"
+        listed += r"|\bfour escapes\b|\ba backslash is written\b"
+        told = self.told("To add an escape of a line")
+        self.assertEqual(sorted(self.places(f"{coded}|{listed}")), sorted(told))
+
+    def test_every_file_that_the_guide_names_is_there(self):
+        titles = ("a command", "a list", "a kind of value", "an escape of a line")
+        for title in titles:
+            for path in self.told(f"To add {title}"):
+                self.assertTrue((TOP / path).exists(), path)
 
 
 if __name__ == "__main__":

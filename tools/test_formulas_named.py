@@ -74,6 +74,15 @@ NAMED = [
     # Each time that it stands there.
     ("A1+A1", "A1:A1 A1:A1"),
     ("B2+A1", "B2:B2 A1:A1"),
+    # The words of docs/DIFFERENCES.md, where spreadsheet programs mean something else.
+    ("\u58f2\u4e0aQ1", "Q1:Q1"),
+    ("\u00e9A1", "A1:A1"),
+    ("SUM(A1:INDEX(B:B,3))", "B1:B1048576"),
+    ("INDEX(B:B,3):A1", "B1:B1048576"),
+    ("OFFSET(A1,1,0):B5", "A1:A1"),
+    ("A1:B2:C3", ""),
+    ("A1:Ende", ""),
+    ("Ende:A1", ""),
     # A text, a name or a group that doesn't end.
     ('A1+"B2', "A1:A1"),
     ("A1+'B2", "A1:A1"),

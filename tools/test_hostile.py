@@ -4,8 +4,9 @@ parts that are nested deep or hold the same again and again."""
 import subprocess
 import unittest
 
-from noted import SHEET_NAME, STRINGS_NAME, package_with, refused, told, with_data
-from test_comments import FOUND, ONE
+from noted import RELATIONSHIPS, ROOT, SHEET_NAME, STRINGS_NAME, WORKBOOK_NAME, package_with
+from noted import refused, told, with_data
+from test_comments import FOUND, NOBODY, ONE
 from test_comments import RELATED as TO_COMMENTS
 from test_pivots import DEFINITIONS, PARTS, RECORDS, ROWS
 from test_program import BUILDS, OUT
@@ -187,12 +188,86 @@ PIVOT = [
     counted(RECORDS, "pivotCacheRecords"),
 ]
 
-# The words of a command, the parts before those of the smallest workbook, and the lines.
+LINKED = (
+    SHEET_NAME,
+    '<worksheet><sheetData/><hyperlinks><hyperlink ref="A1:XFD1048576" location="a"/></hyperlinks>'
+    "</worksheet>",
+)
+# The one sheet of a workbook, and its one defined name.
+BOOK = counted(
+    (
+        WORKBOOK_NAME,
+        f'<workbook><bookViews><workbookView activeTab="{MOST}" firstSheet="{MOST}"/></bookViews>'
+        f'<sheets><sheet name="S" sheetId="{MOST}" r:id="rId1"/></sheets><definedNames>'
+        f'<definedName name="n" localSheetId="{MOST}">S!A1:XFD1048576</definedName></definedNames>'
+        "</workbook>",
+    ),
+    "workbook",
+    "sheets",
+    "definedNames",
+)
+RELATED_ONCE = [counted(part, "Relationships") for part in (ROOT, RELATIONSHIPS)]
+OF_BOOK = [BOOK, *RELATED_ONCE]
+OF_CORE = ("docProps/core.xml", "<a><revision>18446744073709551615</revision></a>")
+OF_PROGRAM = (
+    "docProps/app.xml",
+    f"<a><TotalTime>{MOST}</TotalTime><TitlesOfParts><vector size='{MOST}'/></TitlesOfParts>"
+    "<Company>C</Company></a>",
+)
+OF_USERS = ("docProps/custom.xml", f'<a><property pid="{MOST}" name="n"><i8>{MOST}</i8></property></a>')
+PROPERTIES = [counted(part, "a") for part in (OF_CORE, OF_PROGRAM, OF_USERS)]
+THEME = counted(
+    (
+        "xl/theme/theme1.xml",
+        '<theme><themeElements><clrScheme><dk1><srgbClr val="000000"/></dk1></clrScheme>'
+        "</themeElements></theme>",
+    ),
+    "theme",
+    "clrScheme",
+)
+# A shared formula that speaks of the whole sheet, and a value in its last cell.
+WIDE = sheet(
+    f'<row r="1"><c r="A1"><f t="shared" ref="A1:XFD1048576" si="{MOST}">SUM(B1:XFD1048576)</f>'
+    '<v>1</v></c></row><row r="1048576"><c r="XFD1048576"><v>1</v></c></row>'
+)
+
+
+def of_author(number):
+    """The parts of a comment of an author of this number."""
+    name, markup = ONE
+    return [TO_COMMENTS, (name, markup.replace('authorId="0"', f'authorId="{number}"'))]
+
+
+def of_table(more, ref="A1:XFD1048576"):
+    """Those of a table with these attributes."""
+    return [RELATED, (TABLE_NAME, table(more, ref)), NUT]
+
+
+TOO_LARGE = [(10, b"", b"box too large\n")]
+
+# The words of a command, the parts before those of the smallest workbook, and the lines or the
+# refusal: of each part that is read the counts, the numbers and the areas that it may declare.
 LISTS = [
+    (["sheets"], OF_BOOK, "S\tworksheet\tvisible\n"),
+    (["names"], OF_BOOK, "n\tS!A1:XFD1048576\n"),
+    (["cells", "S"], [*OF_BOOK, THEME], "A1\ts:nut\t-\t-\n"),
+    (["props"], PROPERTIES, f"revision\t={MOST}\ncompany\t=C\ncustom:n\t={MOST}\n"),
     (["merges", "S"], [counted(MERGED, "mergeCells")], "A1:XFD1048576\n"),
+    (["links", "S"], [counted(LINKED, "hyperlinks")], "A1:XFD1048576\t-\t=a\t-\t-\n"),
+    (["cells", "S"], WIDE, "A1\tn:1\t=SUM(B1:XFD1048576)\t-\nXFD1048576\tn:1\t-\t-\n"),
+    (["precedents", "S"], WIDE, "A1\tB1:XFD1048576\n"),
+    (["dependents", "S", "XFD1048576"], WIDE, "A1\n"),
+    (["check", "S"], WIDE, "A1\tagrees\n"),
+    (["csv", "S"], WIDE, TOO_LARGE),
     (["tables"], TABLE, "T1\tS\tA2:B1048576\tName\tQty\n"),
     (["table", "T1"], TABLE, "A2\ts:nut\nB2\tn:3\n"),
+    (["tables"], of_table(""), "T1\tS\tA2:XFD1048576\tName\tQty\n"),
+    (["csv-table", "T1"], of_table(""), TOO_LARGE),
+    (["tables"], of_table(f'headerRowCount="{2**32 - 1}"'), "T1\tS\t-\tName\tQty\n"),
+    (["tables"], of_table(f'totalsRowCount="{MOST}"'), refused(f"Parse integer error: {MOST}")),
     (["comments", "S"], [TO_COMMENTS, counted(ONE, "authors", "commentList")], FOUND),
+    (["comments", "S"], of_author(MOST), NOBODY),
+    (["comments", "S"], of_author(MOST + 1), NOBODY),
     (["pivots"], PIVOT, "S\tP1\n"),
     (["pivot", "S", "P1"], PIVOT, ROWS),
 ]
@@ -210,8 +285,8 @@ class Hostile(unittest.TestCase):
             self.check(["cells", "S"], parts, wanted, shown)
 
     def test_lists_go_by_no_count(self):
-        for words, parts, lines in LISTS:
-            self.check(words, parts, lines, words)
+        for words, parts, wanted in LISTS:
+            self.check(words, parts, wanted, words)
 
 
 if __name__ == "__main__":

@@ -110,12 +110,12 @@ class Saving(FrontCopy):
 
     def test_words_that_write_no_workbook_file(self):
         self.answer_with(package_text(MINIMAL, 2))
-        takes = "takes the name of a sheet, or --sheet and its number"
+        sheet = "the name of a sheet, or --sheet and its number, or neither for the first worksheet"
+        quotes = "put a name that has blanks in quotes"
         for words, said in (
-            (["resave", "S", "--to"], f"resave {takes}, and behind --to that of a file"),
-            (["resave", "--to", "o"], f"resave {takes}, and behind --to that of a file"),
-            (["resave", "S", "--to", "o", "p"], f"resave {takes}, and behind --to that of a file"),
-            (["cells", "S", "--to", "o"], f"cells {takes}: put a name that has blanks in quotes"),
+            (["resave", "S", "--to"], "--to takes the name of a file"),
+            (["resave", "S", "--to", "o", "p"], f"resave takes {sheet}: {quotes}"),
+            (["cells", "S", "--to", "o"], "cells takes no option '--to'"),
             (
                 ["resave", "--sheet", "0", "--to", "o"],
                 "--sheet takes the number of a sheet, from 1, and not '0'",

@@ -1,6 +1,7 @@
-"""Tries the sources for what no clause can say: where want of memory is told of, that each public
-type with `==` or copies has its law, that functions and files are short enough to be read, and that
-each example in a doc comment is code."""
+"""Tries the sources for what no clause can say: where want of memory is told of, where memory is
+asked for by a number, and what bounds that, that each public type with `==` or copies has its law,
+that functions and files are short enough to be read, and that each example in a doc comment is
+code."""
 
 import pathlib
 import re
@@ -36,6 +37,29 @@ TOLD = {
     ("xlsx_tool/run.rt", "value_from", 1): "the reader of JSON says that it has none",
 }
 
+# Where memory is asked for by a number, and what bounds that number: what is held or written already,
+# or a constant. None is what a file says of itself.
+OF_TEXT = "the bytes of the text that is appended"
+OF_EVENTS = "the texts of the event that is kept, and one or two events"
+OF_CELLS = "the cells that are held"
+RESERVED = {
+    ("attr_text/line_ends.rt", "push_line_ends", 1): OF_TEXT,
+    ("cell_data/gathered.rt", "sorted_of", 1): OF_CELLS,
+    ("cell_refs/reference_text.rt", "push_reference", 1): "a reference of a worksheet, 10 bytes",
+    ("decimals/decimal.rt", "push_to", 1): "the longest text of a decimal, 61 bytes",
+    ("formula_shift/reference.rt", "push_to", 1): "a reference of a worksheet with two $, 12 bytes",
+    ("part_events/stored.rt", "push", 2): OF_EVENTS,
+    ("part_events/stored.rt", "push_empty", 2): OF_EVENTS,
+    ("sorted_cells/sorted.rt", "push", 1): "the one cell that is pushed",
+    ("sorted_cells/sorted.rt", "with_capacity", 2): "what its callers ask for, each of them here",
+    ("xlsx_core/ranges.rt", "with_texts", 1): OF_CELLS,
+    ("xlsx_core/ranges.rt", "written_out", 1): OF_CELLS,
+    ("xlsx_precedents/index.rt", "gather", 1): "the formulas that are held",
+    ("xlsx_precedents/numbers.rt", "no_numbers", 1): "the blocks of a worksheet, 1,024",
+    ("xlsx_tool/sink.rt", "new", 1): "the room of a sink of tests, which its caller names",
+}
+
+ASKS = re.compile(r"\b(?:try_)?(?:with_capacity|reserve)\w*(?=\()")
 FUNCTION = re.compile(r"\bfn (\w+)")
 CONVERSION = re.compile(
     r"^impl(?:<[^>]*>)? From<Alloc(?:Error|Failed<\w+>)> for \w+ \{$.*?^\}$", re.M | re.S
@@ -96,17 +120,37 @@ def tells_of_memory(line):
     return bool(re.search(r"\bAllocError\b", bare))
 
 
-def places_of(name, code):
-    """The functions that tell of want of memory, with how many of their lines do."""
-    code = without_clauses(without(ENUM, without(CONVERSION, code)))
+def functions_with(test, name, code):
+    """The functions that have lines of a kind, with how many."""
     counts = {}
     function = None
     for line in code.splitlines():
         if named := FUNCTION.search(line):
             function = named.group(1)
-        if tells_of_memory(line):
+        if test(line):
             counts[name, function] = counts.get((name, function), 0) + 1
     return {(*place, count) for place, count in counts.items()}
+
+
+def places_of(name, code):
+    """The functions that tell of want of memory, with how many of their lines do."""
+    code = without_clauses(without(ENUM, without(CONVERSION, code)))
+    return functions_with(tells_of_memory, name, code)
+
+
+def asking_places_of(name, code):
+    """The functions that ask for memory by a number, with how many of their lines do."""
+    return functions_with(ASKS.search, name, without_clauses(code))
+
+
+def places(of):
+    """The places of one of these kinds in the crates."""
+    found = set()
+    for folder in crates():
+        for path in sorted((folder / "src").glob("*.rt")):
+            if not path.stem.endswith("tests"):
+                found |= of(f"{folder.name}/{path.name}", text(path))
+    return found
 
 
 def exported(root):
@@ -148,12 +192,15 @@ def stands_in(example, code):
 
 class Sources(unittest.TestCase):
     def test_want_of_memory_is_told_of_in_these_places_alone(self):
-        found = set()
-        for folder in crates():
-            for path in sorted((folder / "src").glob("*.rt")):
-                if not path.stem.endswith("tests"):
-                    found |= places_of(f"{folder.name}/{path.name}", text(path))
-        self.assertEqual(found, set(TOLD))
+        self.assertEqual(places(places_of), set(TOLD))
+
+    def test_memory_is_asked_for_by_a_number_in_these_places_alone(self):
+        self.assertEqual(places(asking_places_of), set(RESERVED))
+        body = "fn wide(count: u32) -> Result<(), AllocError> {\n    %s\n}\n"
+        for made in ("Vec::with_capacity(alloc, n)?", "out.reserve(n)?", "out.try_reserve_exact(n)"):
+            self.assertEqual(asking_places_of("x.rt", body % made), {("x.rt", "wide", 1)}, made)
+        for plain in ("out.push(n)?", "// out.reserve(n)", "let reserve = n;"):
+            self.assertEqual(asking_places_of("x.rt", body % plain), set(), plain)
 
     def test_a_refusal_of_memory_that_is_made_up_is_found(self):
         body = "fn wide(row: u32) -> Result<(), AllocError> {\n    %s\n}\n"

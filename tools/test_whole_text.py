@@ -8,10 +8,12 @@ import tempfile
 import unittest
 import warnings
 
+from escapes import unescaped
 from fixtures import BROKEN_THEME, LISTED, MINIMAL, MIXED, SALES, archive, relationships
-from front import Book, Front, Refused, unescaped
+from front import Book, Front, Refused
 from package_text import Refusal, Sheets, workbook_of
-from program import LIMIT, PROGRAM, Program
+from place import OF_GATE
+from program import LIMIT, Program
 from words import COMMANDS
 
 SAMPLES = pathlib.Path(__file__).resolve().parent.parent / "samples"
@@ -255,7 +257,7 @@ class WholeText(unittest.TestCase):
         """What is answered on the parts that are chosen for the words."""
         with contextlib.ExitStack() as stack:
             try:
-                front = Front(Program(True, 4096), Book(path, LIMIT, stack))
+                front = Front(Program(OF_GATE, 4096), Book(path, LIMIT, stack))
                 fed = front.package(words).input()
                 with tempfile.TemporaryFile() as out:
                     status, said = front.program.run(words, fed, out.fileno())
@@ -274,7 +276,7 @@ class WholeText(unittest.TestCase):
             return lambda words: refused
 
         def answer(words):
-            ran = subprocess.run([PROGRAM, *words], input=text, capture_output=True)
+            ran = subprocess.run([OF_GATE, *words], input=text, capture_output=True)
             return ran.returncode, ran.stdout, ran.stderr
 
         return answer

@@ -1,5 +1,6 @@
 """Tries ./xlsx with a program and an rt that stand in for the real ones, and with those."""
 
+import fcntl
 import os
 import re
 import resource
@@ -11,7 +12,7 @@ import unittest
 
 from fixtures import LINES, MINIMAL, archive, package_text, relationships
 from front_copy import TOP, FrontCopy
-from words import COMMANDS, USAGE
+from words import COMMANDS, USAGE, is_of_sheet
 
 PROGRAM = TOP / "crates" / "xlsx_tool" / "out" / "xlsx_tool"
 
@@ -49,6 +50,18 @@ pivot:*) echo "Pivot Table '$3' was not found on worksheet" >&2; exit 6 ;;
     printf '%s of %s\\n' "$1" "$2" ;;
 esac
 """
+# Tells its words, and of one sheet.
+WORDED = """\
+#!/bin/sh
+cat >/dev/null
+[ "$1" != sheets ] || { printf 'First\\tworksheet\\tvisible\\n'; exit; }
+[ "$1" != tables ] || exit 0
+[ "$1" != part ] || { echo xl/worksheets/sheet1.xml; exit; }
+said=$1
+shift
+for word; do said="$said | $word"; done
+printf '%s\\n' "$said"
+"""
 # Tells which parts the package has.
 FED = """\
 #!/bin/sh
@@ -81,7 +94,7 @@ class Wrapper(FrontCopy):
     # The build
 
     def log(self):
-        return self.crate / "out" / "proving.log"
+        return self.place / "proving.log"
 
     def proving(self, *proved):
         """What is said before and during a build in which these crates are proved."""
@@ -113,10 +126,10 @@ class Wrapper(FrontCopy):
         prove.write_text(prove.read_text().replace("os.cpu_count() or 1", "2"))
         status, lines, said = self.run_on("cells", "0", data=b"12")
         self.assertEqual((status, lines), (0, b"cells 0: 2\n"), said)
-        # What is built lies beside its crate, and the copies are gone.
+        # What is built lies beside the program's copy, and nothing in the crates.
         built = [f"../{name}/out/rlib" for name in ("left", "low", "right")]
         self.assertEqual(self.log().read_text().splitlines()[-3:], built)
-        self.assertFalse((self.crate / "out" / "lanes").is_dir())
+        self.assertEqual(list(crates.glob("*/out")), [])
 
     def test_a_second_proof_waits_for_the_first(self):
         self.written("waiting", "")
@@ -129,12 +142,44 @@ class Wrapper(FrontCopy):
         waits = b"xlsx: another proof is at work here, and this one waits for it\n"
         self.assertEqual(sum(waits in error for _, error in said), 1, said)
 
-    def test_what_an_ended_proof_left_is_no_hindrance(self):
-        left = self.crate / "out" / "lanes" / "low" / "crates" / "low" / "out"
-        left.mkdir(parents=True)
-        (left / "kept").write_text("")
+    def test_what_an_ended_proof_left_is_begun_with(self):
+        self.run_on("cells", "0")
+        self.program.unlink()
+        (lanes,) = (self.folder / "cache").glob("xlsx-*/lanes")
+        crate = lanes / "low" / "crates" / "low"
+        for name in ("out/kept", "src/gone"):
+            (crate / name).parent.mkdir(exist_ok=True)
+            (crate / name).write_text("")
+        (crate.parent / "gone").mkdir()
+        (lanes / "low" / "gone").mkdir()
         self.assertEqual(self.run_on("cells", "0"), (0, b"cells 0: 0\n", self.built()))
-        self.assertTrue((self.crate.parent / "low" / "out" / "kept").is_file())
+        found = [str(path.relative_to(crate.parent.parent)) for path in crate.rglob("*")]
+        self.assertEqual(sorted(found), [f"crates/low/out{end}" for end in ("", "/kept", "/rlib")])
+
+    def test_what_is_built_has_a_place_without_git_and_in_a_worktree(self):
+        git = self.place.parent
+        git.rmdir()
+        self.assertEqual(self.run_on("cells", "0")[:2], (0, b"cells 0: 0\n"))
+        self.assertEqual(len(list((self.folder / "cache").glob("xlsx-*/xlsx_tool"))), 1)
+        git.write_text("gitdir: ../of/worktree\n")
+        (self.folder / "of" / "worktree").mkdir(parents=True)
+        self.assertEqual(self.run_on("cells", "0")[:2], (0, b"cells 0: 0\n"))
+        self.assertTrue((self.folder / "of" / "worktree" / "xlsx" / "xlsx_tool").is_file())
+
+    def test_the_program_of_the_gate_is_taken_if_it_is_whole_and_nobody_works_on_it(self):
+        left = self.crate / "out" / "xlsx_tool"
+        left.parent.mkdir()
+        shutil.copy(self.folder / "program", left)
+        held = os.open(self.crate, os.O_RDONLY)
+        fcntl.flock(held, fcntl.LOCK_EX)
+        self.assertFalse(self.run_on("--help")[1].endswith(b"\npage\n"))
+        os.close(held)
+        self.written("failing", "")
+        self.assertEqual(self.run_on("cells", "0"), (0, b"cells 0: 0\n", ""))
+        self.assertEqual(self.program.read_bytes(), left.read_bytes())
+        self.program.unlink()
+        left.write_bytes(b"#!/bin/sh\nexit 1\n")
+        self.assertEqual(self.run_on("cells", "0")[0], 1)
 
     def test_a_long_proof_tells_how_far_it_is(self):
         self.written("waiting", "")
@@ -249,8 +294,8 @@ class Wrapper(FrontCopy):
 
     def test_words_that_are_no_command(self):
         """What is wrong is told, before anything is built or read."""
-        sheet = "the name of a sheet, or --sheet and its number"
-        quotes = "put a name that has blanks in quotes"
+        sheet = "the name of a sheet, or --sheet and its number, or neither for the first worksheet"
+        quotes, reference = "put a name that has blanks in quotes", "and the reference of a cell"
         rows = "sample takes a number of rows, from 1 to 20,000"
         number = "--sheet takes the number of a sheet, from 1, and not"
         no_file = "and no file of that name"
@@ -260,8 +305,6 @@ class Wrapper(FrontCopy):
             (["cell", "S"], f"there is no command 'cell', {no_file}: the nearest is cells"),
             (["none"], f"there is no command 'none', {no_file}"),
             (["CSV", "S"], f"there is no command 'CSV', {no_file}: the nearest is csv"),
-            (["cells"], f"cells takes {sheet}"),
-            (["csv"], f"csv takes {sheet}"),
             (["cells", "Sheet", "1"], f"cells takes {sheet}: {quotes}"),
             (["sheets", "S"], "sheets takes no further words"),
             (["-h"], "there is no option '-h'"),
@@ -275,9 +318,28 @@ class Wrapper(FrontCopy):
             (["cells", b"\xff"], "'\\udcff' isn't UTF-8"),
             (["--unproved", "book.xlsx", "cell", "S"], f"{no_command} 'cell': the nearest is cells"),
             (["book.xlsx", "list"], "there is no command 'list': the nearest is links"),
-            (["book.xlsx", "cells"], f"cells takes {sheet}"),
+            (["book.xlsx", "cells", "--", "S", "--sheet"], f"cells takes {sheet}: {quotes}"),
+            (["book.xlsx", "cells", "S", "--sheet", "2"], f"cells takes {sheet}"),
             (["book.xlsx", "table"], "table takes the name of a table"),
-            (["book.xlsx", "pivot", "S"], "pivot takes two names, of a sheet and of a pivot table"),
+            (["book.xlsx", "table", "--sheet", "2"], "table takes no option '--sheet'"),
+            (["book.xlsx", "pivot"], f"pivot takes {sheet}, and the name of a pivot table"),
+            (["dependents", "S"], f"dependents takes {sheet}, {reference}, and not 'S'"),
+            (["book.xlsx", "dependents"], f"dependents takes {sheet}, {reference}"),
+            (["book.xlsx", "cells", "--dates"], "cells takes no option '--dates'"),
+            (["book.xlsx", "--dates", "cells"], "cells takes no option '--dates'"),
+            (["book.xlsx", "csv", "--date", "S"], "csv takes no option '--date'"),
+            (["book.xlsx", "csv", "S", "--dates", "--dates"], "--dates stands twice behind csv"),
+            (["book.xlsx", "csv", "--digits", "3"], "csv takes no option '--digits'"),
+            (["book.xlsx", "cells", "--sheet"], "--sheet takes the number of a sheet, from 1"),
+            (["cells", "--sheet", "1", "--sheet", "1"], "--sheet stands twice"),
+            (["book.xlsx", "csv", "--all"], "--all takes the name of a folder"),
+            (["book.xlsx", "csv", "S", "--all", "x"], "csv --all takes a folder, and no sheet"),
+            (["book.xlsx", "cells", "--all", "x"], "cells takes no option '--all'"),
+            (["book.xlsx", "csv", "--to", "x"], "csv takes no option '--to'"),
+            (["book.xlsx", "resave", "S", "--to"], "--to takes the name of a file"),
+            (["book.xlsx", "sheets", "--crlf"], "sheets takes no option '--crlf'"),
+            (["cells", "--help"], "--help stands alone"),
+            (["--dates"], "there is no command beside '--dates'"),
             (["book.xlsx", "sample", "5"], "sample makes its own package, and reads no file"),
             (["book.xlsx", "-h"], "there is no option '-h'"),
             (["book.xlsx", "--help"], "--help stands alone"),
@@ -324,8 +386,6 @@ class Wrapper(FrontCopy):
             with open(self.book, "rb") as file:
                 ran = self.run_on("cells", "--sheet", number, data=None, stdin=file)
             self.assertEqual(ran, wanted)
-        # This is the sheet of that name.
-        self.assertEqual(self.run_on("book.xlsx", "csv", "--sheet")[1], b"csv of --sheet\n")
         for number, said in (
             ("6", "there is no sheet 6: the workbook has 5 sheets"),
             ("9" * 30, f"there is no sheet {10**10}: the workbook has 5 sheets"),
@@ -334,9 +394,44 @@ class Wrapper(FrontCopy):
             ran = self.run_on("book.xlsx", "cells", "--sheet", number)
             self.assertEqual(ran, (6, b"", f"xlsx: {said}\n"))
 
-    def test_the_first_worksheet_as_csv(self):
+    def test_the_first_worksheet_where_no_sheet_is_named(self):
         self.list_with()
-        self.assertEqual(self.run_on("book.xlsx", "csv"), (0, b"csv of First\n", ""))
+        for command in COMMANDS.values():
+            if is_of_sheet(command):
+                more = {"dependents": ["A1"], "pivot": ["none"]}.get(command.word, [])
+                wanted = self.run_on("book.xlsx", command.word, "First", *more)
+                self.assertIn(b"First", wanted[1] + wanted[2].encode())
+                self.assertEqual(self.run_on("book.xlsx", command.word, *more), wanted)
+                self.assertEqual(self.run_on(command.word, *more, data=b"{}")[:2], wanted[:2])
+        self.build(self.written("none", "#!/bin/sh\nprintf 'Chart\\tchartsheet\\tvisible\\n'\n"))
+        ran = self.run_on("book.xlsx", "cells")
+        self.assertEqual(ran, (6, b"", "xlsx: the workbook has no worksheet\n"))
+
+    def test_options_stand_anywhere_and_names_behind_two_hyphens(self):
+        self.build(self.written("words", WORDED))
+        csv = ["csv", "S", "--dates", "--crlf"]
+        for words, wanted in (
+            (["csv", "S", "--dates", "--crlf"], csv),
+            (["csv", "--dates", "S", "--crlf"], csv),
+            (["--dates", "csv", "--crlf", "S"], csv),
+            (["csv", "--dates", "--crlf"], ["csv", "First", *csv[2:]]),
+            (["csv", "--dates", "--sheet", "1"], ["csv", "First", "--dates"]),
+            (["--sheet", "1", "cells"], ["cells", "First"]),
+            (["dependents", "--sheet", "1", "A1"], ["dependents", "First", "A1"]),
+            (["csv", "--crlf", "--", "--dates"], ["csv", "--dates", "--crlf"]),
+            (["cells", "--", "--"], ["cells", "--"]),
+            (["pivot", "--", "-a", "--b"], ["pivot", "-a", "--b"]),
+            (["csv-table", "--bom", "--", "--bom"], ["csv-table", "--bom", "--bom"]),
+        ):
+            with self.subTest(words=words):
+                said = f"{' | '.join(wanted)}\n".encode()
+                self.assertEqual(self.run_on("book.xlsx", *words), (0, said, ""))
+                self.assertEqual(self.run_on(*words, data=b"{}"), (0, said, ""))
+        first = [*csv[2:], "book.xlsx", "csv", "S"]
+        self.assertEqual(self.run_on(*first), (0, f"{' | '.join(csv)}\n".encode(), ""))
+        self.program.unlink()
+        ran = self.run_on("book.xlsx", "cells", "0", "--unproved")
+        self.assertEqual(ran, (0, f"cells 0: {self.size}\n".encode(), UNPROVED))
 
     def test_all_worksheets_as_csv(self):
         self.list_with()
@@ -349,6 +444,42 @@ class Wrapper(FrontCopy):
             "%2E%25.csv": "csv of .%\n",
         }
         self.assertEqual(written, wanted)
+
+    def test_a_folder_of_workbooks_side_by_side_and_in_an_array_of_jobs(self):
+        """As docs/USING.md shows it, word for word."""
+        self.list_with()
+        using = (TOP / "docs" / "USING.md").read_text(encoding="utf-8")
+        blocks = using.split("```rust")[0].split("```\n")[1::2]
+        folder, job = (block for block in blocks if "xargs" in block or "SLURM" in block)
+        top = self.folder / "top"
+        (top / "books" / "more").mkdir(parents=True)
+        for name in ("a b.xlsx", "more/it's.xlsx"):
+            shutil.copy(self.book, top / "books" / name)
+        (top / "books" / "no.xlsx").write_text("nut")
+        names = ["books/a b.xlsx", "books/more/it's.xlsx", "books/no.xlsx"]
+        (top / "list").write_text("".join(f"{name}\n" for name in names))
+        given = {"cwd": top, "env": self.environment(), "stdout": subprocess.PIPE}
+        wanted = [f"{status} {name}" for status, name in zip((0, 0, 14), names)]
+        subprocess.run(["sh", "-c", folder], **given)
+        told = (top / "statuses").read_text().splitlines()
+        self.assertEqual(sorted(told, key=lambda line: line.split(" ", 1)[1]), wanted)
+        self.check_written(names)
+        for number, line in enumerate(wanted, 1):
+            given["env"]["SLURM_ARRAY_TASK_ID"] = str(number)
+            ran = subprocess.run(["sh", "-c", job], **given)
+            self.assertEqual((ran.stdout, f"{ran.returncode} {names[number - 1]}"), (b"", line))
+            self.assertEqual((top / f"{names[number - 1]}.status").read_text(), f"{line}\n")
+        self.check_written(names)
+
+    def check_written(self, names):
+        """What stands beside two workbooks and one that is none, and none of it any more."""
+        for name in names:
+            made = [self.folder / "top" / f"{name}{end}" for end in (".csv", ".said")]
+            none = "" if name != names[-1] else f"{name}: no zip archive, and so no .xlsx workbook\n"
+            first = "" if none else "csv of First\n"
+            self.assertEqual([path.read_text() for path in made], [first, none])
+            for path in made:
+                path.unlink()
 
     def test_no_worksheet_is_written_where_one_is_refused(self):
         self.list_with()
@@ -584,11 +715,14 @@ class Wrapper(FrontCopy):
 
     def test_the_words_that_are_commands_are_those_of_the_program(self):
         self.build(PROGRAM)
+        of_sheets = [command.word for command in COMMANDS.values() if is_of_sheet(command)]
+        others = [word for word in COMMANDS if word not in of_sheets]
         for words in (
-            *([word] for word in (*COMMANDS, "--help", "--version", "x", "")),
-            *([word, "S"] for word in (*COMMANDS, "--help", "Cells", "")),
+            # Where no sheet is named, it is found before the program gets its words.
+            *([word] for word in (*others, "--help", "--version", "x", "")),
+            *([word, "S"] for word in (*COMMANDS, "--help", "Cells", "") if word != "pivot"),
             ["cells", "S", "x"],
-            ["cells", "--help"],
+            ["pivot", "S", "x"],
             *(["dependents", "S", word] for word in REFERENCES),
             ["dependents", "S", "A1", "B1"],
         ):
@@ -611,6 +745,15 @@ class Wrapper(FrontCopy):
             self.assertEqual(
                 self.run_on("book.xlsx", "cells", "S", stdout=full), (7, None, "write fault\n")
             )
+
+    def test_the_first_command_of_the_readme_prints_what_stands_there(self):
+        self.build(PROGRAM)
+        readme = (TOP / "README.md").read_text(encoding="utf-8")
+        found = re.search(r"^\$ \./xlsx --unproved (.*) \| head -n 4\n([^`]*)```\n", readme, re.M)
+        (sample, *words), shown = found[1].split(), found[2]
+        status, lines, said = self.run_on(TOP / sample, *words)
+        self.assertEqual((status, said), (0, ""))
+        self.assertEqual("".join(lines.decode().splitlines(keepends=True)[:4]), shown)
 
     def test_all_worksheets_of_all_samples(self):
         self.build(PROGRAM)

@@ -21,7 +21,7 @@ class Reads(enum.Enum):
     NONE = "none"
 
 
-A_SHEET = "the name of a sheet, or --sheet and its number"
+A_SHEET = "the name of a sheet, or --sheet and its number, or neither for the first worksheet"
 A_CELL = f"{A_SHEET}, and the reference of a cell"
 A_TABLE = "the name of a table"
 NOTHING = "no further words"
@@ -103,9 +103,8 @@ COMMANDS = {
             A_SHEET,
             Reads.SHEET,
             (
-                "prints the rows of the values of the worksheet NAME as CSV. Behind the",
-                "name, each at most once: --dates --digits=N --delimiter=C --crlf --bom",
-                "--from-a1",
+                "prints the rows of the values of the worksheet NAME as CSV, with options,",
+                "each at most once: --dates --digits=N --delimiter=C --crlf --bom --from-a1",
             ),
         ),
         Command(
@@ -115,7 +114,7 @@ COMMANDS = {
             Reads.TABLE,
             (
                 "prints the names of the columns and the rows of the table NAME as CSV.",
-                "The options of csv stand behind the name, but for --from-a1",
+                "It takes the options of csv, but for --from-a1",
             ),
         ),
         Command(
@@ -145,7 +144,7 @@ COMMANDS = {
         Command(
             "pivot",
             ("SHEET", "NAME"),
-            "two names, of a sheet and of a pivot table",
+            f"{A_SHEET}, and the name of a pivot table",
             Reads.NONE,
             (
                 "prints one line for each row of the cache of the pivot table NAME on",
@@ -225,8 +224,8 @@ COMMANDS = {
     )
 }
 
-# What may stand behind the name of a command that writes CSV, each once and in any order: words
-# alone, and words with a value.
+# The options of a command that writes CSV, each once and in any order: words alone, and words with
+# a value.
 FLAGS = {
     "csv": ("--dates", "--crlf", "--bom", "--from-a1"),
     "csv-table": ("--dates", "--crlf", "--bom"),
@@ -246,8 +245,21 @@ NO_DELIMITER = ('"', "\r", "\n")
 # This one is of ./xlsx alone, and takes a file.
 PACKAGE = "package"
 
-# The command whose answer can be written as a workbook file, and what stands before its name.
+# The command whose answer can be written as a workbook file, and the option before the file's name;
+# that for a folder, of csv alone, and that for the number of a sheet.
 SAVED, TO = "resave", "--to"
+ALL, NUMBER = "--all", "--sheet"
+
+# These options have a value in the next word. Behind END each word is a name.
+WITH_VALUES = {
+    TO: f"{TO} takes the name of a file",
+    ALL: f"{ALL} takes the name of a folder",
+    NUMBER: f"{NUMBER} takes the number of a sheet, from 1",
+}
+END = "--"
+
+# This one stands anywhere.
+WITHOUT_PROOF = "--unproved"
 
 # These ask for a page of the program.
 PAGES = ("--help", "--version")
@@ -284,12 +296,13 @@ WORDS are those of the program xlsx_tool:
 
 {commands}
 
-In place of the name of a sheet --sheet N is the sheet that stands at N among all, from 1.
-`csv' behind a FILE and without a name is the first worksheet, and
+In place of the name of a sheet --sheet N is the sheet that stands at N among all, from 1, and
+no name is the first worksheet. A word that begins with -- is an option wherever it stands, but
+that behind a word -- alone each is a name. And
 
     csv --all FOLDER
                   writes each worksheet as CSV into a file of FOLDER, by its name: none
-                  where one of them is refused. Options stand behind FOLDER
+                  where one of them is refused
     resave NAME --to OUT.xlsx
                   writes the package of `resave NAME' as a workbook file: nothing
                   where it is refused
@@ -351,74 +364,85 @@ def is_of_sheet(command):
     return command.takes in (A_SHEET, A_CELL) or command.parameters[:1] == ("SHEET",)
 
 
-def parted(words):
-    """The words of a command, and the options behind them."""
-    if not words or words[0] not in FLAGS:
-        return words, []
-    count = 3 if words[0] == "csv" and words[1:2] in (["--sheet"], ["--all"]) else 2
-    options = words[count:]
-    if all(option.startswith("--") for option in options):
-        return words[:count], options
-    return words, []
+class Asked:
+    """What words ask for: a command with its names and options, the number of a sheet, the folder
+    of `csv --all`, and the file of `resave --to`."""
+
+    def __init__(self, words):
+        self.names, self.options, values = [], [], {}
+        left = iter(words)
+        for word in left:
+            if word == END:
+                self.names += left
+            elif word in WITH_VALUES:
+                if word in values:
+                    raise Faulty(f"{word} stands twice")
+                values[word] = next(left, None)
+                if values[word] is None:
+                    raise Faulty(WITH_VALUES[word])
+            elif word.startswith(END):
+                self.options.append(word)
+            else:
+                self.names.append(word)
+        self.values, self.has_page = values, False
+        self.number, self.folder, self.saved = (values.get(key) for key in (NUMBER, ALL, TO))
+        if self.options and self.options[0] in PAGES and len(words) == 1:
+            self.names, self.options, self.has_page = self.options, [], True
+        self.word = self.names.pop(0) if self.names else None
+
+    def is_page(self):
+        return self.has_page
+
+    def is_package(self):
+        return self.word == PACKAGE
+
+    def command(self):
+        return COMMANDS.get(self.word)
+
+    def lacks_sheet(self):
+        """Whether the sheet is told by its number, or not at all."""
+        command = self.command()
+        count = len(command.parameters) if command is not None else 0
+        return self.folder is None and count == len(self.names) + 1 and is_of_sheet(command)
+
+    def is_read_again(self):
+        """Whether the sheets are asked for before the command."""
+        return self.lacks_sheet() or self.folder is not None
+
+    def of_program(self, sheet=None):
+        """The program's words, where the sheet has this name if they lack it."""
+        first = [sheet] if self.lacks_sheet() else []
+        return [self.word, *first, *self.names, *self.options]
 
 
-def wrong_option(word, options):
-    """What is wrong with the options behind a name, or nothing."""
-    given = set()
-    for option in options:
+def wrong_option(asked):
+    """What is wrong with the options of a command, or nothing."""
+    word, given = asked.word, set()
+    takes = {NUMBER: is_of_sheet(asked.command()), ALL: word == "csv", TO: word == SAVED}
+    for key in asked.values:
+        if not takes[key]:
+            return f"{word} takes no option '{key}'"
+    for option in asked.options:
         key, equals, value = option.partition("=")
         if key in given:
             return f"{key} stands twice behind {word}"
         given.add(key)
-        if equals and key in SETTINGS:
-            form, takes = SETTINGS[key]
+        if equals and key in SETTINGS and word in FLAGS:
+            form, wanted = SETTINGS[key]
             if not form.fullmatch(value) or value in NO_DELIMITER:
-                return f"{key} takes {takes}, and not '{value}'"
-        elif option not in FLAGS[word]:
+                return f"{key} takes {wanted}, and not '{value}'"
+        elif option not in FLAGS.get(word, ()):
             return f"{word} takes no option '{option}'"
     return None
 
 
-def has_number(words):
-    """Whether a sheet is told by its number among these words of a command."""
-    words, _ = parted(words)
-    command = COMMANDS.get(words[0]) if words else None
-    return (
-        command is not None
-        and is_of_sheet(command)
-        and len(words) == len(command.parameters) + 2
-        and words[1] == "--sheet"
-    )
-
-
-def is_all(words):
-    """Whether words ask for each worksheet as CSV."""
-    words, _ = parted(words)
-    return len(words) == 3 and words[:2] == ["csv", "--all"]
-
-
-def is_of_program(words):
-    """Whether these words are a command of the program, whose sheet may be told by its number."""
-    command = COMMANDS.get(words[0])
-    return command is not None and (len(words) == len(command.parameters) + 1 or has_number(words))
-
-
-def saved_apart(words):
-    """The words of a command, and the workbook file that its answer is written as, if any."""
-    if words[:1] == [SAVED] and words[-2:-1] == [TO] and is_of_program(words[:-2]):
-        return words[:-2], words[-1]
-    return words, None
-
-
 def is_command(words):
-    """Whether these words are a command, or ask for a page of the program."""
-    words, _ = saved_apart(words)
-    words, _ = parted(words)
-    if not words:
+    """Whether these words are a command of the program, or ask for a page of it."""
+    try:
+        asked_by(words)
+    except Faulty:
         return False
-    if words[0] not in COMMANDS:
-        return len(words) == 1 and words[0] in PAGES
-    return is_of_program(words) or is_all(words)
+    return True
 
 
 def nearest(word):
@@ -430,47 +454,79 @@ def nearest(word):
     return ""
 
 
-def wrong_count(command, words):
-    """What is wrong with how many words stand behind a command."""
+def wrong_count(asked):
+    """What is wrong with how many names stand behind a command, or nothing."""
+    command, count = asked.command(), len(asked.command().parameters)
+    if asked.folder is not None:
+        if asked.names or asked.number is not None:
+            return f"{asked.word} {ALL} takes a folder, and no sheet"
+        return None
+    if len(asked.names) == count - (asked.number is not None) or asked.lacks_sheet():
+        return None
     said = f"{command.word} takes {command.takes}"
-    if command.word == SAVED and TO in words:
-        return f"{said}, and behind {TO} that of a file"
-    if not command.parameters or len(words) <= len(command.parameters):
+    if not command.parameters or len(asked.names) <= count:
         return said
     return f"{said}: put a name that has blanks in quotes"
 
 
-def check(words, file=None):
-    """Sees that words are a command, where a file is read or none."""
-    where = "" if file is not None else ", and no file of that name"
-    if not words:
-        raise Faulty(f"what of {file} is asked for? For one, ./xlsx {file} sheets lists its sheets")
-    word = words[0]
-    if words == [PACKAGE] and file is not None:
-        return
-    command = COMMANDS.get(word)
-    if command is None and word in PAGES and (file is not None or len(words) > 1):
-        raise Faulty(f"{word} stands alone")
-    if command is None and word not in PAGES and word.startswith("-"):
+def check_command(asked, file):
+    """Sees that what is asked for is a command."""
+    word = asked.word
+    if word is not None and word.startswith("-") and word not in COMMANDS:
         raise Faulty(f"there is no option '{word}'")
-    if command is None and word not in PAGES:
+    if asked.command() is None:
+        where = "" if file is not None else ", and no file of that name"
         raise Faulty(f"there is no command '{word}'{where}{nearest(word)}")
-    if not is_command(words):
-        raise Faulty(wrong_count(command, words[1:]))
-    words, _ = saved_apart(words)
-    wrong = wrong_option(word, parted(words)[1])
-    if wrong is not None:
-        raise Faulty(wrong)
-    if word == "sample" and not is_number(words[1], ROWS):
-        raise Faulty(f"sample takes {command.takes}, and not '{words[1]}'")
-    if command is not None and command.takes == A_CELL and not is_reference(words[-1]):
-        raise Faulty(f"{word} takes {command.takes}, and not '{words[-1]}'")
-    if has_number(words) and not is_number(words[2]):
-        raise Faulty(f"--sheet takes the number of a sheet, from 1, and not '{words[2]}'")
+    for wrong in (wrong_option(asked), wrong_count(asked)):
+        if wrong is not None:
+            raise Faulty(wrong)
+    takes, last = asked.command().takes, asked.names[-1:]
+    if word == "sample" and not is_number(last[0], ROWS):
+        raise Faulty(f"sample takes {takes}, and not '{last[0]}'")
+    if takes == A_CELL and not is_reference(last[0]):
+        raise Faulty(f"{word} takes {takes}, and not '{last[0]}'")
+    if asked.number is not None and not is_number(asked.number):
+        raise Faulty(f"{WITH_VALUES[NUMBER]}, and not '{asked.number}'")
     if word == "sample" and file is not None:
         raise Faulty("sample makes its own package, and reads no file")
+
+
+def asked_by(words, file=None):
+    """What words ask for, where a file is read or none."""
+    for page in (one for one in words[: [*words, END].index(END)] if one in PAGES):
+        if len(words) > 1 or file is not None:
+            raise Faulty(f"{page} stands alone")
+    asked = Asked(words)
+    if asked.word is None and file is not None:
+        raise Faulty(f"what of {file} is asked for? For one, ./xlsx {file} sheets lists its sheets")
+    if asked.word is None:
+        raise Faulty(f"there is no command beside '{words[0]}'")
+    if not asked.is_page() and not (words == [PACKAGE] and file is not None):
+        check_command(asked, file)
     for one in words:
         try:
             one.encode()
         except UnicodeEncodeError:
             raise Faulty(f"'{one}' isn't UTF-8") from None
+    return asked
+
+
+def with_proof(words):
+    """Whether an answer has to be proved by these words, and the words for it."""
+    front = words[: [*words, END].index(END)]
+    if WITHOUT_PROOF not in front:
+        return True, words
+    at = front.index(WITHOUT_PROOF)
+    return False, [*words[:at], *words[at + 1 :]]
+
+
+def file_first(words, is_file):
+    """The words with the file, if any, before the options that stand in front of it."""
+    if is_file(words[0]):
+        return words
+    at, is_value = 0, False
+    while at < len(words) and (is_value or words[at].startswith(END) and words[at] != END):
+        is_value, at = not is_value and words[at] in WITH_VALUES, at + 1
+    if at == len(words) or not is_file(words[at]):
+        return words
+    return [words[at], *words[:at], *words[at + 1 :]]
