@@ -5,9 +5,9 @@ with what tools/markup.py does, in place of that.
 
 The script writes the markup of a sheet of bench/file.py with 400,000 cells, and of one with twice
 as many. The program cut_events cuts each, and looks at each text of each event; it is run once over
-and eleven times over, and a tenth of the difference is one cutting. Expat is Python's, over the same
+and 21 times over, and a twentieth of the difference is one cutting. Expat is Python's, over the same
 bytes at once, with functions for starts, ends and texts that do nothing. Seconds are those of
-processor time, the least of the repeats. The program has to be built (`rt run` in
+processor time, of each run the least of the repeats. The program has to be built (`rt run` in
 crates/cut_events).
 """
 
@@ -26,7 +26,7 @@ sys.path.insert(0, str(TOP / "tools"))
 from cutting import BUILDS, OUT, UTF_16, found, wanted  # noqa: E402
 
 PROGRAM = str(OUT / BUILDS[0])
-MORE = 10
+MORE = 20
 
 # Tells a text to functions that do nothing, and prints the seconds.
 EXPAT = """\
@@ -52,24 +52,27 @@ class Size:
         self.lines = os.path.join(folder, f"lines-{rows}.txt")
         with open(self.path, "w", encoding="utf-8", newline="") as out:
             out.writelines(sheet(Formulas(), rows))
-        self.once, self.cutting, self.expat, self.peaks = [], [], [], []
+        self.once, self.more, self.expat, self.peaks = [], [], [], []
 
     def run(self):
         once = measured([PROGRAM, "count", "1"], self.path, self.lines)
         more = measured([PROGRAM, "count", str(1 + MORE)], self.path, self.lines)
         self.once.append(once.processor)
         self.peaks.append(once.peak)
-        self.cutting.append((more.processor - once.processor) / MORE)
+        self.more.append(more.processor)
         with open(self.path, "rb") as text:
             ran = subprocess.run(
                 [sys.executable, "-c", EXPAT], stdin=text, capture_output=True, check=True
             )
         self.expat.append(float(ran.stdout))
 
+    def cutting(self):
+        return (min(self.more) - min(self.once)) / MORE
+
     def fields(self):
         with open(self.lines, encoding="ascii") as lines:
             events = int(lines.read().split()[0])
-        cutting, expat = min(self.cutting), min(self.expat)
+        cutting, expat = self.cutting(), min(self.expat)
         return [
             *(f"{4 * self.rows:,}", f"{os.path.getsize(self.path):,}", f"{events:,}"),
             *(f"{min(self.once):.3f}", f"{cutting:.4f}", f"{expat:.3f}"),
@@ -112,7 +115,7 @@ def main():
                 size.run()
         head = ["cells", "bytes", "events", "whole", "cutting", "expat", "ratio", "peak MiB"]
         table(head, [size.fields() for size in sizes])
-        growth = min(sizes[1].cutting) / min(sizes[0].cutting)
+        growth = sizes[1].cutting() / sizes[0].cutting()
         print(f"twice the bytes take {growth:.2f} times the seconds of cutting")
 
 
