@@ -93,11 +93,11 @@ impl Tables {
     pub fn checksum(&self, bytes: &[u8]) -> u32
         ensures { result ≡ crc_of bytes.now }
     {
-        self.after(0xFFFF_FFFF, bytes) ^ 0xFFFF_FFFF
+        self.after_all(0xFFFF_FFFF, bytes) ^ 0xFFFF_FFFF
     }
 
     /// A register after bytes.
-    fn after(&self, start: u32, bytes: &[u8]) -> u32
+    fn after_all(&self, start: u32, bytes: &[u8]) -> u32
         ensures { result ≡ after_bytes start bytes.now }
     {
         let registers = self.registers.as_slice();

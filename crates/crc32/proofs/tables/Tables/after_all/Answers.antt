@@ -1,7 +1,7 @@
 use Rattle.std.proofs.Common.{◌+◌, ap, ◌∙◌, drop, arith}
 use Rattle.crc32.specs.Crc.{after_bytes}
 use Rattle.crc32.proofs.Eights.{words_step}
-use Rattle.crc32.proofs.tables.Tables.after.Goals as goal
+use Rattle.crc32.proofs.tables.Tables.after_all.Goals as goal
 
 pub words-preserved : goal.words-preserved
 words-preserved c = record {
