@@ -18,6 +18,8 @@ PASSED_ON = "a refusal of memory is passed on"
 OF_WRITER = "a writer into memory fails only where memory is wanting"
 TOLD = {
     ("attr_text/fault.rt", "fmt", 1): "its text",
+    ("inflate/fault.rt", "fmt", 1): "its text",
+    ("inflate/stream.rt", "error_of", 1): PASSED_ON,
     ("part_events/fault.rt", "fmt", 1): "its text",
     ("part_events/text.rt", "text_error", 1): PASSED_ON,
     ("xlsx_areas/merged_parts.rt", "merges_or_none", 1): PASSED_ON,
