@@ -108,8 +108,8 @@ finds_last (end name ∷ past) outside opening is here =
     (finds_last past (suc outside) opening is.1 here)
     (omega (arith, (balances (end name ∷ past) is).ends)) (λ other_tag same. absurd (cc))
 finds_last (leaf kind ∷ past) outside opening is here =
-    finds_behind (leaf kind) past opening outside outside (finds_last past outside opening is.1 here)
-    refl (λ other_tag same. absurd (cc))
+    finds_behind (leaf kind) past opening outside outside
+    (finds_last past outside opening is.1 here) refl (λ other_tag same. absurd (cc))
 
 abbrev IsLast : ℕ → List Event → Tag → List Event → Type 0
 IsLast outside later tag before = (nearer farther : List Event) (between : Tag) → later

@@ -12,8 +12,8 @@ pub record Tag : Type 0 where
   pub name : List ℕ
   pub attributes : List ℕ
 
--- what nests nothing: text, character data, a reference by its name, a flaw, behind which nothing is
--- told, or anything else
+-- what nests nothing: text, character data, a reference by its name, a flaw, behind which nothing
+-- is told, or anything else
 pub data Leaf : Type 0 where
   text : List ℕ → Leaf
   char_data : List ℕ → Leaf

@@ -40,8 +40,8 @@ pub enum PartEvent<'a> {
     CharData(&'a str),
     /// The name between `&` and `;`.
     EntityRef(&'a str),
-    /// Nothing is told of the part from here on. It is the part's last event, and no element goes on
-    /// behind it.
+    /// Nothing is told of the part from here on. It is the part's last event, and no element goes
+    /// on behind it.
     Flaw(Flaw),
     /// A comment, a declaration or an instruction.
     Other,

@@ -4,8 +4,8 @@
 //! keeps its events), `part_names` (an ordered map from folded names to parts), `memory`
 //! (`MemoryPackage`), `failing` (`FailingPackage`), `quiet` (`QuietPackage`), `open_names` (the
 //! names of the open elements), `reader` (`XlReader`), `text` (an element's text), `walk` (the step
-//! through a section, and the loop to its next wanted start), `flaw` (`Flaw`), `fault` (`XmlFault`,
-//! `BreakCause`, `StreamError`), `equality` (`==` and copies), `laws`.
+//! through a section, and the loop to its next wanted start), `flaw` (`Flaw`), `fault`
+//! (`XmlFault`, `BreakCause`, `StreamError`), `equality` (`==` and copies), `laws`.
 //!
 //! The trait `Package` has one ghost member, `state`: what the package is to its reader
 //! (`PackageState`). Whether a package tells its content to proofs is its own choice (`is_told`).
@@ -16,12 +16,12 @@
 //! A part in memory keeps the texts of its events in one text, and for each event where its texts
 //! lie in it, so that an event takes no allocation of its own.
 //!
-//! An event is a start, an end, or a leaf, which nests nothing (text, character data, a reference, a
-//! flaw, anything else): what is said of nesting has three equations. **A flaw** is told where nothing
-//! more can be told of a part. The events before it are read as ever, no element goes on behind it,
-//! and who needs more is refused there, as at an end of another name (`Break`). A start and an element carry how
-//! many events of their list stand behind them. That number stays the same while a loop takes
-//! events, so a refusal can tell the very event that is at fault.
+//! An event is a start, an end, or a leaf, which nests nothing (text, character data, a reference,
+//! a flaw, anything else): what is said of nesting has three equations. **A flaw** is told where
+//! nothing more can be told of a part. The events before it are read as ever, no element goes on
+//! behind it, and who needs more is refused there, as at an end of another name (`Break`). A start
+//! and an element carry how many events of their list stand behind them. That number stays the same
+//! while a loop takes events, so a refusal can tell the very event that is at fault.
 //!
 //! **What every reading call keeps is one record by its answer**, `Reads`: `ReadsOn` where it is
 //! Ok, `StopsReading` where it is refused. What a call means, and when it is refused, are clauses

@@ -94,8 +94,8 @@ longer_run run b none other =
 -- what goes on behind a run: one byte more, or a reference
 abbrev goes_on : List ℕ → ℕ → List ℕ → Option (List ℕ) → List Event
 goes_on run b bytes found =
-    option_map_or (λ name. run_events run ++ (leaf (entity_ref name) ∷ events_behind [] bytes)) found
-    (events_behind (run ++ b ∷ []) bytes)
+    option_map_or (λ name. run_events run ++ (leaf (entity_ref name) ∷ events_behind [] bytes))
+    found (events_behind (run ++ b ∷ []) bytes)
 
 text_behind : (run : List ℕ) (b : ℕ) (bytes : List ℕ) (found : Option (List ℕ))
     → reference_of b ≡ found → has_byte 13 run ≡ false

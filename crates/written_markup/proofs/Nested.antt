@@ -60,7 +60,8 @@ run_nested (b ∷ bs) = leaf_then (text (b ∷ bs)) refl none
 nested_behind : (run : List ℕ) (b : ℕ) (bytes : List ℕ) (found : Option (List ℕ))
     → ((own : List ℕ) → IsNested (events_behind own bytes))
     → IsNested (option_map_or (λ name. run_events run
-    ++ (leaf (entity_ref name) ∷ events_behind [] bytes)) found (events_behind (run ++ b ∷ []) bytes))
+    ++ (leaf (entity_ref name) ∷ events_behind [] bytes)) found
+    (events_behind (run ++ b ∷ []) bytes))
 nested_behind run b bytes None rest = rest (run ++ b ∷ [])
 nested_behind run b bytes (Some name) rest =
     nested_in_row (run_events run) (leaf (entity_ref name) ∷ events_behind [] bytes)

@@ -65,8 +65,8 @@ underscores_escaped bytes = flat_map escaped_byte bytes
 
 -- ---- texts as events
 
--- The name of the reference that a byte is written as in a text, where it is one: CR, which would be
--- read as LF, `&` and `<`, which begin markup, and `>`, since no text has `]]>` (XML 1.0, 2.4).
+-- The name of the reference that a byte is written as in a text, where it is one: CR, which would
+-- be read as LF, `&` and `<`, which begin markup, and `>`, since no text has `]]>` (XML 1.0, 2.4).
 abbrev pub reference_of : ℕ → Option (List ℕ)
 reference_of b =
     if b == 13 then Some (codes "#13")
