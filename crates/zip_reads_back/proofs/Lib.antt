@@ -1,0 +1,6 @@
+pub mod ArchiveRead
+pub mod Checksums
+pub mod Directories
+pub mod EntriesRead
+pub mod Fitting
+pub mod Pieces
