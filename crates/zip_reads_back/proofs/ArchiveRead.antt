@@ -1,21 +1,20 @@
 -- An archive that is written, read from its end.
-use Rattle.std.proofs.Common.{◌≡◌, ℕ, ◌+◌, ◌-◌, ◌^◌, ◌<◌, ◌≤◌, List, [], ◌∷◌, ◌++◌, length, take, drop}
-use Rattle.std.proofs.Common.{Bool, true, false, Option, Some, Result, Ok, refl, sym, ap, ap₂, ◌∙◌, arith, nat_lt, nat_le}
-use Rattle.std.proofs.Common.{length-append, append_assoc, suc, subst}
+use Rattle.std.proofs.Common.{◌≡◌, ℕ, ◌+◌, ◌-◌, List, [], ◌∷◌, ◌++◌, length, take}
+use Rattle.std.proofs.Common.{true, false, Some, Ok, refl, sym, ap, ap₂, ◌∙◌, arith, nat_lt}
+use Rattle.std.proofs.Common.{length-append, append_assoc}
 use Rattle.std.specs.Str.{bytes_eq}
 use Rattle.std.proofs.lemmas.Bool.{and_from, cond-false, eq-eqb, le-leb, le-ltb}
 use Rattle.std.proofs.Math.Seq.{drop-append_seam}
 use Rattle.inflate.specs.Bits.{number_of}
-use Rattle.zip_writer.specs.Written.{File, entry, entries, directory, ending, written, IsWritable, said}
+use Rattle.zip_writer.specs.Written.{File, entry, entries, directory, ending, written, IsWritable}
 use Rattle.zip_writer.proofs.Lengths.{length-ending, length-written, length_both}
 use Rattle.zip_archive.specs.Ends.{is_end, is_wide, last_end, end_before}
 use Rattle.zip_archive.specs.Ends as ends
-use Rattle.zip_archive.specs.Entries.{Archive, archive_at, archive_by, archive_of, archive_with, compound_mark, entries_from}
+use Rattle.zip_archive.specs.Entries.{archive_at, archive_by, archive_of, archive_with, compound_mark, entries_from}
 use Rattle.zip_archive.specs.Fields.{field}
 use Rattle.zip_archive.specs.declared.ends.Directory.{Directory}
-use Rattle.zip_archive.specs.declared.fault.ArchiveFault.{ArchiveFault}
 use Rattle.zip_archive.proofs.LastEnds.{end_here}
-use Rattle.zip_reads_back.specs.ReadArchive.{AreBytes, IsPlain, archive_of_files, entries_of}
+use Rattle.zip_reads_back.specs.ReadArchive.{AreBytes, IsPlain, archive_of_files}
 use Rattle.zip_reads_back.proofs.Directories.{directory_read}
 use Rattle.zip_reads_back.proofs.Fitting.{fit_all}
 use Rattle.zip_reads_back.proofs.Pieces.{end_tells, EndTells, field_behind}
@@ -41,13 +40,21 @@ no_compound (file ∷ files) = refl
 
 end_place : (files : List File) → length (written files) - 22 ≡ length (before_end files)
 end_place files =
-    omega (arith, ap length (cut_at_end files), length-append (before_end files) (last files),
-        length-ending (length files) (length (directory 0 files)) (length (entries files)))
+    omega (
+      arith,
+      ap length (cut_at_end files),
+      length-append (before_end files) (last files),
+      length-ending (length files) (length (directory 0 files)) (length (entries files)),
+    )
 
 end_long : (files : List File) → length (before_end files) + 22 ≡ length (written files)
 end_long files =
-    omega (arith, ap length (cut_at_end files), length-append (before_end files) (last files),
-        length-ending (length files) (length (directory 0 files)) (length (entries files)))
+    omega (
+      arith,
+      ap length (cut_at_end files),
+      length-append (before_end files) (last files),
+      length-ending (length files) (length (directory 0 files)) (length (entries files)),
+    )
 
 told : (files : List File) → IsWritable files →
     EndTells (length (directory 0 files)) (length (entries files)) (last files)
@@ -55,7 +62,7 @@ told files is =
     let all = length-written files in
     let both = length_both 0 files in
     end_tells (length files) (length (directory 0 files)) (length (entries files))
-        (omega (arith, is.size)) (omega (arith, is.size))
+    (omega (arith, is.size)) (omega (arith, is.size))
 
 end_field : (files : List File) (n k : ℕ) →
     field n (length (before_end files) + k) (written files) ≡ field n k (last files)
@@ -74,9 +81,9 @@ end_is : (files : List File) → IsWritable files →
 end_is files is =
     let long = end_long files in
     and_from _ _
-        (and_from _ _ (le-leb (length (before_end files) + 22) (length (written files)) (omega arith))
-            (eq-eqb _ _ (end_mark files ∙ (told files is).mark)))
-        (le-leb _ _ (omega (arith, end_field files 2 20, (told files is).comment_length)))
+    (and_from _ _ (le-leb (length (before_end files) + 22) (length (written files)) (omega arith))
+    (eq-eqb _ _ (end_mark files ∙ (told files is).mark)))
+    (le-leb _ _ (omega (arith, end_field files 2 20, (told files is).comment_length)))
 
 last_end_there : (files : List File) → IsWritable files →
     last_end (written files) ≡ Some (length (before_end files))
@@ -84,7 +91,7 @@ unfolding last_end
 last_end_there files is =
     let long = end_long files in
     cond-false (nat_lt (length (written files)) 22) _ _
-        (le-ltb (length (written files)) 22 (omega arith))
+    (le-ltb (length (written files)) 22 (omega arith))
     ∙ ap (λ at. end_before 65536 at (written files)) (end_place files)
     ∙ end_here 65536 (length (before_end files)) (written files) (omega arith) (end_is files is)
 
@@ -129,6 +136,6 @@ written_read files is bytes plain =
     ∙ ap (archive_at (written files)) (directory_there files is plain)
     ∙ archive_there (written files) stop (length (directory 0 files)) start (omega arith)
     ∙ ap (λ file. archive_with start (entries_from (stop - start + 1) 0 start stop file))
-        (cut_at_start files)
+    (cut_at_start files)
     ∙ ap (archive_with start)
-        (directory_read 0 files (entries files) (last files) stop (fit_all files is bytes) both)
+    (directory_read 0 files (entries files) (last files) stop (fit_all files is bytes) both)

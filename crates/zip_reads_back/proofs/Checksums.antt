@@ -1,5 +1,5 @@
 -- A checksum has 32 bits.
-use Rattle.std.proofs.Common.{◌≡◌, ℕ, ◌+◌, ◌*◌, ◌/◌, ◌%◌, ◌^◌, ◌<◌, List, [], ◌∷◌, zero, suc, arith}
+use Rattle.std.proofs.Common.{ℕ, ◌*◌, ◌/◌, ◌%◌, ◌^◌, ◌<◌, List, [], ◌∷◌, zero, suc, arith}
 use Rattle.std.proofs.Common.{bit_xor}
 use Rattle.std.specs.List.{All}
 use Rattle.std.proofs.lemmas.Nat.{xor_of_32}
@@ -19,11 +19,11 @@ after_bytes_fit : (bytes : List ℕ) (r : ℕ) → r < 2 ^ 32 → All (λ b. b <
 after_bytes_fit [] r fits all = fits
 after_bytes_fit (b ∷ bytes) r fits all =
     after_bytes_fit bytes (after_byte r b)
-        (after_bits_fit 8 (bit_xor r b) (xor_of_32 r b fits (omega (arith, all 0 b (omega arith)))))
-        (λ k d h. all (suc k) d (omega arith))
+    (after_bits_fit 8 (bit_xor r b) (xor_of_32 r b fits (omega (arith, all 0 b (omega arith)))))
+    (λ k d h. all (suc k) d (omega arith))
 
 pub crc_fits : (bytes : List ℕ) → All (λ b. b < 256) bytes → crc_of bytes < 2 ^ 32
 unfolding crc_of
 crc_fits bytes all =
     xor_of_32 (after_bytes 0xFFFFFFFF bytes) 0xFFFFFFFF
-        (after_bytes_fit bytes 0xFFFFFFFF (omega arith) all) (omega arith)
+    (after_bytes_fit bytes 0xFFFFFFFF (omega arith) all) (omega arith)

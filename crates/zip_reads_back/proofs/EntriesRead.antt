@@ -1,6 +1,6 @@
 -- The entries of an archive that is written, opened.
-use Rattle.std.proofs.Common.{◌≡◌, ℕ, ◌+◌, ◌-◌, ◌/◌, ◌%◌, ◌^◌, ◌<◌, ◌≤◌, ◌==◌, List, [], ◌∷◌, ◌++◌, length, take, drop}
-use Rattle.std.proofs.Common.{Bool, true, false, ◌||◌, min, Result, Ok, refl, sym, ap, ap₂, ◌∙◌, arith, nat_lt, nat_le, ◌⊎◌, inl, inr}
+use Rattle.std.proofs.Common.{◌≡◌, ℕ, ◌+◌, ◌/◌, ◌%◌, ◌<◌, ◌≤◌, ◌==◌, List, [], ◌∷◌, ◌++◌, length, take, drop}
+use Rattle.std.proofs.Common.{true, false, ◌||◌, min, Ok, refl, sym, ap, ◌∙◌, arith, nat_lt, ◌⊎◌, inl, inr}
 use Rattle.std.proofs.Common.{length-append, append_assoc, zero, suc, subst, get_or}
 use Rattle.std.specs.Str.{bytes_eq}
 use Rattle.std.proofs.lemmas.Bool.{and_from, cond-true, cond-false, eq-eqb, le-leb, le-ltb, lt-ltb}
@@ -11,11 +11,9 @@ use Rattle.crc32.specs.Crc.{crc_of}
 use Rattle.inflate.specs.Bits.{number_of}
 use Rattle.zip_writer.specs.Written.{File, directory, entry, entries, IsWritable, name_flags, written}
 use Rattle.zip_writer.proofs.Lengths.{length-entry}
-use Rattle.zip_archive.specs.Entries.{Entry}
-use Rattle.zip_archive.specs.Fields.{between, field}
+use Rattle.zip_archive.specs.Fields.{between}
 use Rattle.zip_archive.specs.Members.{no_entry}
-use Rattle.zip_archive.specs.Opened.{checked, data_place, has_header, held, is_encrypted, is_known, next_place, opened, unpacked}
-use Rattle.zip_archive.specs.declared.fault.EntryFault.{EntryFault}
+use Rattle.zip_archive.specs.Opened.{checked, data_place, has_header, held, next_place, opened, unpacked}
 use Rattle.zip_archive.proofs.OpenedSteps.{opened_held}
 use Rattle.zip_reads_back.specs.ReadArchive.{AreBytes, archive_of_files, entries_of, entry_of, no_file}
 use Rattle.zip_reads_back.proofs.ArchiveRead.{cut_at_start, last}
@@ -48,7 +46,7 @@ next_after p at [] start below is = omega arith
 next_after p at (f ∷ files) start below is =
     let next = p + length (entry f) in
     let rest = next_after next at files start (omega arith)
-        (omega (arith, length-append (entry f) (entries files))) in
+    (omega (arith, length-append (entry f) (entries files))) in
     cond-true (nat_lt at p) _ _ (lt-ltb at p below)
     ∙ least p (next_place (entries_of next files) at start) next rest (omega arith)
 
@@ -65,7 +63,7 @@ next_of p [] after file start is =
     let long = length-entry file in
     cond-false (nat_lt (p + 0) p) _ _ (le-ltb (p + 0) p (omega arith))
     ∙ next_after next (p + 0) after start (omega arith)
-        (omega (arith, length-append (entry file) (entries after)))
+    (omega (arith, length-append (entry file) (entries after)))
     ∙ shift p (length (entry file))
 next_of p (f ∷ front) after file start is =
     let at = p + length (entry f ++ entries front) in
@@ -75,7 +73,7 @@ next_of p (f ∷ front) after file start is =
     cond-false (nat_lt at p) _ _ (le-ltb at p (omega arith))
     ∙ ap (λ n. next_place (entries_of next (front ++ file ∷ after)) n start) same
     ∙ next_of next front after file start
-        (omega (arith, length-append (entry f) (entries (front ++ file ∷ after))))
+    (omega (arith, length-append (entry f) (entries (front ++ file ∷ after))))
     ∙ ap (λ n. n + length (entry file)) (sym same)
 
 plain : (n : ℕ) → (n ≡ 0) ⊎ (n ≡ 2048) → (n % 2 == 1 || n / 64 % 2 == 1) ≡ false
@@ -98,13 +96,13 @@ header_there file front more start told within =
     let at = length front in
     let long = length-entry file in
     and_from _ _
-        (and_from _ _
-            (and_from _ _ (le-leb (at + 30) start (omega arith))
-                (eq-eqb _ _ (ap (λ b. number_of (take 4 b)) (drop-append_seam front bytes) ∙ told.mark)))
-            (eq-eqb _ _ (field_behind 2 26 front bytes ∙ told.name_length)))
-        (ap (λ b. bytes_eq b file.name)
-            (between_behind (length file.name) 30 front bytes ∙ told.name)
-        ∙ same_bytes file.name)
+    (and_from _ _
+    (and_from _ _ (le-leb (at + 30) start (omega arith))
+    (eq-eqb _ _ (ap (λ b. number_of (take 4 b)) (drop-append_seam front bytes) ∙ told.mark)))
+    (eq-eqb _ _ (field_behind 2 26 front bytes ∙ told.name_length)))
+    (ap (λ b. bytes_eq b file.name)
+    (between_behind (length file.name) 30 front bytes ∙ told.name)
+    ∙ same_bytes file.name)
 
 -- what an entry's data hold
 held_there : (file : File) (front more : List ℕ) (stop : ℕ) → EntryTells file (entry file ++ more) →
@@ -119,12 +117,12 @@ held_there file front more stop told is =
     omega (arith, field_behind 2 28 front bytes, told.extra_length) in
     let long = length-entry file in
     let data_is = ap (λ p. between n p all) place
-        ∙ between_behind n (30 + length file.name) front bytes ∙ told.held in
+    ∙ between_behind n (30 + length file.name) front bytes ∙ told.held in
     cond-false (nat_lt stop (data_place e all + n)) _ _ (le-ltb stop (data_place e all + n) (omega arith))
     ∙ ap (λ b. checked e.checksum (unpacked 0 n b)) data_is
     ∙ ap (checked e.checksum) (cond-true (n == n) _ _ (eq-eqb n n refl))
     ∙ cond-true (crc_of file.bytes == crc_of file.bytes) _ _
-        (eq-eqb (crc_of file.bytes) (crc_of file.bytes) refl)
+    (eq-eqb (crc_of file.bytes) (crc_of file.bytes) refl)
 
 next_at : (at : ℕ) (files : List File) (n start : ℕ) →
     next_place (entries_of 0 files) (0 + at) start ≡ 0 + at + n →
@@ -138,7 +136,7 @@ pub file_opened : (limit : ℕ) (front after : List File) (file : File) →
     IsWritable (front ++ file ∷ after) → AreBytes (front ++ file ∷ after) →
     length file.bytes ≤ limit →
     opened limit (archive_of_files (front ++ file ∷ after)) (written (front ++ file ∷ after))
-        (entry_of (length (entries front)) file)
+    (entry_of (length (entries front)) file)
     ≡ Ok file.bytes
 file_opened limit front after file is bytes small =
     let files = front ++ file ∷ after in
@@ -149,31 +147,34 @@ file_opened limit front after file is bytes small =
     let more = entries after ++ end in
     let fit = fit_at 0 front after file (fit_all files is bytes) in
     let told = entry_tells 0 file more
-        (let none : 0 + length before ≡ length before = omega arith in
-        record {
-          place = omega arith;
-          name = fit.name;
-          bytes = fit.bytes;
-          checksum = fit.checksum;
-        }) in
+    (let none : 0 + length before ≡ length before = omega arith in
+    record {
+      place = omega arith;
+      name = fit.name;
+      bytes = fit.bytes;
+      checksum = fit.checksum;
+    }) in
     let whole : written files ≡ before ++ (entry file ++ more) =
     cut_at_start files
     ∙ ap (λ b. b ++ end) (entries-append front (file ∷ after))
     ∙ append_assoc before (entry file ++ entries after) end
     ∙ ap (λ b. before ++ b) (append_assoc (entry file) (entries after) end) in
     let long : length (entries files) ≡ length before + (length (entry file) + length (entries after)) =
-    omega (arith, ap length (entries-append front (file ∷ after)),
-        length-append before (entry file ++ entries after),
-        length-append (entry file) (entries after)) in
+    omega (
+      arith,
+      ap length (entries-append front (file ∷ after)),
+      length-append before (entry file ++ entries after),
+      length-append (entry file) (entries after),
+    ) in
     let next : next_place archive.entries (length before) archive.start
     ≡ length before + length (entry file) =
     next_at (length before) files (length (entry file)) archive.start
-        (next_of 0 front after file archive.start (omega arith)) in
+    (next_of 0 front after file archive.start (omega arith)) in
     ap (λ b. opened limit archive b e) whole
     ∙ opened_held limit archive (before ++ (entry file ++ more)) e
-        (plain (name_flags file.name) (flags_within file.name))
-        (and_from _ _ refl (unpatched (name_flags file.name) (flags_within file.name))) small
-        (header_there file before more archive.start told (omega arith))
+    (plain (name_flags file.name) (flags_within file.name))
+    (and_from _ _ refl (unpatched (name_flags file.name) (flags_within file.name))) small
+    (header_there file before more archive.start told (omega arith))
     ∙ ap (λ n. held e n (before ++ (entry file ++ more))) next
     ∙ held_there file before more (length before + length (entry file)) told refl
 
@@ -205,6 +206,6 @@ files_opened files i limit is bytes below small =
     let entry_is = entry_among 0 files i below ∙ ap (λ n. entry_of n file) none in
     ap (opened limit (archive_of_files files) (written files)) entry_is
     ∙ ap (λ fs. opened limit (archive_of_files fs) (written fs) (entry_of (length (entries front)) file))
-        split
+    split
     ∙ file_opened limit front (drop (i + 1) files) file (subst IsWritable split is)
-        (subst AreBytes split bytes) small
+    (subst AreBytes split bytes) small

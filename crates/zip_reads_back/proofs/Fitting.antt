@@ -1,11 +1,10 @@
 -- Files whose headers tell what they are.
-use Rattle.std.proofs.Common.{◌≡◌, ℕ, ◌+◌, ◌*◌, ◌^◌, ◌<◌, ◌≤◌, List, [], ◌∷◌, ◌++◌, length, zero, suc, arith}
+use Rattle.std.proofs.Common.{◌≡◌, ℕ, ◌+◌, ◌^◌, ◌<◌, List, [], ◌∷◌, length, suc, arith}
 use Rattle.std.proofs.Common.{Bool, true, false, if◌then◌else◌, nat_lt, ◌⊎◌, inl, inr, refl}
 use Rattle.std.proofs.Common.{length-append}
 use Rattle.std.specs.List.{All, list_all}
 use Rattle.crc32.specs.Crc.{crc_of}
-use Rattle.zip_writer.specs.Written.{name_flags, File, entry, entries, IsWritable, written, directory, ending}
-use Rattle.zip_writer.specs.Sizes.{taken}
+use Rattle.zip_writer.specs.Written.{name_flags, File, entry, entries, IsWritable}
 use Rattle.zip_writer.proofs.Lengths.{length-entry, length-written, length_both}
 use Rattle.zip_reads_back.specs.ReadArchive.{AreBytes}
 use Rattle.zip_reads_back.proofs.Checksums.{crc_fits}
@@ -27,20 +26,21 @@ fit_from : (at : ℕ) (files : List File) → All (λ file. length file.name < 2
 fit_from at [] names bytes size = tt
 fit_from at (file ∷ files) names bytes size =
     let long = length-entry file in
-    let both = length-append (entry file) (entries files) in
-    (record {
+    let both = length-append (entry file) (entries files) in (
+      record {
         place = omega arith;
         name = names 0 file (omega arith);
         bytes = omega arith;
         checksum = crc_fits file.bytes (bytes 0 file (omega arith));
       },
       fit_from (at + length (entry file)) files (λ k d h. names (suc k) d (omega arith))
-          (λ k d h. bytes (suc k) d (omega arith)) (omega arith))
+          (λ k d h. bytes (suc k) d (omega arith)) (omega arith),
+    )
 
 pub fit_all : (files : List File) → IsWritable files → AreBytes files → AreFit 0 files
 fit_all files is bytes =
     fit_from 0 files is.names bytes
-        (omega (arith, is.size, length-written files, length_both 0 files))
+    (omega (arith, is.size, length-written files, length_both 0 files))
 
 abbrev flags : Bool → ℕ
 flags b = if b then 0 else 2048

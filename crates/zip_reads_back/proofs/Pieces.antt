@@ -1,6 +1,6 @@
 -- What is read in the pieces of an archive.
-use Rattle.std.proofs.Common.{◌≡◌, ℕ, ◌+◌, ◌-◌, ◌*◌, ◌/◌, ◌%◌, ◌^◌, ◌<◌, ◌≤◌, ◌==◌, List, [], ◌∷◌, ◌++◌}
-use Rattle.std.proofs.Common.{length, take, drop, true, zero, suc, refl, sym, ap, ◌∙◌, arith, append_assoc}
+use Rattle.std.proofs.Common.{◌≡◌, ℕ, ◌+◌, ◌^◌, ◌<◌, List, ◌++◌}
+use Rattle.std.proofs.Common.{length, take, drop, refl, sym, ap, ◌∙◌, arith, append_assoc}
 use Rattle.std.proofs.Math.Seq.{drop-append-add}
 use Rattle.std.proofs.lemmas.List.{take_at, drop-drop, drop_at}
 use Rattle.crc32.specs.Crc.{crc_of}
@@ -76,9 +76,9 @@ entry_tells at file more fit =
       name = ap (take (length file.name)) apart
           ∙ take_at file.name (file.bytes ++ more) (length file.name) refl;
       held = ap (take (length file.bytes))
-              (sym (drop-drop (length file.name) 30 bytes)
-              ∙ ap (drop (length file.name)) apart
-              ∙ drop_at file.name (file.bytes ++ more) (length file.name) refl)
+          (sym (drop-drop (length file.name) 30 bytes)
+          ∙ ap (drop (length file.name)) apart
+          ∙ drop_at file.name (file.bytes ++ more) (length file.name) refl)
           ∙ take_at file.bytes more (length file.bytes) refl;
     }
 
