@@ -17,6 +17,7 @@ PASSED_ON = "a refusal of memory is passed on"
 OF_WRITER = "a writer into memory fails only where memory is wanting"
 TOLD = {
     ("attr_text/fault.rt", "fmt", 1): "its text",
+    ("list_archive/main.rt", "contents_line", 1): "its text",
     ("part_events/fault.rt", "fmt", 1): "its text",
     ("part_events/text.rt", "text_error", 1): PASSED_ON,
     ("xlsx_areas/merged_parts.rt", "merges_or_none", 1): PASSED_ON,
@@ -30,6 +31,7 @@ TOLD = {
     ("xlsx_rows/record.rt", "end_record", 1): OF_WRITER,
     ("xlsx_rows/record.rt", "write_bytes", 1): OF_WRITER,
     ("xlsx_rows/rows.rt", "written_rows", 1): OF_WRITER,
+    ("zip_archive/opening.rt", "inflated_of_size", 1): PASSED_ON,
     ("xlsx_sections/decode.rt", "decode_at", 1): PASSED_ON,
     ("xlsx_sections/decode.rt", "push_text_at", 1): PASSED_ON,
     ("xlsx_tool/main.rt", "words_of", 2): "the system says that it has none for the words",
