@@ -10,7 +10,8 @@ use Rattle.zip_writer.specs.Written.{File, entry, entries, directory, ending, wr
 use Rattle.zip_writer.proofs.Lengths.{length-ending, length-written, length_both}
 use Rattle.zip_archive.specs.Ends.{is_end, is_wide, last_end, end_before}
 use Rattle.zip_archive.specs.Ends as ends
-use Rattle.zip_archive.specs.Entries.{archive_at, archive_by, archive_of, archive_with, compound_mark, entries_from}
+use Rattle.zip_archive.specs.Entries.{archive_at, archive_by, archive_of, archive_with}
+use Rattle.zip_archive.specs.Entries.{compound_mark, entries_from}
 use Rattle.zip_archive.specs.Fields.{field}
 use Rattle.zip_archive.specs.declared.ends.Directory.{Directory}
 use Rattle.zip_archive.proofs.LastEnds.{end_here}
@@ -29,8 +30,10 @@ cut_at_end : (files : List File) → written files ≡ before_end files ++ last 
 unfolding written
 cut_at_end files = refl
 
-pub cut_at_start : (files : List File) → written files ≡ entries files ++ (directory 0 files ++ last files)
-cut_at_start files = cut_at_end files ∙ append_assoc (entries files) (directory 0 files) (last files)
+pub cut_at_start : (files : List File) → written files ≡ entries files
+    ++ (directory 0 files ++ last files)
+cut_at_start files = cut_at_end files
+    ∙ append_assoc (entries files) (directory 0 files) (last files)
 
 -- an archive begins as no compound file does
 no_compound : (files : List File) → bytes_eq (take 8 (written files)) compound_mark ≡ false
@@ -70,7 +73,8 @@ end_field files n k =
     ap (field n (length (before_end files) + k)) (cut_at_end files)
     ∙ field_behind n k (before_end files) (last files)
 
-end_mark : (files : List File) → field 4 (length (before_end files)) (written files) ≡ field 4 0 (last files)
+end_mark : (files : List File) → field 4 (length (before_end files)) (written files)
+    ≡ field 4 0 (last files)
 end_mark files =
     ap (field 4 (length (before_end files))) (cut_at_end files)
     ∙ ap (λ bytes. number_of (take 4 bytes)) (drop-append_seam (before_end files) (last files))

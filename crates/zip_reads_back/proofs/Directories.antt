@@ -1,5 +1,6 @@
 -- The directory of an archive that is written, header by header.
-use Rattle.std.proofs.Common.{◌≡◌, ℕ, ◌+◌, ◌-◌, ◌^◌, ◌<◌, ◌≤◌, ◌==◌, List, [], ◌∷◌, ◌++◌, length, take}
+use Rattle.std.proofs.Common.{◌≡◌, ℕ, ◌+◌, ◌-◌, ◌^◌, ◌<◌, ◌≤◌, ◌==◌, List, [], ◌∷◌, ◌++◌, length}
+use Rattle.std.proofs.Common.{take}
 use Rattle.std.proofs.Common.{true, Ok, refl, sym, ap, ap₂, ◌∙◌, arith, ◌⊎◌, inl, inr, nat_le}
 use Rattle.std.proofs.Common.{length-append, append_assoc}
 use Rattle.std.proofs.lemmas.Bool.{and_from, and_right, cond-false, eq-eqb, le-leb}
@@ -7,7 +8,8 @@ use Rattle.std.proofs.Math.Seq.{drop-append_seam}
 use Rattle.inflate.specs.Bits.{number_of}
 use Rattle.zip_writer.specs.Written.{File, entry, header, directory, name_flags}
 use Rattle.zip_writer.proofs.Lengths.{length-header}
-use Rattle.zip_archive.specs.Entries.{Entry, entry_at, entry_with, entries_from, header_length, is_header, onto}
+use Rattle.zip_archive.specs.Entries.{Entry, entry_at, entry_with, entries_from, header_length}
+use Rattle.zip_archive.specs.Entries.{is_header, onto}
 use Rattle.zip_archive.specs.Entries.{wide_fields, is_widened, widened, wide_rest}
 use Rattle.zip_archive.specs.Fields.{between, field}
 use Rattle.zip_archive.proofs.Headers.{entries_step, entries_end}
@@ -15,7 +17,8 @@ use Rattle.zip_reads_back.specs.ReadArchive.{entry_of, entries_of}
 use Rattle.zip_reads_back.proofs.Fitting.{IsFit, AreFit, flags_within}
 use Rattle.zip_reads_back.proofs.Pieces.{HeaderTells, header_tells, field_behind, between_behind}
 
-flags_fit : (name : List ℕ) → (name_flags name ≡ 0) ⊎ (name_flags name ≡ 2048) → name_flags name < 2 ^ 16
+flags_fit : (name : List ℕ) → (name_flags name ≡ 0) ⊎ (name_flags name ≡ 2048) →
+    name_flags name < 2 ^ 16
 flags_fit name (inl is) = omega arith
 flags_fit name (inr is) = omega arith
 
@@ -46,8 +49,10 @@ header_here : (at : ℕ) (file : File) (front more : List ℕ) (n : ℕ) →
 header_here at file front more n =
     ap (λ bytes. number_of (take n bytes)) (drop-append_seam front (header at file ++ more))
 
-tells : (at : ℕ) (file : File) (more : List ℕ) → IsFit at file → HeaderTells at file (header at file ++ more)
-tells at file more fit = header_tells at file more fit (flags_fit file.name (flags_within file.name))
+tells : (at : ℕ) (file : File) (more : List ℕ) → IsFit at file →
+    HeaderTells at file (header at file ++ more)
+tells at file more fit = header_tells at file more fit
+    (flags_fit file.name (flags_within file.name))
 
 pub length_there : (at : ℕ) (file : File) (front more : List ℕ) → IsFit at file →
     header_length (length front) (front ++ (header at file ++ more)) ≡ 46 + length file.name
@@ -95,11 +100,14 @@ entry_there at file front more fit =
     let place : widened (field 4 (length front + 42) all)
     (wide_rest (field 4 (length front + 20) all) (wide_rest (field 4 (length front + 24) all) []))
     ≡ at =
-    ap (λ w. widened (field 4 (length front + 42) all) (wide_rest (field 4 (length front + 20) all) w))
+    ap
+    (λ w. widened (field 4 (length front + 42) all) (wide_rest (field 4 (length front + 20) all)
+    w))
     (none_behind (field 4 (length front + 24) all))
     ∙ ap (widened (field 4 (length front + 42) all)) (none_behind (field 4 (length front + 20) all))
     ∙ not_widened (field 4 (length front + 42) all) ∙ at_field 4 42 ∙ told.header in
-    let packed : widened (field 4 (length front + 20) all) (wide_rest (field 4 (length front + 24) all) [])
+    let packed : widened (field 4 (length front + 20) all)
+    (wide_rest (field 4 (length front + 24) all) [])
     ≡ length file.bytes =
     ap (widened (field 4 (length front + 20) all)) (none_behind (field 4 (length front + 24) all))
     ∙ not_widened (field 4 (length front + 20) all) ∙ at_field 4 20 ∙ told.packed in
@@ -117,7 +125,8 @@ entry_there at file front more fit =
 -- the entries of the rest of a directory
 pub directory_read : (at : ℕ) (files : List File) (front more : List ℕ) (stop : ℕ) →
     AreFit at files → stop ≡ length front + length (directory at files) →
-    entries_from (stop - length front + 1) 0 (length front) stop (front ++ (directory at files ++ more))
+    entries_from (stop - length front + 1) 0 (length front) stop
+    (front ++ (directory at files ++ more))
     ≡ Ok (entries_of at files)
 directory_read at [] front more stop fit is =
     entries_end (stop - length front + 1) 0 (length front) stop (front ++ more) (omega arith)

@@ -1,6 +1,8 @@
 -- The entries of an archive that is written, opened.
-use Rattle.std.proofs.Common.{◌≡◌, ℕ, ◌+◌, ◌/◌, ◌%◌, ◌<◌, ◌≤◌, ◌==◌, List, [], ◌∷◌, ◌++◌, length, take, drop}
-use Rattle.std.proofs.Common.{true, false, ◌||◌, min, Ok, refl, sym, ap, ◌∙◌, arith, nat_lt, ◌⊎◌, inl, inr}
+use Rattle.std.proofs.Common.{◌≡◌, ℕ, ◌+◌, ◌/◌, ◌%◌, ◌<◌, ◌≤◌, ◌==◌, List, [], ◌∷◌, ◌++◌, length}
+use Rattle.std.proofs.Common.{take, drop}
+use Rattle.std.proofs.Common.{true, false, ◌||◌, min, Ok, refl, sym, ap, ◌∙◌, arith, nat_lt, ◌⊎◌}
+use Rattle.std.proofs.Common.{inl, inr}
 use Rattle.std.proofs.Common.{length-append, append_assoc, zero, suc, subst, get_or}
 use Rattle.std.specs.Str.{bytes_eq}
 use Rattle.std.proofs.lemmas.Bool.{and_from, cond-true, cond-false, eq-eqb, le-leb, le-ltb, lt-ltb}
@@ -9,13 +11,16 @@ use Rattle.std.proofs.lemmas.Slice.Eq.{bytes_eq-Decides}
 use Rattle.std.proofs.Math.Seq.{drop-append_seam}
 use Rattle.crc32.specs.Crc.{crc_of}
 use Rattle.inflate.specs.Bits.{number_of}
-use Rattle.zip_writer.specs.Written.{File, directory, entry, entries, IsWritable, name_flags, written}
+use Rattle.zip_writer.specs.Written.{File, directory, entry, entries, IsWritable, name_flags}
+use Rattle.zip_writer.specs.Written.{written}
 use Rattle.zip_writer.proofs.Lengths.{length-entry}
 use Rattle.zip_archive.specs.Fields.{between}
 use Rattle.zip_archive.specs.Members.{no_entry}
-use Rattle.zip_archive.specs.Opened.{checked, data_place, has_header, held, next_place, opened, unpacked}
+use Rattle.zip_archive.specs.Opened.{checked, data_place, has_header, held, next_place, opened}
+use Rattle.zip_archive.specs.Opened.{unpacked}
 use Rattle.zip_archive.proofs.OpenedSteps.{opened_held}
-use Rattle.zip_reads_back.specs.ReadArchive.{AreBytes, archive_of_files, entries_of, entry_of, no_file}
+use Rattle.zip_reads_back.specs.ReadArchive.{AreBytes, archive_of_files, entries_of, entry_of}
+use Rattle.zip_reads_back.specs.ReadArchive.{no_file}
 use Rattle.zip_reads_back.proofs.ArchiveRead.{cut_at_start, last}
 use Rattle.zip_reads_back.proofs.Fitting.{AreFit, IsFit, fit_all, flags_within}
 use Rattle.zip_reads_back.proofs.Pieces.{EntryTells, entry_tells, field_behind, between_behind}
@@ -32,7 +37,8 @@ fit_at : (p : ℕ) (front after : List File) (file : File) → AreFit p (front +
 fit_at p [] after file fit =
     let none : p ≡ p + 0 = omega arith in subst (λ (n : ℕ). IsFit n file) none fit.0
 fit_at p (f ∷ front) after file fit =
-    let same : p + length (entry f) + length (entries front) ≡ p + length (entry f ++ entries front) =
+    let same : p + length (entry f) + length (entries front)
+    ≡ p + length (entry f ++ entries front) =
     omega (arith, length-append (entry f) (entries front)) in
     subst (λ (n : ℕ). IsFit n file) same (fit_at (p + length (entry f)) front after file fit.1)
 
@@ -88,7 +94,8 @@ same_bytes : (bytes : List ℕ) → bytes_eq bytes bytes ≡ true
 same_bytes bytes = (bytes_eq-Decides bytes bytes).1 refl
 
 -- an entry's own header stands at its place
-header_there : (file : File) (front more : List ℕ) (start : ℕ) → EntryTells file (entry file ++ more) →
+header_there : (file : File) (front more : List ℕ) (start : ℕ) →
+    EntryTells file (entry file ++ more) →
     length front + length (entry file) ≤ start →
     has_header (entry_of (length front) file) start (front ++ (entry file ++ more)) ≡ true
 header_there file front more start told within =
@@ -118,7 +125,8 @@ held_there file front more stop told is =
     let long = length-entry file in
     let data_is = ap (λ p. between n p all) place
     ∙ between_behind n (30 + length file.name) front bytes ∙ told.held in
-    cond-false (nat_lt stop (data_place e all + n)) _ _ (le-ltb stop (data_place e all + n) (omega arith))
+    cond-false (nat_lt stop (data_place e all + n)) _ _
+    (le-ltb stop (data_place e all + n) (omega arith))
     ∙ ap (λ b. checked e.checksum (unpacked 0 n b)) data_is
     ∙ ap (checked e.checksum) (cond-true (n == n) _ _ (eq-eqb n n refl))
     ∙ cond-true (crc_of file.bytes == crc_of file.bytes) _ _
@@ -159,7 +167,8 @@ file_opened limit front after file is bytes small =
     ∙ ap (λ b. b ++ end) (entries-append front (file ∷ after))
     ∙ append_assoc before (entry file ++ entries after) end
     ∙ ap (λ b. before ++ b) (append_assoc (entry file) (entries after) end) in
-    let long : length (entries files) ≡ length before + (length (entry file) + length (entries after)) =
+    let long : length (entries files)
+    ≡ length before + (length (entry file) + length (entries after)) =
     omega (
       arith,
       ap length (entries-append front (file ∷ after)),
@@ -205,7 +214,9 @@ files_opened files i limit is bytes below small =
     let none : 0 + length (entries front) ≡ length (entries front) = omega arith in
     let entry_is = entry_among 0 files i below ∙ ap (λ n. entry_of n file) none in
     ap (opened limit (archive_of_files files) (written files)) entry_is
-    ∙ ap (λ fs. opened limit (archive_of_files fs) (written fs) (entry_of (length (entries front)) file))
+    ∙ ap
+    (λ fs. opened limit (archive_of_files fs) (written fs)
+    (entry_of (length (entries front)) file))
     split
     ∙ file_opened limit front (drop (i + 1) files) file (subst IsWritable split is)
     (subst AreBytes split bytes) small

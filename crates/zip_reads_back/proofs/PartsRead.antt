@@ -1,6 +1,7 @@
 -- The entries of an archive that is written, by their names.
 use Rattle.std.proofs.Common.{◌≡◌, ℕ, ◌+◌, ◌/◌, ◌%◌, ◌<◌, ◌==◌, List, [], ◌∷◌, ◌++◌, length}
-use Rattle.std.proofs.Common.{Bool, true, false, if◌then◌else◌, Option, None, Some, refl, sym, ap, ap₂, ◌∙◌, arith, nat_lt}
+use Rattle.std.proofs.Common.{Bool, true, false, if◌then◌else◌, Option, None, Some, refl, sym, ap}
+use Rattle.std.proofs.Common.{ap₂, ◌∙◌, arith, nat_lt}
 use Rattle.std.proofs.Common.{zero, suc, get_or, slice_get}
 use Rattle.std.specs.List.{All, cons_option, list_all}
 use Rattle.std.specs.Option.{option_and_then}
@@ -75,7 +76,8 @@ same_bytes a = (bytes_eq-Decides a a).1 refl
 -- the name at a place is no name before it
 abbrev IsFirst : List File → ℕ → Type 0
 IsFirst files i =
-    (k : ℕ) → k < i → folded (get_or files k no_file).name ≡ folded (get_or files i no_file).name → ⊥
+    (k : ℕ) → k < i → folded (get_or files k no_file).name
+    ≡ folded (get_or files i no_file).name → ⊥
 
 first_there : (p : ℕ) (files : List File) (i : ℕ) → i < length files → IsFirst files i →
     first_text (members_of p files) (get_or files i no_file).name
@@ -139,7 +141,8 @@ unfolding part_entry
 parts_found files i are below =
     let name = (get_or files i no_file).name in
     let first : IsFirst files i = λ k less same. are.apart k i no_file less below same in
-    let last : IsLast files i = λ k more within same. are.apart i k no_file more within (sym same) in
+    let last : IsLast files i = λ k more within same. are.apart i k no_file more within (sym same)
+    in
     ap (λ ms. option_and_then (λ text. last_entry None ms text) (first_text ms name))
     (members_there 0 files are.texts are.own)
     ∙ ap (option_and_then (λ text. last_entry None (members_of 0 files) text))

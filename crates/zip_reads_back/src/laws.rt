@@ -5,7 +5,8 @@ ghost use Rattle.zip_archive.specs.Entries.{archive_of};
 ghost use Rattle.zip_archive.specs.Members.{no_entry};
 ghost use Rattle.zip_archive.specs.Names.{part_entry};
 ghost use Rattle.zip_archive.specs.Opened.{opened};
-ghost use Rattle.zip_reads_back.specs.ReadArchive.{archive_of_files, entries_of, AreBytes, ArePartNames, IsPlain};
+ghost use Rattle.zip_reads_back.specs.ReadArchive.{archive_of_files, entries_of, AreBytes};
+ghost use Rattle.zip_reads_back.specs.ReadArchive.{ArePartNames, IsPlain};
 ghost use Rattle.zip_reads_back.specs.ReadArchive.{no_file};
 
 /// What is written of files is an archive that has an entry for each file, with its name, in their
