@@ -20,12 +20,19 @@ const WIDE: &str =
     0000000000010000000000000001000000000000004b000000000000002000000000000000504b060700\
     0000006b0000000000000001000000504b050600000000ffffffffffffffffffffffff0000";
 
+/// The archive of one file `p` that holds `a` in three packed bytes, which stand at 31. Its header
+/// in the directory stands at 34.
+const PACKED: &str =
+    "504b03041400000008000000210043beb7e8030000000100000001000000704b0400504b010214001400\
+    000008000000210043beb7e8030000000100000001000000000000000000000000000000000070504b05\
+    0600000000010001002f000000220000000000";
+
 /// The most bytes that an entry may hold.
 const LIMIT: usize = 1_073_741_824;
 
-/// What is done to no bytes, word by word, what is shown, and what is read. `small` and `wide`
-/// append an archive, `8=09` puts bytes in place of those from 8 on, `-1` cuts a byte off at the
-/// end, and other words are bytes to append.
+/// What is done to no bytes, word by word, what is shown, and what is read. `small`, `wide` and
+/// `packed` append an archive, `8=09` puts bytes in place of those from 8 on, `-1` cuts a byte off
+/// at the end, and other words are bytes to append.
 const FILES: &str = r#"
 small
 = an archive
@@ -130,6 +137,41 @@ small 504b0506 00000000000000000000000000000000 0000
 small 99=1600 504b0506 00000000000000000000000000000000 0100
 = the last record has a comment that isn't there, and is in one
 = a: b
+"#;
+
+/// As `FILES`, where data are packed.
+const PACKED_FILES: &str = r#"
+packed
+= one literal
+= p: a
+
+78797a packed
+= bytes in front
+= p: a
+
+packed 31=07
+= a block of an unknown kind
+= p: Contents(Fault { cause: Block, at: 0 })
+
+packed 54=02
+= the end of the block is cut off
+= p: Contents(Fault { cause: Symbol, at: 1 })
+
+packed 58=02
+= a size above what the data hold
+= p: Size
+
+packed 58=00
+= a size below what the data hold
+= p: Size
+
+packed 50=00
+= another checksum
+= p: Checksum
+
+small 42=08
+= stored data as packed ones
+= a: Contents(Fault { cause: Symbol, at: 0 })
 "#;
 
 /// Places of an archive, from one to another, which bits of a byte, and what is read where one of
@@ -381,6 +423,7 @@ fn file_of(alloc: Global, words: &str) -> Result<Vec<u8>, Fail> {
             let bytes = match word {
                 "small" => SMALL,
                 "wide" => WIDE,
+                "packed" => PACKED,
                 "." => "",
                 digits => digits,
             };
@@ -434,15 +477,24 @@ fn answer(alloc: Global, file: Vec<u8>) -> Result<String, Fail> {
     }
 }
 
-#[test]
-fn files_are_archives_or_are_refused(rt: HostRuntime) -> Result<(), Fail> {
-    let alloc = rt.alloc();
-    for case in cases(FILES) {
+/// Compares what files are with what a table wants.
+fn assert_answers(alloc: Global, table: &str) -> Result<(), Fail> {
+    for case in cases(table) {
         let (words, rest) = cut(case);
         let (what, wanted) = cut(rest);
         assert_text(&answer(alloc, file_of(alloc, words)?)?, wanted, what)?;
     }
     Ok(())
+}
+
+#[test]
+fn files_are_archives_or_are_refused(rt: HostRuntime) -> Result<(), Fail> {
+    assert_answers(rt.alloc(), FILES)
+}
+
+#[test]
+fn packed_entries_hold_what_their_streams_do(rt: HostRuntime) -> Result<(), Fail> {
+    assert_answers(rt.alloc(), PACKED_FILES)
 }
 
 #[test]
