@@ -1,14 +1,14 @@
 """Packages of parts whose markup may hold events that no markup spells, as crates/test_packages has it.
 
 A tag that begins with `!` is such an event: `<!>` nests nothing and says nothing, `<!text>` is an
-empty text, `<!data>` the character data `x`, and any other a reference of that name. A tag ends at
-the first `>`, also in quotes.
+empty text, `<!data>` the character data `x`, `<!flaw>` a flaw, and any other a reference of that
+name. A tag ends at the first `>`, also in quotes.
 """
 
 import json
 
 TYPES = "http://schemas.openxmlformats.org/officeDocument/2006/relationships/"
-SPECIAL = {"": ["o"], "text": ["t", ""], "data": ["d", "x"]}
+SPECIAL = {"": ["o"], "text": ["t", ""], "data": ["d", "x"], "flaw": ["x"]}
 
 ROOT_NAME = "_rels/.rels"
 RELATIONSHIPS_NAME = "xl/_rels/workbook.xml.rels"
@@ -61,7 +61,8 @@ def events_of(markup):
 def package_of(parts):
     """The package text of these parts, each a name and noted markup, as bytes."""
     each = [{"name": name, "events": events_of(markup)} for name, markup in parts]
-    return json.dumps({"version": 1, "parts": each}).encode()
+    has_flaw = any(["x"] in part["events"] for part in each)
+    return json.dumps({"version": 2 if has_flaw else 1, "parts": each}).encode()
 
 
 def package_cut(part, count, *parts):

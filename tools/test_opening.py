@@ -188,6 +188,36 @@ PACKAGES = [
         None,
     ),
     (
+        "a flaw in the package's relationships",
+        [(ROOT_NAME, "<Relationships><!flaw>")],
+        refused("Xml error: malformed markup at 1"),
+        None,
+    ),
+    (
+        "a flaw in the workbook's relationships",
+        [ROOT, (RELATIONSHIPS_NAME, "<!flaw>"), WORKBOOK],
+        refused("Xml error: malformed markup at 0"),
+        None,
+    ),
+    (
+        "a flaw in the workbook",
+        with_book("<workbook><!flaw>"),
+        refused("Xml error: malformed markup at 1"),
+        None,
+    ),
+    (
+        "a flaw in the shared strings",
+        [ROOT, RELATIONSHIPS, WORKBOOK, (STRINGS_NAME, "<sst><si><t>a<!flaw>")],
+        refused("Xml error: malformed markup at 4"),
+        None,
+    ),
+    (
+        "a flaw in the styles",
+        [ROOT, RELATIONSHIPS, WORKBOOK, ("xl/styles.xml", "<styleSheet><!flaw>")],
+        refused("Xml error: malformed markup at 1"),
+        None,
+    ),
+    (
         "the shared strings end in a text",
         [ROOT, RELATIONSHIPS, WORKBOOK, (STRINGS_NAME, "<sst><si><t>a")],
         refused("Unexpected end of xml, expecting '</t>'"),

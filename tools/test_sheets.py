@@ -105,6 +105,23 @@ SHEETS = [
         "<worksheet></x><sheetData/>",
         refused("Xml error: end tag mismatch at 1"),
     ),
+    (
+        "a flaw in front of the data",
+        "<worksheet><!flaw><sheetData/></worksheet>",
+        refused("Xml error: malformed markup at 1"),
+    ),
+    (
+        "a flaw in a cell",
+        '<worksheet><sheetData><row><c r="A1"><v>1</v></c><!flaw>',
+        refused("Xml error: malformed markup at 8"),
+    ),
+    (
+        "an end that breaks the nesting before a flaw",
+        "<worksheet><sheetData><row></c><!flaw>",
+        refused("Xml error: end tag mismatch at 3"),
+    ),
+    ("a flaw right behind the data", "<worksheet><sheetData></sheetData><!flaw>", ""),
+    ("a part that is a flaw", "<!flaw>", refused("Xml error: malformed markup at 0")),
 ]
 
 # A part that stands before those of the minimal package, the sheet that is asked for, and what is
@@ -148,6 +165,10 @@ FRONTS = [
     (("XL\\Styles.xml", "<styleSheet/>"), "S", "A1\ts:nut\t-\t-\n"),
     (("sharedStrings.xml", ""), "S", "A1\ts:nut\t-\t-\n"),
     (("docProps/core.xml", "<!>"), "S", "A1\ts:nut\t-\t-\n"),
+    (("docProps/core.xml", "<!flaw>"), "S", "A1\ts:nut\t-\t-\n"),
+    (("xl/theme/theme1.xml", "<!flaw>"), "S", "A1\ts:nut\t-\t-\n"),
+    (("xl/styles.xml", "<!flaw>"), "S", refused("Xml error: malformed markup at 0")),
+    ((STRINGS_NAME, "<sst></sst><!flaw>"), "S", "A1\ts:nut\t-\t-\n"),
     ((ROOT_NAME, RELATIONSHIPS_MARKUP), "S", refused("Relationship not found")),
     (
         (

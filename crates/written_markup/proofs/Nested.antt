@@ -1,8 +1,8 @@
 -- Events that nest in themselves are passed over by what reads forward.
 use Rattle.std.proofs.Common.{◌≡◌, ℕ, suc, List, [], ◌∷◌, ◌++◌, length, reverse, Bool, true, false}
 use Rattle.std.proofs.Common.{refl, sym, ap, ◌∙◌, append_assoc, append-nil}
-use Rattle.std.specs.List.{flat_map, slice_split}
-use Rattle.std.specs.Prelude.{◌==◌, codes, if◌then◌else◌, option_map, not}
+use Rattle.std.specs.List.{flat_map}
+use Rattle.std.specs.Prelude.{if◌then◌else◌, Option, Some, None, option_map, not}
 use Rattle.std.specs.Option.{option_map_or}
 use Rattle.std.specs.Str.{bytes_eq}
 use Rattle.std.proofs.lemmas.Slice.Eq.{bytes_eq-Decides}
@@ -15,7 +15,7 @@ use Rattle.part_events.specs.Section.{Element, element_of}
 use Rattle.part_events.proofs.Nested.{reverse_on}
 use Rattle.part_events.proofs.Outermost.{outermost-wanted}
 use Rattle.written_markup.specs.Markup.{element}
-use Rattle.written_markup.specs.WrittenText.{run_events, events_of_runs, text_events}
+use Rattle.written_markup.specs.WrittenText.{run_events, events_behind, reference_of, text_events}
 use Rattle.written_markup.specs.Nests.{IsNested, none, leaf_then, element_then, NestsItself}
 
 -- What holds of no events, goes on behind a leaf and behind an element of such events, holds of
@@ -57,17 +57,22 @@ run_nested : (run : List ℕ) → IsNested (run_events run)
 run_nested [] = none
 run_nested (b ∷ bs) = leaf_then (text (b ∷ bs)) refl none
 
-runs_nested : (runs : List (List ℕ)) → IsNested (events_of_runs runs)
-runs_nested [] = none
-runs_nested (run ∷ []) = run_nested run
-runs_nested (run ∷ next ∷ runs) =
-    nested_in_row (run_events run)
-    (leaf (entity_ref (codes "#13")) ∷ events_of_runs (next ∷ runs)) (run_nested run)
-    (leaf_then (entity_ref (codes "#13")) refl (runs_nested (next ∷ runs)))
+nested_behind : (run : List ℕ) (b : ℕ) (bytes : List ℕ) (found : Option (List ℕ))
+    → ((own : List ℕ) → IsNested (events_behind own bytes))
+    → IsNested (option_map_or (λ name. run_events run
+    ++ (leaf (entity_ref name) ∷ events_behind [] bytes)) found (events_behind (run ++ b ∷ []) bytes))
+nested_behind run b bytes None rest = rest (run ++ b ∷ [])
+nested_behind run b bytes (Some name) rest =
+    nested_in_row (run_events run) (leaf (entity_ref name) ∷ events_behind [] bytes)
+    (run_nested run) (leaf_then (entity_ref name) refl (rest []))
+
+all_nested : (bytes run : List ℕ) → IsNested (events_behind run bytes)
+all_nested [] run = run_nested run
+all_nested (b ∷ bytes) run = nested_behind run b bytes (reference_of b) (all_nested bytes)
 
 -- the events of a text
 pub text_events_nested : (bytes : List ℕ) → IsNested (text_events bytes)
-text_events_nested bytes = runs_nested (slice_split (λ b. b == 13) bytes)
+text_events_nested bytes = all_nested bytes []
 
 -- a list of such lists in a row
 pub flat_map_nested : {A : Type 0} (f : A → List Event) (xs : List A)

@@ -43,7 +43,7 @@ line_ends_without_return (b ∷ text) none =
 
 -- ---- references
 
--- the names of the two references have their characters
+-- the names of the three references have their characters
 amp_character : entity_character (codes "amp") ≡ Some 38
 unfolding entity_character
 amp_character = refl
@@ -69,6 +69,18 @@ decoded_quot rest =
     decoded-character text 34
     (character_behind-name text (codes "quot") within refl ∙ quot_character)
 
+lt_character : entity_character (codes "lt") ≡ Some 60
+unfolding entity_character
+lt_character = refl
+
+decoded_lt : (rest : List ℕ)
+    → decoded (codes "&lt;" ++ rest) ≡ onto_decoded (60 ∷ []) 4 (decoded rest)
+unfolding encode
+decoded_lt rest =
+    let text = codes "lt;" ++ rest in
+    let within : position_or_len is_semicolon text < length text = omega arith in
+    decoded-character text 60 (character_behind-name text (codes "lt") within refl ∙ lt_character)
+
 -- a byte in front of what an encoded text says
 decoded_onto : (b taken : ℕ) (rest text : List ℕ) → decoded rest ≡ Ok text
     → onto_decoded (b ∷ []) taken (decoded rest) ≡ Ok (b ∷ text)
@@ -84,8 +96,12 @@ decoded_encoded (b ∷ text) =
       | inr other ↦ rw (ne_eqb b 38 other) (elim (cases_eq b 34) [
         | inl same ↦ rw (same) (decoded_quot (encoded text)
             ∙ decoded_onto 34 6 (encoded text) text (decoded_encoded text))
-        | inr plain ↦ rw (ne_eqb b 34 plain) (decoded-other b (encoded text) other
-            ∙ decoded_onto b 1 (encoded text) text (decoded_encoded text))
+        | inr quote ↦ rw (ne_eqb b 34 quote) (elim (cases_eq b 60) [
+          | inl same ↦ rw (same) (decoded_lt (encoded text)
+              ∙ decoded_onto 60 4 (encoded text) text (decoded_encoded text))
+          | inr plain ↦ rw (ne_eqb b 60 plain) (decoded-other b (encoded text) other
+              ∙ decoded_onto b 1 (encoded text) text (decoded_encoded text))
+        ])
       ])
     ]
 
@@ -97,7 +113,10 @@ encoded_without_quote (b ∷ text) =
       | inl same ↦ rw (same) (encoded_without_quote text)
       | inr other ↦ rw (ne_eqb b 38 other) (elim (cases_eq b 34) [
         | inl same ↦ rw (same) (encoded_without_quote text)
-        | inr plain ↦ rw (ne_eqb b 34 plain, ne_eqb b 34 plain) (encoded_without_quote text)
+        | inr quote ↦ rw (ne_eqb b 34 quote) (elim (cases_eq b 60) [
+          | inl same ↦ rw (same) (encoded_without_quote text)
+          | inr plain ↦ rw (ne_eqb b 60 plain, ne_eqb b 34 quote) (encoded_without_quote text)
+        ])
       ])
     ]
 

@@ -1,8 +1,9 @@
 -- Texts and attributes as they are written, so that they read back.
 use Rattle.std.specs.Prelude.{◌≡◌, ⊤, ℕ, ◌==◌, ◌||◌, Bool, false, if◌then◌else◌, List, [], ◌∷◌}
-use Rattle.std.specs.Prelude.{◌++◌, codes, Option, Some, None}
+use Rattle.std.specs.Prelude.{◌++◌, codes, Option, Some, None, is_some}
 use Rattle.std.specs.Char.{is_ascii_whitespace}
-use Rattle.std.specs.List.{flat_map, list_any, slice_split}
+use Rattle.std.specs.List.{flat_map, list_any}
+use Rattle.std.specs.Option.{option_map_or}
 use Rattle.attr_text.specs.Attributes.{is_equals_sign}
 use Rattle.part_events.specs.Event.{Event, leaf, text, entity_ref}
 use Rattle.written_markup.specs.Markup.{attribute}
@@ -44,10 +45,11 @@ AreWritablePairs (pair ∷ pairs) = IsWritablePair pair × AreWritablePairs pair
 
 -- ---- escapes
 
--- `&` and `"` as references, and each other byte as it is
+-- `&`, `"` and `<` as references, and each other byte as it is
 abbrev pub encoded_byte : ℕ → List ℕ
 encoded_byte b =
-    if b == 38 then codes "&amp;" else (if b == 34 then codes "&quot;" else b ∷ [])
+    if b == 38 then codes "&amp;"
+    else (if b == 34 then codes "&quot;" else (if b == 60 then codes "&lt;" else b ∷ []))
 
 -- a text as it stands between quotes, where references count
 abbrev pub encoded : List ℕ → List ℕ
@@ -63,18 +65,31 @@ underscores_escaped bytes = flat_map escaped_byte bytes
 
 -- ---- texts as events
 
+-- The name of the reference that a byte is written as in a text, where it is one: CR, which would be
+-- read as LF, `&` and `<`, which begin markup, and `>`, since no text has `]]>` (XML 1.0, 2.4).
+abbrev pub reference_of : ℕ → Option (List ℕ)
+reference_of b =
+    if b == 13 then Some (codes "#13")
+    else (if b == 38 then Some (codes "amp")
+    else (if b == 60 then Some (codes "lt")
+    else (if b == 62 then Some (codes "gt") else None)))
+
+-- a byte is written as a reference
+abbrev pub is_referenced : ℕ → Bool
+is_referenced b = is_some (reference_of b)
+
 -- the event of a run of a text; of an empty one there is none
 abbrev pub run_events : List ℕ → List Event
 run_events [] = []
 run_events (b ∷ bs) = leaf (text (b ∷ bs)) ∷ []
 
--- runs with a reference to CR between them
-abbrev pub events_of_runs : List (List ℕ) → List Event
-events_of_runs [] = []
-events_of_runs (run ∷ []) = run_events run
-events_of_runs (run ∷ next ∷ runs) =
-    run_events run ++ (leaf (entity_ref (codes "#13")) ∷ events_of_runs (next ∷ runs))
+-- the events of a text behind a run of it that is written as it is
+abbrev pub events_behind : List ℕ → List ℕ → List Event
+events_behind run [] = run_events run
+events_behind run (b ∷ bytes) =
+    option_map_or (λ name. run_events run ++ (leaf (entity_ref name) ∷ events_behind [] bytes))
+    (reference_of b) (events_behind (run ++ b ∷ []) bytes)
 
--- the events of a text: the runs between its CRs, and each CR as a reference
+-- the events of a text: references, and the runs between them
 abbrev pub text_events : List ℕ → List Event
-text_events bytes = events_of_runs (slice_split (λ b. b == 13) bytes)
+text_events bytes = events_behind [] bytes

@@ -1,132 +1,117 @@
 -- Texts that are written run by run: each run as it is, and what stands between them escaped.
-use Rattle.std.proofs.Common.{◌≡◌, ◌≢◌, ℕ, suc, ◌+◌, ◌<◌, Bool, true, false, ◌||◌, List, [], ◌∷◌}
-use Rattle.std.proofs.Common.{◌++◌, length, get_or, refl, sym, ap, ◌∙◌, arith, append_assoc, cond}
-use Rattle.std.proofs.Common.{length-append}
-use Rattle.std.specs.Prelude.{codes, ◌==◌, if◌then◌else◌, Result, Ok, Err, OnOk, is_ok}
-use Rattle.std.specs.List.{slice_split}
-use Rattle.std.proofs.lemmas.Bool.{ne_eqb}
+use Rattle.std.proofs.Common.{◌≡◌, ℕ, ◌<◌, Bool, true, false, List, [], ◌∷◌, ◌++◌}
+use Rattle.std.proofs.Common.{length, refl, sym, ap, ◌∙◌, arith, append_assoc, eqb-true}
+use Rattle.std.proofs.Common.{length-append, Option, Some, None}
+use Rattle.std.specs.Prelude.{codes, ◌==◌, if◌then◌else◌, Result, Ok, Err, OnOk, is_ok, is_some}
+use Rattle.std.specs.Option.{unwrap_or}
 use Rattle.std.proofs.lemmas.Grind.{flat_map-append}
-use Rattle.std.proofs.lemmas.List.Elements.{All-from_get_or}
-use Rattle.std.proofs.lemmas.List.Splits.{slice_split_none, slice_split_at, length-slice_split}
 use Rattle.part_events.specs.Event.{leaf, entity_ref}
-use Rattle.written_markup.specs.WrittenText.{run_events, events_of_runs, text_events, has_byte}
-use Rattle.written_markup.specs.WrittenText.{underscores_escaped, escaped_byte}
-use Rattle.written_markup.specs.WrittenText.{encoded, encoded_byte}
+use Rattle.written_markup.specs.WrittenText.{run_events, text_events, underscores_escaped}
+use Rattle.written_markup.specs.WrittenText.{escaped_byte, encoded, encoded_byte}
+use Rattle.written_markup.proofs.EventsReadBack.{run_and_reference, none_there}
+use Rattle.written_markup.proofs.TextsReadBack.{neither}
+use Rattle.xlsx_out.specs.Escaping.{escape_of, escaped, has_escape, IsCutAt}
+use Rattle.xlsx_out.specs.declared.escaping.Escaping.{Escaping}
+use Rattle.xlsx_out.specs.declared.escaping.Escaping.TheVariants.{References, Quoted, Underscores}
 
--- ---- bytes that a text lacks
+-- ---- bytes that aren't written as they are
 
--- a byte stands at no place of the text
-abbrev pub Lacks : ℕ → List ℕ → Type 0
-Lacks c bs = (i : ℕ) → i < length bs → get_or bs i 0 ≢ c
+-- one byte, or one of the others
+one_ascii : (b c : ℕ) (word escape : List ℕ) (others : Option (List ℕ)) (test : Bool) → c < 128
+    → (b == c) ≡ test → (if test then Some word else others) ≡ Some escape
+    → (others ≡ Some escape → b < 128) → b < 128
+one_ascii b c word escape others true small same is more =
+    let own = eqb-true b c same in omega arith
+one_ascii b c word escape others false small same is more = more is
 
-pub lacks_byte : (c : ℕ) (bs : List ℕ) → Lacks c bs → has_byte c bs ≡ false
-lacks_byte c [] lacks = refl
-lacks_byte c (b ∷ bs) lacks =
-    ap (λ test. test || has_byte c bs) (ne_eqb b c (lacks 0 (omega arith)))
-    ∙ lacks_byte c bs (λ i before. lacks (suc i) (omega arith))
+-- each of them is an ASCII byte
+pub escape_ascii : (escaping : Escaping) (b : ℕ) (escape : List ℕ)
+    → escape_of escaping b ≡ Some escape → b < 128
+escape_ascii References b escape is =
+    one_ascii b 13 _ escape _ (b == 13) (omega arith) refl is
+    (λ other. one_ascii b 38 _ escape _ (b == 38) (omega arith) refl other
+    (λ further. one_ascii b 60 _ escape _ (b == 60) (omega arith) refl further
+    (λ last. one_ascii b 62 _ escape None (b == 62) (omega arith) refl last (λ none. absurd cc))))
+escape_ascii Quoted b escape is =
+    one_ascii b 38 _ escape _ (b == 38) (omega arith) refl is
+    (λ other. one_ascii b 34 _ escape _ (b == 34) (omega arith) refl other
+    (λ further. one_ascii b 60 _ escape None (b == 60) (omega arith) refl further
+    (λ none. absurd cc)))
+escape_ascii Underscores b escape is =
+    one_ascii b 95 _ escape None (b == 95) (omega arith) refl is (λ none. absurd cc)
 
-or_false : (a b : Bool) → (a || b) ≡ false → (a ≡ false) × (b ≡ false)
-or_false true b none = absurd (cc)
-or_false false b none = (refl, none)
+-- ---- runs
 
-pub lacks_in_run : (c b : ℕ) (run behind : List ℕ) → has_byte c (run ++ b ∷ behind) ≡ false →
-    has_byte c run ≡ false
-lacks_in_run c b [] behind lacks = refl
-lacks_in_run c b (r ∷ run) behind lacks =
-    let parts = or_false (r == c) (has_byte c (run ++ b ∷ behind)) lacks in
-    ap (λ test. test || has_byte c run) parts.0 ∙ lacks_in_run c b run behind parts.1
+-- a text of which every byte is written as it is
+pub escaped_plain : (escaping : Escaping) (bytes : List ℕ) → has_escape escaping bytes ≡ false
+    → escaped escaping bytes ≡ bytes
+escaped_plain escaping [] none = refl
+escaped_plain escaping (b ∷ bytes) none =
+    let both = neither (is_some (escape_of escaping b)) (has_escape escaping bytes) none in
+    ap (λ (found : Option (List ℕ)). unwrap_or found (b ∷ []) ++ escaped escaping bytes)
+    (none_there (escape_of escaping b) both.0)
+    ∙ ap (λ (rest : List ℕ). b ∷ rest) (escaped_plain escaping bytes both.1)
 
-pub lacks_behind : (c b : ℕ) (run behind : List ℕ) → has_byte c (run ++ b ∷ behind) ≡ false →
-    has_byte c behind ≡ false
-lacks_behind c b [] behind lacks = (or_false (b == c) (has_byte c behind) lacks).1
-lacks_behind c b (r ∷ run) behind lacks =
-    lacks_behind c b run behind (or_false (r == c) (has_byte c (run ++ b ∷ behind)) lacks).1
-
--- ---- runs that are written as they are
-
-pub escaped_plain : (bs : List ℕ) → has_byte 95 bs ≡ false → underscores_escaped bs ≡ bs
-escaped_plain [] lacks = refl
-escaped_plain (b ∷ bs) lacks =
-    let parts = or_false (b == 95) (has_byte 95 bs) lacks in
-    ap (λ test. cond test (codes "_x005F_") (b ∷ []) ++ underscores_escaped bs) parts.0
-    ∙ ap (λ rest. b ∷ rest) (escaped_plain bs parts.1)
-
-pub encoded_plain : (bs : List ℕ) → has_byte 38 bs ≡ false → has_byte 34 bs ≡ false →
-    encoded bs ≡ bs
-encoded_plain [] lacks lacks_quote = refl
-encoded_plain (b ∷ bs) lacks lacks_quote =
-    let parts = or_false (b == 38) (has_byte 38 bs) lacks in
-    let quotes = or_false (b == 34) (has_byte 34 bs) lacks_quote in
-    ap (λ test. cond test (codes "&amp;") (cond (b == 34) (codes "&quot;") (b ∷ [])) ++ encoded bs)
-    parts.0
-    ∙ ap (λ test. cond test (codes "&quot;") (b ∷ []) ++ encoded bs) quotes.0
-    ∙ ap (λ rest. b ∷ rest) (encoded_plain bs parts.1 quotes.1)
-
--- a run, `_`, and what stands behind it
-pub escaped_run : (run behind : List ℕ) → has_byte 95 run ≡ false →
-    underscores_escaped (run ++ 95 ∷ behind)
-    ≡ run ++ (codes "_x005F_" ++ underscores_escaped behind)
-escaped_run run behind lacks =
-    flat_map-append escaped_byte run (95 ∷ behind)
-    ∙ ap (λ front. front ++ (codes "_x005F_" ++ underscores_escaped behind))
-    (escaped_plain run lacks)
-
--- a run as it is written, `"`, and what stands behind it
-pub encoded_at_quote : (run behind : List ℕ) → has_byte 38 run ≡ false →
-    has_byte 34 run ≡ false →
-    encoded (run ++ 34 ∷ behind) ≡ run ++ (codes "&quot;" ++ encoded behind)
-encoded_at_quote run behind lacks lacks_quote =
-    flat_map-append encoded_byte run (34 ∷ behind)
-    ∙ ap (λ front. front ++ (codes "&quot;" ++ encoded behind))
-    (encoded_plain run lacks lacks_quote)
-
--- a run as it is written, `&`, and what stands behind it
-pub encoded_at_and : (run behind : List ℕ) →
-    encoded (run ++ 38 ∷ behind) ≡ encoded run ++ (codes "&amp;" ++ encoded behind)
-encoded_at_and run behind = flat_map-append encoded_byte run (38 ∷ behind)
-
--- a run and what stands behind it are appended, and what is left to append is as before
-pub goes_on : (f : List ℕ → List ℕ) (old mid new run escape rest behind whole : List ℕ) →
-    mid ≡ old ++ run → new ≡ mid ++ escape → f rest ≡ run ++ (escape ++ f behind) →
-    old ++ f rest ≡ whole → new ++ f behind ≡ whole
-goes_on f old mid new run escape rest behind whole front more is same =
-    ap (λ own. own ++ f behind) (more ∙ ap (λ own. own ++ escape) front)
-    ∙ append_assoc (old ++ run) escape (f behind)
-    ∙ append_assoc old run (escape ++ f behind)
-    ∙ ap (λ own. old ++ own) (sym is) ∙ same
+-- a run, what is written for the byte behind it, and what stands behind that
+pub escaped_cut : (escaping : Escaping) (text run escape behind : List ℕ)
+    → IsCutAt escaping text run escape behind
+    → escaped escaping text ≡ run ++ (escape ++ escaped escaping behind)
+escaped_cut escaping text run escape behind is =
+    ap (escaped escaping) is.parts
+    ∙ flat_map-append (λ b. unwrap_or (escape_of escaping b) (b ∷ [])) run (is.byte ∷ behind)
+    ∙ ap (λ (front : List ℕ). front ++ (unwrap_or (escape_of escaping is.byte) (is.byte ∷ [])
+    ++ escaped escaping behind)) (escaped_plain escaping run is.plain)
+    ∙ ap (λ (found : Option (List ℕ)). run ++ (unwrap_or found (is.byte ∷ [])
+    ++ escaped escaping behind)) is.written
 
 -- a text is shorter without its first run
-pub behind_shorter : (c : ℕ) (rest run behind : List ℕ) → rest ≡ run ++ c ∷ behind →
-    length behind < length rest
-behind_shorter c rest run behind is =
-    let whole = ap length is ∙ length-append run (c ∷ behind) in
-    omega arith
+pub cut_shorter : (escaping : Escaping) (text run escape behind : List ℕ)
+    → IsCutAt escaping text run escape behind → length behind < length text
+cut_shorter escaping text run escape behind is =
+    omega (arith, ap length is.parts, length-append run (is.byte ∷ behind))
 
--- ---- texts as events
+-- the events of a text that is cut
+pub events_cut : (text run escape behind : List ℕ) → IsCutAt References text run escape behind
+    → text_events text ≡ run_events run ++ (leaf (entity_ref escape) ∷ text_events behind)
+events_cut text run escape behind is =
+    ap text_events is.parts ∙ run_and_reference run is.byte escape behind is.plain is.written
 
--- a text without CR is one run
-pub one_run : (bs : List ℕ) → Lacks 13 bs → text_events bs ≡ run_events bs
-one_run bs lacks =
-    ap events_of_runs (slice_split_none (λ b. b == 13) bs
-    (All-from_get_or (λ b. (b == 13) ≡ false) bs 0
-    (λ i before. ne_eqb (get_or bs i 0) 13 (lacks i before))))
+-- a run and what is written behind it were appended, and what is left to append is as before
+pub goes_on : (escaping : Escaping) (old mid new text run escape behind whole : List ℕ)
+    → IsCutAt escaping text run escape behind → mid ≡ old ++ run → new ≡ mid ++ escape
+    → old ++ escaped escaping text ≡ whole → new ++ escaped escaping behind ≡ whole
+goes_on escaping old mid new text run escape behind whole is front more same =
+    ap (λ own. own ++ escaped escaping behind) (more ∙ ap (λ own. own ++ escape) front)
+    ∙ append_assoc (old ++ run) escape (escaped escaping behind)
+    ∙ append_assoc old run (escape ++ escaped escaping behind)
+    ∙ ap (λ own. old ++ own) (sym (escaped_cut escaping text run escape behind is)) ∙ same
 
-more_runs : (run : List ℕ) (runs : List (List ℕ)) (n : ℕ) → length runs ≡ n + 1 →
-    events_of_runs (run ∷ runs)
-    ≡ run_events run ++ (leaf (entity_ref (codes "#13")) ∷ events_of_runs runs)
-more_runs run [] n some = absurd (omega arith)
-more_runs run (next ∷ runs) n some = refl
+-- ---- the two ways by their own words
 
--- a run, a CR, and what stands behind it
-pub run_and_return : (run behind : List ℕ) → Lacks 13 run →
-    text_events (run ++ 13 ∷ behind)
-    ≡ run_events run ++ (leaf (entity_ref (codes "#13")) ∷ text_events behind)
-run_and_return run behind lacks =
-    ap events_of_runs (slice_split_at (λ b. b == 13) run 13 behind
-    (All-from_get_or (λ b. (b == 13) ≡ false) run 0
-    (λ i before. ne_eqb (get_or run i 0) 13 (lacks i before))) refl)
-    ∙ more_runs run (slice_split (λ b. b == 13) behind) _
-    (length-slice_split (λ b. b == 13) behind)
+-- a choice, and what stands in for none
+either_way : (test : Bool) (word own : List ℕ) (others : Option (List ℕ)) (rest : List ℕ)
+    → unwrap_or others own ≡ rest
+    → unwrap_or (if test then Some word else others) own ≡ (if test then word else rest)
+either_way true word own others rest is = refl
+either_way false word own others rest is = is
+
+pub escaped_underscores : (bytes : List ℕ) → escaped Underscores bytes ≡ underscores_escaped bytes
+escaped_underscores [] = refl
+escaped_underscores (b ∷ bytes) =
+    ap (λ (front : List ℕ). front ++ escaped Underscores bytes)
+    (either_way (b == 95) (codes "_x005F_") (b ∷ []) None (b ∷ []) refl)
+    ∙ ap (λ (rest : List ℕ). escaped_byte b ++ rest) (escaped_underscores bytes)
+
+pub escaped_quoted : (bytes : List ℕ) → escaped Quoted bytes ≡ encoded bytes
+escaped_quoted [] = refl
+escaped_quoted (b ∷ bytes) =
+    ap (λ (front : List ℕ). front ++ escaped Quoted bytes)
+    (either_way (b == 38) (codes "&amp;") (b ∷ []) _ _
+    (either_way (b == 34) (codes "&quot;") (b ∷ []) _ _
+    (either_way (b == 60) (codes "&lt;") (b ∷ []) None (b ∷ []) refl)))
+    ∙ ap (λ (rest : List ℕ). encoded_byte b ++ rest) (escaped_quoted bytes)
+
+-- ---- what was appended
 
 -- a text that is appended at the end leaves nothing to append
 pub ends_with : {T E : Type 0} (r : Result T E) (old new rest whole : List ℕ) →

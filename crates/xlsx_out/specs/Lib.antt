@@ -1,3 +1,4 @@
+pub mod Escaping
 pub mod Grouping
 pub mod Groups
 pub mod Writable

@@ -1,7 +1,8 @@
 //! A package that is written of the values and the formulas of one sheet, so that they read back
 //! (docs/FORMAT.md, "A sheet that is written").
 //!
-//! Rooms: `writable` (which values and formulas are written so), `texts` (texts as events, between
+//! Rooms: `writable` (which values and formulas are written so), `escaping` (which bytes aren't
+//! written as they are), `texts` (texts as events, between
 //! quotes and with underscores escaped), `values` (a cell's type, style and value), `groups` (which
 //! formulas are those of a group), `cells` (formulas, cells and rows), `sheet` (the rows, along
 //! values and formulas), `parts` (the parts beside the sheet) and `package` (all of them).
@@ -22,6 +23,7 @@
 #![tactic(auto)]
 
 mod cells;
+mod escaping;
 mod groups;
 mod package;
 mod parts;

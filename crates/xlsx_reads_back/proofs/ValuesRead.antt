@@ -2,6 +2,7 @@
 use Rattle.std.proofs.Common.{◌≡◌, ℕ, ℤ, ◌<◌, Bool, true, false, List, [], ◌∷◌, ◌++◌}
 use Rattle.std.proofs.Common.{map, Option, Some, None, Ok, Err, Result, refl, sym, ap, ◌∙◌}
 use Rattle.std.proofs.Common.{append-nil, arith}
+use Rattle.std.specs.List.{list_any}
 use Rattle.std.specs.Prelude.{◌==◌, ◌&&◌, ◌||◌, ◌%◌, not, nat_abs, pos, negsuc, codes}
 use Rattle.std.proofs.lemmas.Bool.{eq-eqb, eqb-true}
 use Rattle.cell_refs.proofs.PositionOrder.{and_both}
@@ -25,9 +26,9 @@ use Rattle.decimals.specs.Decimals.{decimal_of, printed, has_bits}
 use Rattle.decimals.proofs.ReadsBack.{printed_back}
 use Rattle.written_markup.specs.Markup.{element}
 use Rattle.written_markup.specs.Nests.{IsNested, none}
-use Rattle.written_markup.specs.WrittenText.{has_byte, underscores_escaped, text_events}
+use Rattle.written_markup.specs.WrittenText.{is_referenced, underscores_escaped, text_events}
 use Rattle.written_markup.proofs.EventsReadBack.{joined_text_events, text_events_are_known}
-use Rattle.written_markup.proofs.EventsReadBack.{events_without_return}
+use Rattle.written_markup.proofs.EventsReadBack.{one_run}
 use Rattle.written_markup.proofs.Nested.{outermost_of_elements, text_events_nested}
 use Rattle.written_markup.proofs.PairsReadBack.{lookup_written}
 use Rattle.written_markup.proofs.TextsReadBack.{unescaped_escaped}
@@ -46,7 +47,7 @@ use Rattle.xlsx_out.specs.WrittenSheet.{value_events, formula_events, optional_f
 use Rattle.xlsx_out.specs.WrittenSheet.{master_attributes, derived_attributes}
 use Rattle.xlsx_reads_back.specs.ReadValues.{IsKeptAs, written_formats}
 use Rattle.xlsx_reads_back.proofs.CellPairs.{cell_pairs, cell_attributes_are, cell_pairs_writable}
-use Rattle.xlsx_reads_back.proofs.WrittenBytes.{printed_has_no_return}
+use Rattle.xlsx_reads_back.proofs.WrittenBytes.{printed_is_plain}
 
 -- ---- the text of a `v`
 
@@ -103,14 +104,14 @@ no_decimal = refl
 
 -- a text of a number is read by the format of its style
 number_of_text : (is_1904 : Bool) (form : CellFormat) (n : ℤ × ℤ) (bytes : List ℕ)
-    → has_byte 13 bytes ≡ false → decimal_of bytes ≡ Some n
+    → list_any is_referenced bytes ≡ false → decimal_of bytes ≡ Some n
     → of_first (number_value is_1904 form false) (first_text (text_events bytes))
     ≡ Ok (formatted is_1904 form n)
-number_of_text is_1904 form n [] no_return reads =
+number_of_text is_1904 form n [] lacks reads =
     absurd (let none : decimal_of [] ≡ None = no_decimal in cc)
-number_of_text is_1904 form n (b ∷ bs) no_return reads =
+number_of_text is_1904 form n (b ∷ bs) lacks reads =
     first_of_one (number_value is_1904 form false) (b ∷ bs) (text_events (b ∷ bs))
-    (events_without_return b bs no_return)
+    (one_run (b ∷ bs) lacks)
     ∙ (rw reads refl)
 
 number_read : (is_1904 : Bool) (form : CellFormat) (n : ℤ × ℤ) → is_decimal n ≡ true
@@ -118,7 +119,7 @@ number_read : (is_1904 : Bool) (form : CellFormat) (n : ℤ × ℤ) → is_decim
     ≡ Ok (formatted is_1904 form n)
 number_read is_1904 form n is =
     let fits = decimal_fits n is in
-    number_of_text is_1904 form n (printed n) (printed_has_no_return n fits.0 fits.1)
+    number_of_text is_1904 form n (printed n) (printed_is_plain n fits.0 fits.1)
     (decimal_is_back n is)
 
 -- ---- one case a kind

@@ -1,13 +1,14 @@
 use Rattle.std.proofs.Common.{◌≡◌, ◌++◌, length, string_bytes}
 use denote.Text.{Utf8}
 use denote.Shadow.{shadow}
-use Rattle.written_markup.specs.WrittenText.{encoded}
-use Rattle.xlsx_out.proofs.texts.push_encoded.Given as goal
+use Rattle.xlsx_out.specs.Escaping.{escaped}
+use Rattle.xlsx_out.proofs.texts.push_escaped.Given as goal
 
 abbrev pub invariant-runs : goal.invariant-runs
 invariant-runs l =
     shadow (Utf8 l.rest)
-    × (string_bytes l.out ++ encoded l.rest ≡ string_bytes l.fn.out ++ encoded l.text)
+    × (string_bytes l.out ++ escaped l.escaping l.rest
+    ≡ string_bytes l.fn.out ++ escaped l.escaping l.text)
 
 abbrev pub decreases-runs : goal.decreases-runs
 decreases-runs l = length l.rest
