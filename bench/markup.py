@@ -5,8 +5,8 @@ with what tools/markup.py does, in place of that.
 
 The script writes the markup of a sheet of bench/file.py with 400,000 cells, and of one with twice
 as many. The program cut_events cuts each, and looks at each text of each event; it is run once over
-and 21 times over, and a twentieth of the difference is one cutting. Expat is Python's, over the same
-bytes at once, with functions for starts, ends and texts that do nothing. Seconds are those of
+and 21 times over, and a twentieth of the difference is one cutting. Expat is Python's, over the
+same bytes at once, with functions for starts, ends and texts that do nothing. Seconds are those of
 processor time, of each run the least of the repeats. The program has to be built (`rt run` in
 crates/cut_events).
 """

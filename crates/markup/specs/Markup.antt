@@ -1,5 +1,6 @@
 -- The events that the text of a part is cut into.
-use Rattle.std.specs.Prelude.{ℕ, zero, suc, ◌-◌, List, [], ◌∷◌, ◌++◌, Bool, false, Option, Some, None}
+use Rattle.std.specs.Prelude.{ℕ, zero, suc, ◌-◌, List, [], ◌∷◌, ◌++◌, Bool, false, Option, Some}
+use Rattle.std.specs.Prelude.{None}
 use Rattle.std.specs.Prelude.{option_map}
 use Rattle.part_events.specs.Event.{Event, start, end, leaf, flaw, is_flaw}
 use Rattle.part_events.specs.declared.flaw.Flaw.TheVariants.{Malformed}

@@ -1,5 +1,6 @@
 -- Markup that is written is the text of a part.
-use Rattle.std.proofs.Common.{◌≡◌, ℕ, zero, suc, ◌≤◌, List, [], ◌∷◌, ◌++◌, true, false, Option, Some, None}
+use Rattle.std.proofs.Common.{◌≡◌, ℕ, zero, suc, ◌≤◌, List, [], ◌∷◌, ◌++◌, true, false, Option}
+use Rattle.std.proofs.Common.{Some, None}
 use Rattle.std.proofs.Common.{length, refl, sym, ap, ◌∙◌, subst, arith}
 use Rattle.std.specs.Prelude.{◌==◌, ◌||◌, codes, nat_lt}
 use Rattle.std.specs.List.{list_any, list_all, All, flat_map}
@@ -19,7 +20,8 @@ use Rattle.markup.specs.Markup.{events_of_piece}
 use Rattle.markup.specs.Spelled.{spelled, spelled_leaf, spelled_piece, are_spellable, is_tag_name}
 use Rattle.markup.proofs.CutBack.{cut_back}
 use Rattle.markup.proofs.Fronts.{bounded}
-use Rattle.text_package.specs.PartText.{text_in, events_in, part_markup, without_mark, declares_other}
+use Rattle.text_package.specs.PartText.{text_in, events_in, part_markup, without_mark}
+use Rattle.text_package.specs.PartText.{declares_other}
 use Rattle.text_package.specs.PartText.{names_other}
 use Rattle.text_package.specs.PartSpelling.{IsPartText, HasTagTexts, HasLeafText, HasTexts}
 use Rattle.text_package.specs.PartSpelling.{begin_with_tag}

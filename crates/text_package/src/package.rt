@@ -32,7 +32,8 @@ pub struct TextPackage {
 impl Model for TextPackage {
     ghost use Rattle.std.specs.Prelude.{map, option_map};
     ghost use Rattle.part_events.specs.PartNames.{FindsParts};
-    ghost use Rattle.text_package.specs.TextParts.{TextContents, place_seen, IsTextPlace, part_told};
+    ghost use Rattle.text_package.specs.TextParts.{TextContents, place_seen, IsTextPlace};
+    ghost use Rattle.text_package.specs.TextParts.{part_told};
 
     ghost Value = { TextContents };
 

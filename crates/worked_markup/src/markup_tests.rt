@@ -8,9 +8,9 @@ use std::test::Fail;
 use test_tables::{assert_text, cases, cut};
 use text_package::{TextPackage, part_text, parts_are_bounded, spelled_parts_are_cut_back};
 
-/// What the markup of a row is cut into: `s(name)(attributes)`, `e(name)`, `t` a text, `d` character
-/// data, `r` a reference, `o` anything else and `x` a flaw. In both fields `\` and two digits of
-/// base 16 behind it are a byte.
+/// What the markup of a row is cut into: `s(name)(attributes)`, `e(name)`, `t` a text, `d`
+/// character data, `r` a reference, `o` anything else and `x` a flaw. In both fields `\` and two
+/// digits of base 16 behind it are a byte.
 const ROWS: &str = r#"
 
 =
