@@ -7,13 +7,13 @@ import re
 import subprocess
 
 import markup
+from escapes import escaped
 
 TOP = pathlib.Path(__file__).resolve().parent.parent
 OUT = TOP / "crates" / "cut_events" / "out"
 # The gate builds the program twice, by two compilers.
 BUILDS = ["cut_events", "cut_events.by-rattle"]
 
-ESCAPES = str.maketrans({"\\": "\\\\", "\t": "\\t", "\n": "\\n", "\r": "\\r"})
 MALFORMED, NO_TEXT = "x\tmalformed markup", "x\tnot a text in UTF-8"
 PLACE = re.compile(r"at character (\d+)$")
 
@@ -22,7 +22,7 @@ UTF_16 = (b"\xff\xfe", b"\xfe\xff", b"<\0", b"\0<")
 
 
 def line(letter, *texts):
-    return "\t".join([letter, *(text.translate(ESCAPES) for text in texts)])
+    return "\t".join([letter, *map(escaped, texts)])
 
 
 def told(found):

@@ -10,3 +10,8 @@ FORM = re.compile(rf"\\([{re.escape(''.join(ESCAPED))}])")
 def unescaped(text):
     """The text that one of a line stands for."""
     return FORM.sub(lambda found: ESCAPED[found[1]], text)
+
+
+def escaped(text):
+    """The text as it stands in a line."""
+    return text.translate({ord(byte): f"\\{letter}" for letter, byte in ESCAPED.items()})
