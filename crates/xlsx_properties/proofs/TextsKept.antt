@@ -8,6 +8,8 @@ use Rattle.part_events.specs.Event as event
 use Rattle.part_events.specs.Event.{Tag, Event, Leaf, start, end, leaf, event_of}
 use Rattle.part_events.specs.declared.event.PartEvent.{PartEvent}
 use Rattle.part_events.specs.declared.event.PartEvent.TheVariants.{Text, CharData, EntityRef, Other}
+use Rattle.part_events.specs.declared.event.PartEvent.TheVariants as part_event
+use Rattle.part_events.specs.declared.flaw.Flaw.{Flaw}
 use Rattle.part_events.specs.JoinedText.{event_text, joined_text, is_unknown, unknown_entity}
 use Rattle.xlsx_sections.specs.Answers.{or_earlier, or_later}
 use Rattle.xlsx_sections.specs.Refusal.{Refusal, no_character}
@@ -158,9 +160,11 @@ leaf_refused listed wanted (Some own) kind events some unknown =
 -- an event that is neither a start nor an end is a leaf
 pub leaf_event : (own : PartEvent)
     → ((x : Bor (List ℕ)) × (own ≡ Text x)) ⊎ (((x : Bor (List ℕ)) × (own ≡ CharData x))
-    ⊎ (((x : Bor (List ℕ)) × (own ≡ EntityRef x)) ⊎ (own ≡ Other)))
+    ⊎ (((x : Bor (List ℕ)) × (own ≡ EntityRef x)) ⊎ (((x : Flaw) × (own ≡ part_event.Flaw x))
+    ⊎ (own ≡ Other))))
     → (kind : Leaf) × (event_of own ≡ leaf kind)
 leaf_event own (inl (x, is)) = (event.text x.now, ap event_of is)
 leaf_event own (inr (inl (x, is))) = (event.char_data x.now, ap event_of is)
 leaf_event own (inr (inr (inl (x, is)))) = (event.entity_ref x.now, ap event_of is)
-leaf_event own (inr (inr (inr is))) = (event.other, ap event_of is)
+leaf_event own (inr (inr (inr (inl (x, is))))) = (event.flaw x, ap event_of is)
+leaf_event own (inr (inr (inr (inr is)))) = (event.other, ap event_of is)

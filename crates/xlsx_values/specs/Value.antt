@@ -7,7 +7,7 @@ use Rattle.attr_text.specs.Attributes.{lookup}
 use Rattle.attr_text.specs.Text.{unescaped}
 use Rattle.attr_text.specs.declared.fault.AttrFault.{AttrFault}
 use Rattle.part_events.specs.Event.{Tag, Event, start, end, leaf, text, char_data, entity_ref}
-use Rattle.part_events.specs.Event.{other}
+use Rattle.part_events.specs.Event.{flaw, other}
 use Rattle.part_events.specs.Section.{Element, children, is_named}
 use Rattle.cell_data.specs.CellError.{cell_error}
 use Rattle.cell_data.specs.CellValue as value
@@ -43,6 +43,7 @@ first_text (end own ∷ events) = None
 first_text (leaf (text written) ∷ events) = Some written
 first_text (leaf (char_data written) ∷ events) = None
 first_text (leaf (entity_ref own) ∷ events) = None
+first_text (leaf (flaw why) ∷ events) = None
 first_text (leaf other ∷ events) = None
 
 -- the format of a style, by the text of its number: one that is none is the first, and a cell
