@@ -34,3 +34,5 @@ pub use whole_cells::full_cells;
 
 #[cfg(test)]
 mod tests;
+#[cfg(test)]
+mod text_part_tests;
