@@ -3,15 +3,25 @@ use Rattle.std.proofs.Common.{◌≡◌, ℕ, zero, suc, ◌+◌, Bool, true, fa
 use Rattle.std.proofs.Common.{Option, Some, None, refl, sym, ap, ◌∙◌, arith}
 use Rattle.std.proofs.Common.{append-nil}
 use Rattle.std.specs.Prelude.{⊤, codes, if◌then◌else◌}
+use Rattle.std.specs.Prelude.{String, string_bytes, map}
 use Rattle.std.specs.Fmt.{decimal}
 use Rattle.std.specs.FinMap.{find}
 use Rattle.std.specs.List.{All, list_any, flat_map}
 use Rattle.std.specs.Option.{unwrap_or}
 use Rattle.std.specs.Ordering.{eq_by_cmp}
+use Rattle.std.specs.declared.alloc.Global.{Global}
+use Rattle.std.proofs.lemmas.Bool.{or_parts}
+use Rattle.std.proofs.lemmas.Str.{IsUtf8-string_bytes}
 use Rattle.cell_refs.specs.Positions.{position_cmp}
 use Rattle.cell_refs.specs.Reference.{reference, row_reference}
 use Rattle.cell_data.specs.CellValue.{CellValue, nothing, integer, number, text, shared_text}
 use Rattle.cell_data.specs.CellValue.{truth, time, iso_time, failure}
+use Rattle.cell_data.specs.CellValue.{value_of_data}
+use Rattle.cell_data.specs.Pairs.{value_pairs, formula_pairs, with_meaning}
+use Rattle.cell_data.specs.Range.{cells_of}
+use Rattle.cell_data.specs.declared.range.Range.{Range}
+use Rattle.cell_data.specs.declared.value.Data.{Data}
+use Rattle.cell_data.specs.declared.value.Data.TheVariants as owned
 use Rattle.cell_data.specs.declared.value.ExcelDateTimeType.TheVariants.{DateTime, TimeDelta}
 use Rattle.part_events.specs.Event.{Event}
 use Rattle.part_events.specs.Package.{Part}
@@ -20,6 +30,7 @@ use Rattle.markup.specs.Spelled.{are_spellable, spelled}
 use Rattle.text_package.specs.PartSpelling.{IsPartText, begin_with_tag}
 use Rattle.text_package.specs.PartText.{part_markup}
 use Rattle.text_package.proofs.SpelledParts.{part_cut_back}
+use Rattle.written_markup.specs.WrittenText.{has_byte}
 use Rattle.written_markup.specs.Markup.{element, attribute}
 use Rattle.written_markup.specs.WrittenText.{attribute_if, text_events, encoded}
 use Rattle.xlsx_out.specs.Groups.{Placed, formula_placed, WrittenFormula, plain, master, derived}
@@ -34,6 +45,7 @@ use Rattle.xlsx_out.specs.WrittenSheet.{relationship_to, relationships_to, is_fr
 use Rattle.xlsx_out.specs.WrittenSheet.{properties_by, sheet_attributes, sheets_events}
 use Rattle.xlsx_out.specs.WrittenSheet.{workbook_by, workbook_events, cell_format, style_events}
 use Rattle.xlsx_out.specs.WrittenSheet.{sheet_events, written_parts, part}
+use Rattle.xlsx_out_as_markup.specs.WrittenPieces.{has_zero, HaveNoZero}
 use Rattle.xlsx_out_as_markup.specs.WrittenPieces.{pieces_of, IsSpelled, AreSpelled, AreCutBack}
 use Rattle.xlsx_out_as_markup.specs.WrittenPieces.{HasPartText, HaveTexts}
 use Rattle.xlsx_out_as_markup.proofs.Texts.{is_word, word_text, in_one_word, underscores_text}
@@ -402,3 +414,43 @@ parts_cut_back name values formulas texts =
     (are_spellable_alone Known own.events fits) tag
     (texts_of_pieces own.events (fits.markup.texts texts))
     ∙ events_of_pieces own.events)
+
+-- ---- ranges
+
+string_text : {Z : Type 0} (own : String Z) → has_byte 0 (string_bytes own) ≡ false
+    → IsPartText (string_bytes own)
+string_text own none = record { utf8 = IsUtf8-string_bytes own; no_zero = none }
+
+data_text : (data_of : Data) → has_zero (value_of_data data_of) ≡ false
+    → HasPartText (value_of_data data_of)
+data_text (owned.Int n) none = tt
+data_text (owned.Decimal d) none = tt
+data_text (owned.String own) none = string_text own none
+data_text (owned.Bool b) none = tt
+data_text (owned.DateTime date) none = tt
+data_text (owned.DateTimeIso own) none = string_text own none
+data_text (owned.Error error) none = tt
+data_text owned.Empty none = tt
+
+-- what holds of each thing of which a test fails holds of all of which it fails
+all_by_test : {X Y : Type 0} (meaning : X → Y) (test : Y → Bool) (P : Y → Type 0)
+    → ((x : X) → test (meaning x) ≡ false → P (meaning x)) → (cells : List ((ℕ × ℕ) × X))
+    → list_any (λ entry. test entry.1) (map (with_meaning meaning) cells) ≡ false
+    → All (λ entry. P entry.1) (map (with_meaning meaning) cells)
+all_by_test meaning test P each [] none k d within = absurd (omega arith)
+all_by_test meaning test P each (cell ∷ cells) none zero d within =
+    each cell.1 (or_parts _ _ none).0
+all_by_test meaning test P each (cell ∷ cells) none (suc k) d within =
+    all_by_test meaning test P each cells (or_parts _ _ none).1 k d (omega arith)
+
+pub ranges_cut_back : (name : List ℕ) (values : Range Data) (formulas : Range (String Global))
+    → IsPartText name → HaveNoZero values formulas
+    → AreCutBack (written_parts name (value_pairs values) (formula_pairs formulas))
+ranges_cut_back name values formulas own none =
+    parts_cut_back name (value_pairs values) (formula_pairs formulas) (record {
+      of_name = own;
+      of_values = all_by_test value_of_data has_zero HasPartText data_text (cells_of values)
+          none.of_values;
+      of_formulas = all_by_test (λ (s : String Global). string_bytes s) (has_byte 0) IsPartText
+          string_text (cells_of formulas) none.of_formulas;
+    })
