@@ -1,0 +1,5 @@
+pub mod Texts
+pub mod AttributesFit
+pub mod EventsFit
+pub mod WordsWritten
+pub mod PartsFit

@@ -1,0 +1,60 @@
+-- Parts as pieces of markup, and the texts of a sheet that can be the text of a part.
+use Rattle.std.specs.Prelude.{◌≡◌, ⊤, ℕ, Bool, true, false, List, map, String}
+use Rattle.std.specs.List.{All, flat_map, list_any}
+use Rattle.std.specs.declared.alloc.Global.{Global}
+use Rattle.cell_data.specs.CellValue.{CellValue, text, iso_time}
+use Rattle.cell_data.specs.Pairs.{value_pairs, formula_pairs}
+use Rattle.cell_data.specs.declared.range.Range.{Range}
+use Rattle.cell_data.specs.declared.value.Data.{Data}
+use Rattle.part_events.specs.Event.{Event}
+use Rattle.part_events.specs.Package.{Part}
+use Rattle.markup.specs.Front.{Piece, one}
+use Rattle.markup.specs.Markup.{events_of_piece}
+use Rattle.markup.specs.Spelled.{spelled, are_spellable}
+use Rattle.text_package.specs.PartText.{part_markup}
+use Rattle.text_package.specs.PartSpelling.{IsPartText}
+use Rattle.written_markup.specs.WrittenText.{has_byte}
+use Rattle.xlsx_out.specs.Groups.{Placed}
+use Rattle.xlsx_out.specs.WrittenSheet.{PlacedValues}
+
+-- each event as a piece of its own
+abbrev pub pieces_of : List Event → List Piece
+pieces_of events = map (λ event. one event) events
+
+-- a part's events are those of pieces that markup spells
+pub record IsSpelled (part : Part) : Type 0 where
+  pub spellable : are_spellable (pieces_of part.events) ≡ true
+  pub events : flat_map events_of_piece (pieces_of part.events) ≡ part.events
+
+-- each of these parts is spelled
+abbrev pub AreSpelled : List Part → Type 0
+AreSpelled parts = All IsSpelled parts
+
+-- the bytes of each of these parts, read as a part, are its events
+abbrev pub AreCutBack : List Part → Type 0
+AreCutBack parts = All (λ part. part_markup (spelled (pieces_of part.events)) ≡ part.events) parts
+
+-- the text of a value, where it has one, is UTF-8 without a character 0
+abbrev pub HasPartText : CellValue → Type 0
+HasPartText (text bytes) = IsPartText bytes
+HasPartText (iso_time bytes) = IsPartText bytes
+HasPartText _ = ⊤
+
+-- The texts of a sheet are UTF-8 without a character 0, as each Rust `&str` without a NUL is. It
+-- can't be left out: where the name is the byte 0, or the byte 255, or a value's text or a formula
+-- is, the bytes of the part that it stands in are no text, and are read as one flaw (`NotText`).
+pub record HaveTexts (name : List ℕ) (values : PlacedValues) (formulas : Placed) : Type 0 where
+  pub of_name : IsPartText name
+  pub of_values : All (λ entry. HasPartText entry.1) values
+  pub of_formulas : All (λ entry. IsPartText entry.1) formulas
+
+-- a value has a text with a character 0
+abbrev pub has_zero : CellValue → Bool
+has_zero (text bytes) = has_byte 0 bytes
+has_zero (iso_time bytes) = has_byte 0 bytes
+has_zero _ = false
+
+-- no text of a sheet's ranges has a character 0; that it is UTF-8 is known of each `String`
+pub record HaveNoZero (values : Range Data) (formulas : Range (String Global)) : Type 0 where
+  pub of_values : list_any (λ entry. has_zero entry.1) (value_pairs values) ≡ false
+  pub of_formulas : list_any (λ entry. has_byte 0 entry.1) (formula_pairs formulas) ≡ false
