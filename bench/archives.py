@@ -69,7 +69,8 @@ def workbook(chance, kinds):
         stream = held if method == 0 else packed(chance, held, level, strategy)
         kinds["stored" if method == 0 else f"level {level}, {strategy}"] += 1
         own = name.encode()
-        sizes = b"".join(n.to_bytes(4, "little") for n in (zlib.crc32(held), len(stream), len(held)))
+        told = zlib.crc32(held), len(stream), len(held)
+        sizes = b"".join(number.to_bytes(4, "little") for number in told)
         both = b"\0\0" + method.to_bytes(2, "little") + b"\0\0\x21\0" + sizes
         both += len(own).to_bytes(2, "little") + b"\0\0"
         place = len(local).to_bytes(4, "little")
