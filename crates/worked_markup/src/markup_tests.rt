@@ -463,4 +463,5 @@ fn laws_are_calls_that_do_nothing() {
     spelled_markup_is_cut_back();
     parts_are_bounded();
     spelled_parts_are_cut_back();
+    text_package::copies_are_the_same();
 }
