@@ -24,6 +24,7 @@ TOLD = {
     ("part_events/fault.rt", "fmt", 1): "its text",
     ("part_events/fault.rt", "from", 1): PASSED_ON,
     ("part_events/text.rt", "text_error", 1): PASSED_ON,
+    ("workbook_file/workbook_file.rt", "open_part", 1): PASSED_ON,
     ("xlsx_areas/merged_parts.rt", "merges_or_none", 1): PASSED_ON,
     ("xlsx_commands/error.rt", "fmt", 1): "its text",
     ("xlsx_commands/error.rt", "from", 2): PASSED_ON,

@@ -1,0 +1,2 @@
+pub mod NamedParts
+pub mod Opening
