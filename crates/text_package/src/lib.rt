@@ -1,7 +1,7 @@
 //! A package whose parts are held as text, and cut into events as they are read.
 //!
-//! Rooms: `decoding` (`part_text`, the text that a part's bytes are), `part` (`TextPart`, a part that
-//! is held), `reading` (`Reading`, where reading stands in a part), `package` (`TextPackage`),
+//! Rooms: `decoding` (`part_text`, the text that a part's bytes are), `part` (`TextPart`, a part
+//! that is held), `reading` (`Reading`, where reading stands in a part), `package` (`TextPackage`),
 //! `laws`.
 //!
 //! A part whose bytes are no text is held, too: it has one event, a flaw. So a package can be read
