@@ -1,2 +1,3 @@
+pub mod KeptParts
 pub mod NamedParts
 pub mod Opening

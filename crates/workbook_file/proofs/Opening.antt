@@ -17,7 +17,7 @@ use Rattle.workbook_file.specs.FileParts.{entry_events, file_parts, held_by, par
 use Rattle.workbook_file.specs.OpenEvents.{OpenEvents, rest_of}
 use Rattle.workbook_file.proofs.NamedParts.{by_name}
 
-opened_rest : (outcome : Result (List ℕ) EntryFault)
+pub opened_rest : (outcome : Result (List ℕ) EntryFault)
     → rest_of (just_opened outcome) ≡ entry_events outcome
 opened_rest (Ok bytes) = refl
 opened_rest (Err fault) = refl

@@ -2,7 +2,7 @@
 ghost use Rattle.std.specs.Prelude.{◌≡◌, ◌<◌, ◌^◌, length, IfOk, IfErr, IsOk, MatchResult};
 ghost use Rattle.std.specs.Prelude.{true};
 ghost use Rattle.std.specs.Prelude.{slice_index_or};
-ghost use Rattle.part_events.specs.Memory.{part_at};
+ghost use Rattle.part_events.specs.Memory.{closed, part_at};
 ghost use Rattle.part_events.specs.Package.{SameParts, Opens, OpenCounts, Advances, AdvanceCounts};
 ghost use Rattle.part_events.specs.Package.{Refuses};
 ghost use Rattle.part_events.specs.declared.package.PackageError.TheVariants.{OutOfMemory};
@@ -12,9 +12,10 @@ ghost use Rattle.zip_archive.specs.Members.{no_entry};
 ghost use Rattle.workbook_file.specs.Contents.{IsFresh, file_state, just_opened};
 ghost use Rattle.workbook_file.specs.FileParts.{file_parts, flaw_of, held_by};
 
+use crate::in_memory::push_part;
 use crate::open_part::OpenPart;
 use crc32::Tables;
-use part_events::{Flaw, Package, PackageError, PartEvent};
+use part_events::{Flaw, MemoryPackage, Package, PackageError, PartEvent};
 use std::alloc::Global;
 use std::marker::Model;
 use zip_archive::{Archive, ArchiveError, EntryError, EntryFault};
@@ -114,6 +115,25 @@ impl WorkbookFile {
         ensures { result.now ≡ (part_at (file_parts self.now.archive) place).name }
     {
         self.archive.member_name(place)
+    }
+
+    /// The same parts as a package in memory, of which none is open and no event was taken. Each is
+    /// unpacked and cut, in the order of the directory, and all of them are held at once.
+    ///
+    /// # Errors
+    ///
+    /// Want of memory alone: a part that can't be unpacked is one flaw, as when it is opened here.
+    pub fn into_memory(self, alloc: Global) -> Result<MemoryPackage, PackageError>
+        ensures ok { IfOk result (λ held. held ≡ closed (file_parts self.archive) 0) }
+        ensures err { IfErr result (λ error. error ≡ OutOfMemory) }
+    {
+        let mut held = MemoryPackage::new(alloc);
+        'parts: for place in 0..self.archive.member_count() {
+            let entry = self.archive.member_entry(place);
+            let part = open_part(alloc, &self.archive, &self.tables, entry)?;
+            push_part(&mut held, self.archive.member_name(place), part)?;
+        }
+        Ok(held)
     }
 }
 
