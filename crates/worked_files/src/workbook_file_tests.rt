@@ -80,7 +80,7 @@ fn push_told(told: &mut String, event: PartEvent<'_>) -> Result<(), AllocError> 
 }
 
 /// The events of the part of a name, each of which takes one off the number of those that are left.
-fn told_part(alloc: Global, package: &mut WorkbookFile, name: &str) -> Result<String, Fail> {
+fn told_part<P: Package>(alloc: Global, package: &mut P, name: &str) -> Result<String, Fail> {
     if package.open(name) != Ok(true) {
         return Ok(String::from_str(alloc, "absent")?);
     }
@@ -109,6 +109,21 @@ fn a_part_has_the_events_of_its_entry(rt: HostRuntime) -> Result<(), Fail> {
         let (name, wanted) = cut(rest);
         let mut package = workbook_file(alloc, archive_of_parts(alloc, parts)?)?;
         assert_text(&told_part(alloc, &mut package, name)?, wanted, case)?;
+    }
+    Ok(())
+}
+
+#[test]
+fn a_file_is_unpacked_into_memory(rt: HostRuntime) -> Result<(), Fail> {
+    let alloc = rt.alloc();
+    for case in cases(PARTS) {
+        let (parts, rest) = cut(case);
+        let (name, wanted) = cut(rest);
+        let file = workbook_file(alloc, archive_of_parts(alloc, parts)?)?;
+        let Ok(mut held) = file.into_memory(alloc) else {
+            return Err(Fail::new(format_args!("out of memory")));
+        };
+        assert_text(&told_part(alloc, &mut held, name)?, wanted, case)?;
     }
     Ok(())
 }

@@ -1,4 +1,4 @@
-use Rattle.std.proofs.Common.{List, [], ◌∷◌, ◌++◌, ◌+◌, sym, ap, ◌∙◌, arith}
+use Rattle.std.proofs.Common.{List, [], ◌∷◌, ◌++◌, ap, ◌∙◌, arith}
 use Rattle.part_events.specs.Memory.{Contents, closed}
 use Rattle.part_events.specs.Package.{Part}
 use Rattle.workbook_file.specs.Contents.{FileContents}
