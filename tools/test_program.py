@@ -9,6 +9,7 @@ import resource
 import signal
 import socket
 import subprocess
+import sys
 import tempfile
 import termios
 import time
@@ -254,6 +255,25 @@ class Edge:
             for data in (package_text(parts), package_text(parts, 2), wanted):
                 self.assertEqual(self.run_on(data, ["upgrade"]), (0, wanted, b""))
             self.assertEqual(self.run_on(wanted), (0, lines, b""))
+
+    def test_a_workbook_file_is_an_input(self):
+        """It has the lines of the package text that is made of it."""
+        for sample in sorted((TOP / "samples").glob("*.xlsx")):
+            file = sample.read_bytes()
+            with tempfile.TemporaryFile() as text:
+                command = [sys.executable, TOP / "tools" / "package_text.py", sample]
+                subprocess.run(command, stdout=text, check=True)
+                text.seek(0)
+                data = text.read()
+            sheets = self.run_on(data, ["sheets"])[1].decode().splitlines()
+            names = [line.split("\t")[0] for line in sheets if "\tworksheet\t" in line]
+            for words in (
+                *(["sheets"], ["names"], ["tables"], ["pivots"], ["props"], ["upgrade"]),
+                *([word, name] for name in names for word in ("cells", "csv", "links")),
+            ):
+                self.assertEqual(self.run_on(file, words), self.run_on(data, words), words)
+        for file in (b"PK", b"PK\3\4", file[:-30]):
+            self.assertEqual(self.run_on(file, ["sheets"]), refusal(5))
 
     def test_cells_that_are_refused(self):
         for cell, text in (

@@ -45,7 +45,7 @@ a.xml:
 "#;
 
 /// The archive of parts, which are written as in `PARTS`.
-fn archive_of_parts(alloc: Global, parts: &str) -> Result<Vec<u8>, Fail> {
+pub fn archive_of_parts(alloc: Global, parts: &str) -> Result<Vec<u8>, Fail> {
     let mut files = Vec::new(alloc);
     for part in parts.split('|') {
         let (name, markup) = part.split_once(':').unwrap_or((part, ""));
@@ -80,7 +80,7 @@ fn push_told(told: &mut String, event: PartEvent<'_>) -> Result<(), AllocError> 
 }
 
 /// The events of the part of a name, each of which takes one off the number of those that are left.
-fn told_part<P: Package>(alloc: Global, package: &mut P, name: &str) -> Result<String, Fail> {
+pub fn told_part<P: Package>(alloc: Global, package: &mut P, name: &str) -> Result<String, Fail> {
     if package.open(name) != Ok(true) {
         return Ok(String::from_str(alloc, "absent")?);
     }

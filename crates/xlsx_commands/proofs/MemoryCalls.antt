@@ -1,6 +1,6 @@
 -- Calls on a package in memory.
 use Rattle.std.proofs.Common.{◌≡◌, ap, arith, true}
-use Rattle.part_events.specs.Memory.{Contents, state_of}
+use Rattle.input_package.specs.Told.{Told, told_state}
 use Rattle.part_events.specs.Package.{PackageState}
 use Rattle.xlsx_error.specs.declared.error.XlsxError.{XlsxError}
 use Rattle.xlsx_error.specs.declared.error.XlsxError.TheVariants as workbook
@@ -10,7 +10,7 @@ use Rattle.xlsx_commands.specs.Status.{of_workbook}
 
 -- the state of a package in memory
 abbrev pub IsInMemory : PackageState → Type 0
-IsInMemory state = (held : Contents) × (state_of held ≡ state)
+IsInMemory state = (held : Told) × (told_state held ≡ state)
 
 -- a call on a package in memory, which has no faults, is refused for its cause
 pub memory_fails : (before after : XlsxError → Type 0) (old new : PackageState)

@@ -4,7 +4,7 @@ use Rattle.std.proofs.Common.{Bool, Some, None}
 use Rattle.std.specs.Prelude.{IsSomeAnd, option_and_then}
 use Rattle.cell_refs.specs.declared.dimensions.Dimensions.{Dimensions}
 use Rattle.part_events.specs.Event.{Event}
-use Rattle.part_events.specs.Memory.{Contents, state_of}
+use Rattle.input_package.specs.Told.{Told, told_state}
 use Rattle.part_events.specs.Package.{Part, PackageState, SameParts}
 use Rattle.xlsx_error.specs.declared.error.XlsxError.{XlsxError}
 use Rattle.xlsx_error.specs.declared.error.XlsxError.TheVariants.{WorksheetNotFound}
@@ -49,17 +49,17 @@ path_is_named cause parts name path (WorksheetNotFound asked) opens has = (path,
 path_is_named cause parts name path error opens has = inr (path, opens, has)
 
 -- a workbook that doesn't open refuses what is asked of each of its sheets
-pub opening_fails_named : (cause : PathCause) (name : List ℕ) (old new : Contents)
+pub opening_fails_named : (cause : PathCause) (name : List ℕ) (old new : Told)
     (error : XlsxError) → IsOpeningError error
-    → OpeningFails (state_of old) (state_of new) error
+    → OpeningFails (told_state old) (told_state new) error
     → CallFails (NamedCause cause old.parts name) (of_workbook error)
 opening_fails_named cause name old new error is fails =
-    memory_fails (NamedCause cause old.parts name) (OpeningCause old.parts) (state_of old)
-    (state_of new) error (new, refl) refl (opening_is_named cause old.parts name error is) fails
+    memory_fails (NamedCause cause old.parts name) (OpeningCause old.parts) (told_state old)
+    (told_state new) error (new, refl) refl (opening_is_named cause old.parts name error is) fails
 
 -- and so does its sheet, where it opens
 pub sheet_fails_named : (cause : PathCause) (name : List ℕ) (path : Option (List ℕ))
-    (old : Contents) (mid new : PackageState) (error : XlsxError) → SameParts (state_of old) mid
+    (old : Told) (mid new : PackageState) (error : XlsxError) → SameParts (told_state old) mid
     → IsInMemory new → OpensAt old.parts name path → FailsBy (cause path mid.parts) mid new error
     → CallFails (NamedCause cause old.parts name) (of_workbook error)
 sheet_fails_named cause name path old mid new error same memory opens fails =

@@ -1,7 +1,7 @@
 -- The pivot tables of a workbook that opened, and why they aren't had.
 use Rattle.std.proofs.Common.{◌≡◌, ◌∙◌, ap, sym, ℕ, List, Some}
 use Rattle.std.specs.Arc.{arc_str_bytes}
-use Rattle.part_events.specs.Memory.{Contents}
+use Rattle.input_package.specs.Told.{Told}
 use Rattle.part_events.specs.Package.{Part}
 use Rattle.xlsx_error.specs.declared.error.XlsxError.{XlsxError}
 use Rattle.xlsx_error.specs.declared.error.XlsxError.TheVariants.{TableNotFound}
@@ -20,7 +20,7 @@ use Rattle.xlsx_commands.proofs.NamedSheets.{OpeningsNever}
 use Rattle.xlsx_commands.proofs.SheetsOpened.{sheets_listed, sheets_never, IsNotMissing}
 
 -- what is found in the sheets of a workbook that opened
-pub has_pivots : (parts : List Part) (opening : Opening) (xlsx : Xlsx Contents)
+pub has_pivots : (parts : List Part) (opening : Opening) (xlsx : Xlsx Told)
     (pivots : List PivotSaid) → OpensAs parts opening
     → HoldsOpening xlsx.metadata xlsx.paths.items xlsx.shared xlsx.is_1904 opening
     → LiesIn parts (arc_str_bytes xlsx.folder) → xlsx.xml.source.parts ≡ parts

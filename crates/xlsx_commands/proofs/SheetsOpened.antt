@@ -1,7 +1,7 @@
 -- The sheets of a workbook that opened, and why what is asked of all isn't had.
 use Rattle.std.proofs.Common.{◌≡◌, ◌∙◌, inl, inr, ap, subst, refl, ℕ, List, [], ◌∷◌, map}
 use Rattle.std.proofs.Common.{Bool, string_bytes}
-use Rattle.part_events.specs.Memory.{Contents, state_of}
+use Rattle.input_package.specs.Told.{Told, told_state}
 use Rattle.part_events.specs.Package.{Part, PackageState, SameParts}
 use Rattle.xlsx_error.specs.declared.error.XlsxError.{XlsxError}
 use Rattle.xlsx_error.specs.declared.error.XlsxError.TheVariants as workbook
@@ -75,21 +75,21 @@ opening_there error is = tt
 
 -- the workbook doesn't open
 pub opening_unlisted : (cause_of : List Part → List SheetPath → XlsxError → Type 0)
-    (old new : Contents) (error : XlsxError) → IsOpeningError error
-    → OpeningFails (state_of old) (state_of new) error
+    (old new : Told) (error : XlsxError) → IsOpeningError error
+    → OpeningFails (told_state old) (told_state new) error
     → ListingFails cause_of old.parts (of_workbook error)
 opening_unlisted cause_of old new error is fails =
     listing_fails cause_of old.parts error (opening_there error is)
-    (memory_fails (ListedCause cause_of old.parts) (OpeningCause old.parts) (state_of old)
-    (state_of new) error (new, refl) refl (λ cause. inl cause) fails)
+    (memory_fails (ListedCause cause_of old.parts) (OpeningCause old.parts) (told_state old)
+    (told_state new) error (new, refl) refl (λ cause. inl cause) fails)
 
 -- what is asked of all sheets is refused
 pub sheets_unlisted : {metadata : Metadata} {paths : List KeptPath}
     {shared : SharedParts} {is_1904 : Bool}
     (cause_of : List Part → List SheetPath → XlsxError → Type 0) (opening : Opening)
-    (old : Contents) (mid new : PackageState) (error : XlsxError)
+    (old : Told) (mid new : PackageState) (error : XlsxError)
     → HoldsOpening metadata paths shared is_1904 opening → OpensAs old.parts opening
-    → SameParts (state_of old) mid → IsInMemory new → IsNotMissing error
+    → SameParts (told_state old) mid → IsInMemory new → IsNotMissing error
     → FailsBy (cause_of mid.parts (sheet_paths metadata.sheets.items paths)) mid new error
     → ListingFails cause_of old.parts (of_workbook error)
 sheets_unlisted {metadata = metadata} {paths = paths} cause_of opening old mid new error holds

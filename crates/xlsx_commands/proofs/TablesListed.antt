@@ -10,7 +10,7 @@ use Rattle.cell_refs.specs.declared.dimensions.Dimensions.{Dimensions}
 use Rattle.cell_refs.proofs.PositionOrder.{and_both}
 use Rattle.list_lines.specs.Lines.{LiesInWorksheet, table_line}
 use Rattle.cell_data.specs.declared.value.HeaderRow.TheVariants.{FirstNonEmptyRow}
-use Rattle.part_events.specs.Memory.{Contents}
+use Rattle.input_package.specs.Told.{Told}
 use Rattle.part_events.specs.Package.{Part, SameParts}
 use Rattle.xlsx_error.specs.declared.error.XlsxError.{XlsxError}
 use Rattle.xlsx_error.specs.declared.error.XlsxError.TheVariants.{TableNotFound}
@@ -34,7 +34,7 @@ use Rattle.xlsx_commands.proofs.NamedSheets.{OpeningsNever}
 use Rattle.xlsx_commands.proofs.SheetsOpened.{sheets_listed, sheets_never, IsNotMissing}
 
 -- a call that keeps the workbook keeps what it holds of the opening
-holds_kept : (opening : Opening) (old new : Xlsx Contents) → KeepsBook old new
+holds_kept : (opening : Opening) (old new : Xlsx Told) → KeepsBook old new
     → HoldsOpening old.metadata old.paths.items old.shared old.is_1904 opening
     → HoldsOpening new.metadata new.paths.items new.shared new.is_1904 opening
 holds_kept opening old new keeps holds = record {
@@ -48,7 +48,7 @@ holds_kept opening old new keeps holds = record {
 }
 
 -- a workbook that opened, with its tables
-pub opened_with : (parts : List Part) (opening : Opening) (old new : Xlsx Contents)
+pub opened_with : (parts : List Part) (opening : Opening) (old new : Xlsx Told)
     → OpensAs parts opening
     → HoldsOpening old.metadata old.paths.items old.shared old.is_1904 opening
     → old.xml.source.is_told ≡ true → old.xml.source.parts ≡ parts

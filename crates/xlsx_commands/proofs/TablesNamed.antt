@@ -9,7 +9,7 @@ use Rattle.cell_data.specs.declared.value.Data.{Data}
 use Rattle.cell_data.specs.declared.value.HeaderRow.{HeaderRow}
 use Rattle.cell_data.specs.declared.value.HeaderRow.TheVariants.{FirstNonEmptyRow}
 use Rattle.cell_refs.specs.declared.dimensions.Dimensions.{Dimensions}
-use Rattle.part_events.specs.Memory.{Contents}
+use Rattle.input_package.specs.Told.{Told}
 use Rattle.part_events.specs.Package.{Part, PackageState}
 use Rattle.xlsx_error.specs.declared.error.XlsxError.{XlsxError}
 use Rattle.xlsx_error.specs.declared.error.XlsxError.TheVariants as workbook
@@ -63,7 +63,7 @@ cause_is_named : (parts : List Part) (name : List ℕ) (error : XlsxError) → I
 cause_is_named parts name (workbook.TableNotFound asked) other has = absurd other
 cause_is_named parts name error other has = inr has
 
-module _ (parts : List Part) (name : List ℕ) (xlsx : Xlsx Contents)
+module _ (parts : List Part) (name : List ℕ) (xlsx : Xlsx Told)
     (opened : OpensWithTables parts xlsx) where
   abbrev has_tables : HasTables parts (loaded_tables xlsx)
   has_tables = record {

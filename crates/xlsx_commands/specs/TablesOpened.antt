@@ -1,7 +1,7 @@
 -- An open workbook with its tables.
 use Rattle.std.specs.Prelude.{true, ◌≡◌, List, Some}
 use Rattle.cell_data.specs.declared.value.HeaderRow.TheVariants.{FirstNonEmptyRow}
-use Rattle.part_events.specs.Memory.{Contents}
+use Rattle.input_package.specs.Told.{Told}
 use Rattle.part_events.specs.Package.{Part}
 use Rattle.xlsx_tables.specs.Tables.{tables_of}
 use Rattle.xlsx_open.specs.Opening.{Opening, OpensAs, HoldsOpening}
@@ -10,7 +10,7 @@ use Rattle.xlsx_core.specs.declared.xlsx.Xlsx.{Xlsx}
 use Rattle.xlsx_commands.specs.SheetsOpened.{sheets_opened}
 
 -- the workbook that these parts open as, with its tables, and no header row that was set
-pub record OpensWithTables (parts : List Part) (xlsx : Xlsx Contents) : Type 0 where
+pub record OpensWithTables (parts : List Part) (xlsx : Xlsx Told) : Type 0 where
   pub opening : Opening
   pub opens : OpensAs parts opening
   pub holds : HoldsOpening xlsx.metadata xlsx.paths.items xlsx.shared xlsx.is_1904 opening

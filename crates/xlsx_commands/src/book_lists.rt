@@ -6,8 +6,9 @@ ghost use Rattle.xlsx_commands.specs.BookLists.{AreSheetLines, AreNameLines, Has
 ghost use Rattle.xlsx_commands.specs.Outputs.{CallFails};
 
 use crate::error::ToolError;
+use input_package::InputPackage;
 use list_lines::{push_pair_line, push_sheet_line};
-use part_events::{MemoryPackage, XlReader};
+use part_events::XlReader;
 use std::alloc::{AllocError, Global};
 use xlsx_open::{Metadata, Opened, Sheet, SheetType, SheetVisible, open};
 
@@ -59,7 +60,7 @@ fn lines_of_names(alloc: Global, names: &[(String, String)]) -> Result<String, A
 }
 
 /// The sheets and the defined names of the workbook.
-fn metadata_of(alloc: Global, package: MemoryPackage) -> Result<Metadata, ToolError>
+fn metadata_of(alloc: Global, package: InputPackage) -> Result<Metadata, ToolError>
     ensures ok { IfOk result (HasMetadata «package».parts) }
     ensures err { IfErr result (CallFails (OpeningCause «package».parts)) }
 {
@@ -78,7 +79,7 @@ fn metadata_of(alloc: Global, package: MemoryPackage) -> Result<Metadata, ToolEr
 }
 
 /// A line for each sheet of the workbook.
-pub fn sheet_lines(alloc: Global, package: MemoryPackage) -> Result<Vec<u8>, ToolError>
+pub fn sheet_lines(alloc: Global, package: InputPackage) -> Result<Vec<u8>, ToolError>
     ensures ok { IfOk result (λ output. AreSheetLines «package».parts output.items) }
     ensures err { IfErr result (CallFails (OpeningCause «package».parts)) }
 {
@@ -87,7 +88,7 @@ pub fn sheet_lines(alloc: Global, package: MemoryPackage) -> Result<Vec<u8>, Too
 }
 
 /// A line for each defined name of the workbook.
-pub fn name_lines(alloc: Global, package: MemoryPackage) -> Result<Vec<u8>, ToolError>
+pub fn name_lines(alloc: Global, package: InputPackage) -> Result<Vec<u8>, ToolError>
     ensures ok { IfOk result (λ output. AreNameLines «package».parts output.items) }
     ensures err { IfErr result (CallFails (OpeningCause «package».parts)) }
 {

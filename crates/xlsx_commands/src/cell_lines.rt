@@ -5,7 +5,7 @@ ghost use Rattle.xlsx_core.specs.Worksheets.{HasLeastRanges};
 ghost use Rattle.xlsx_commands.specs.Outputs.{AreLinesOf, CallFails};
 
 use crate::error::ToolError;
-use part_events::MemoryPackage;
+use input_package::InputPackage;
 use sheet_listing::listing_of;
 use std::alloc::Global;
 use xlsx_core::{SheetAnswer, SheetReading, read_sheet};
@@ -13,7 +13,7 @@ use xlsx_core::{SheetAnswer, SheetReading, read_sheet};
 /// What is read of the sheet of this name.
 pub(crate) fn reading_of(
     alloc: Global,
-    package: MemoryPackage,
+    package: InputPackage,
     name: &str,
 ) -> Result<SheetReading, ToolError>
     ensures ok { IfOk result (λ found. ReadsAs «package».parts name.now
@@ -29,7 +29,7 @@ pub(crate) fn reading_of(
 }
 
 /// The lines of the sheet of this name.
-pub fn cell_lines(alloc: Global, package: MemoryPackage, name: &str) -> Result<Vec<u8>, ToolError>
+pub fn cell_lines(alloc: Global, package: InputPackage, name: &str) -> Result<Vec<u8>, ToolError>
     ensures ok { IfOk result (λ output. AreLinesOf «package».parts name.now output.items) }
     ensures err { IfErr result (CallFails (SheetCause «package».parts name.now)) }
 {

@@ -8,8 +8,8 @@ ghost use Rattle.xlsx_commands.specs.SheetLists.{AreCommentLines};
 
 use crate::error::ToolError;
 use crate::named_sheet::{OfSheet, of_sheet};
+use input_package::InputPackage;
 use list_lines::push_comment_line;
-use part_events::MemoryPackage;
 use std::alloc::{AllocError, Global};
 use xlsx_core::{Comment, Comments, Xlsx};
 use xlsx_error::XlsxError;
@@ -21,7 +21,7 @@ impl OfSheet for Vec<Comments> {
 
     ghost cause = { CommentsPathCause };
 
-    fn ask(xlsx: &mut Xlsx<MemoryPackage>, name: &str) -> Result<Vec<Comments>, XlsxError> {
+    fn ask(xlsx: &mut Xlsx<InputPackage>, name: &str) -> Result<Vec<Comments>, XlsxError> {
         xlsx.comments_by_sheet_name(name)
     }
 }
@@ -62,11 +62,7 @@ fn lines_of_comments(alloc: Global, all: &[Comments]) -> Result<String, AllocErr
 }
 
 /// A line for each comment of the first sheet of this name.
-pub fn comment_lines(
-    alloc: Global,
-    package: MemoryPackage,
-    name: &str,
-) -> Result<Vec<u8>, ToolError>
+pub fn comment_lines(alloc: Global, package: InputPackage, name: &str) -> Result<Vec<u8>, ToolError>
     ensures ok { IfOk result (λ output. AreCommentLines «package».parts name.now output.items) }
     ensures err { IfErr result (CallFails (NamedCommentsCause «package».parts name.now)) }
 {

@@ -1,7 +1,7 @@
 ghost use Rattle.std.specs.Prelude.{◌≡◌};
 ghost use Rattle.xlsx_commands.specs.Status.{status_of};
 
-use part_events::MemoryPackage;
+use input_package::InputPackage;
 use std::alloc::{AllocError, AllocFailed};
 use std::error::Error;
 use std::fmt;
@@ -102,12 +102,12 @@ impl From<XlsxError> for ToolError {
     }
 }
 
-impl From<OpenFailure<MemoryPackage>> for ToolError {
+impl From<OpenFailure<InputPackage>> for ToolError {
     ghost use Rattle.xlsx_commands.specs.Status.{of_workbook};
 
     ghost from_gives = { λ failure e. e ≡ of_workbook failure.error };
 
-    fn from(failure: OpenFailure<MemoryPackage>) -> ToolError {
+    fn from(failure: OpenFailure<InputPackage>) -> ToolError {
         ToolError::from(failure.error)
     }
 }

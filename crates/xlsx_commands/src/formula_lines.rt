@@ -6,7 +6,7 @@ ghost use Rattle.xlsx_commands.specs.Outputs.{CallFails};
 
 use crate::cell_lines::reading_of;
 use crate::error::ToolError;
-use part_events::MemoryPackage;
+use input_package::InputPackage;
 use std::alloc::Global;
 use xlsx_check::push_checks;
 use xlsx_precedents::{push_dependents, push_precedents};
@@ -14,7 +14,7 @@ use xlsx_precedents::{push_dependents, push_precedents};
 /// A line for each formula of the sheet of this name: its cell and the areas that it names.
 pub fn precedent_lines(
     alloc: Global,
-    package: MemoryPackage,
+    package: InputPackage,
     name: &str,
 ) -> Result<Vec<u8>, ToolError>
     ensures ok { IfOk result (λ output. ArePrecedentLines «package».parts name.now output.items) }
@@ -30,7 +30,7 @@ pub fn precedent_lines(
 /// and a column counted from 0.
 pub fn dependent_lines(
     alloc: Global,
-    package: MemoryPackage,
+    package: InputPackage,
     name: &str,
     position: (u32, u32),
 ) -> Result<Vec<u8>, ToolError>
@@ -46,7 +46,7 @@ pub fn dependent_lines(
 
 /// A line for each formula of the sheet of this name: its cell, and how what it comes to stands to
 /// the value of the cell.
-pub fn check_lines(alloc: Global, package: MemoryPackage, name: &str) -> Result<Vec<u8>, ToolError>
+pub fn check_lines(alloc: Global, package: InputPackage, name: &str) -> Result<Vec<u8>, ToolError>
     ensures ok { IfOk result (λ output. AreCheckLines «package».parts name.now output.items) }
     ensures err { IfErr result (CallFails (SheetCause «package».parts name.now)) }
 {

@@ -9,8 +9,8 @@ ghost use Rattle.xlsx_commands.specs.SheetLists.{line_of_link, link_lines, AreLi
 
 use crate::error::ToolError;
 use crate::named_sheet::{OfSheet, of_sheet};
+use input_package::InputPackage;
 use list_lines::push_link_line;
-use part_events::MemoryPackage;
 use std::alloc::{AllocError, Global};
 use xlsx_core::{Hyperlink, Xlsx};
 use xlsx_error::XlsxError;
@@ -22,7 +22,7 @@ impl OfSheet for Vec<Hyperlink> {
 
     ghost cause = { PlacedLinksCause };
 
-    fn ask(xlsx: &mut Xlsx<MemoryPackage>, name: &str) -> Result<Vec<Hyperlink>, XlsxError> {
+    fn ask(xlsx: &mut Xlsx<InputPackage>, name: &str) -> Result<Vec<Hyperlink>, XlsxError> {
         xlsx.hyperlinks_by_sheet_name(name)
     }
 }
@@ -63,7 +63,7 @@ fn lines_of_links(alloc: Global, links: &[Hyperlink]) -> Result<String, AllocErr
 }
 
 /// A line for each link of the first sheet of this name.
-pub fn link_lines(alloc: Global, package: MemoryPackage, name: &str) -> Result<Vec<u8>, ToolError>
+pub fn link_lines(alloc: Global, package: InputPackage, name: &str) -> Result<Vec<u8>, ToolError>
     ensures ok { IfOk result (λ output. AreLinkLines «package».parts name.now output.items) }
     ensures err { IfErr result (CallFails (NamedLinksCause «package».parts name.now)) }
 {

@@ -8,8 +8,8 @@ ghost use Rattle.xlsx_commands.specs.SheetLists.{AreMergeLines};
 use crate::error::ToolError;
 use crate::named_sheet::{OfSheet, of_sheet};
 use cell_refs::Dimensions;
+use input_package::InputPackage;
 use list_lines::push_area_line;
-use part_events::MemoryPackage;
 use std::alloc::{AllocError, Global};
 use xlsx_core::Xlsx;
 use xlsx_error::XlsxError;
@@ -20,7 +20,7 @@ impl OfSheet for Vec<Dimensions> {
 
     ghost cause = { MergesPathCause };
 
-    fn ask(xlsx: &mut Xlsx<MemoryPackage>, name: &str) -> Result<Vec<Dimensions>, XlsxError> {
+    fn ask(xlsx: &mut Xlsx<InputPackage>, name: &str) -> Result<Vec<Dimensions>, XlsxError> {
         xlsx.merge_cells_by_sheet_name(name)
     }
 }
@@ -37,7 +37,7 @@ fn lines_of_areas(alloc: Global, areas: &[Dimensions]) -> Result<String, AllocEr
 }
 
 /// A line for each area of merged cells of the first sheet of this name.
-pub fn merge_lines(alloc: Global, package: MemoryPackage, name: &str) -> Result<Vec<u8>, ToolError>
+pub fn merge_lines(alloc: Global, package: InputPackage, name: &str) -> Result<Vec<u8>, ToolError>
     ensures ok { IfOk result (λ output. AreMergeLines «package».parts name.now output.items) }
     ensures err { IfErr result (CallFails (NamedMergesCause «package».parts name.now)) }
 {

@@ -6,7 +6,7 @@ ghost use Rattle.xlsx_commands.specs.Outputs.{CallFails};
 ghost use Rattle.xlsx_commands.specs.SheetLists.{HasNamed, NamedCause, PathCause};
 
 use crate::error::ToolError;
-use part_events::MemoryPackage;
+use input_package::InputPackage;
 use std::alloc::Global;
 use xlsx_core::Xlsx;
 use xlsx_error::XlsxError;
@@ -18,7 +18,7 @@ pub trait OfSheet: Drop {
     ghost cause: { List ℕ → PathCause };
 
     /// Asks the workbook for it.
-    fn ask(xlsx: &mut Xlsx<MemoryPackage>, name: &str) -> Result<Self, XlsxError>
+    fn ask(xlsx: &mut Xlsx<InputPackage>, name: &str) -> Result<Self, XlsxError>
         ensures ok { let old = xlsx.old.xml.source in
             old.is_told ≡ true → IfOk result (λ found.
             has found name.now (path_of xlsx.old name.now) old.parts) }
@@ -30,7 +30,7 @@ pub trait OfSheet: Drop {
 /// What the first sheet of this name has, by the workbook of a package that is needed no more.
 pub fn of_sheet<T: OfSheet>(
     alloc: Global,
-    package: MemoryPackage,
+    package: InputPackage,
     name: &str,
 ) -> Result<T, ToolError>
     ensures ok { IfOk result (λ found. HasNamed (T.has found name.now) «package».parts name.now) }

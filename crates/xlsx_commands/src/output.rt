@@ -20,13 +20,13 @@ use crate::sheet_rows::sheet_rows;
 use crate::table_lines::{table_lines, table_value_lines};
 use crate::table_rows::table_rows;
 use crate::upgraded_text::upgraded_text;
-use part_events::MemoryPackage;
+use input_package::InputPackage;
 use std::alloc::{AllocError, Global};
 use xlsx_sample::sample_package;
 
 /// The package that a command works on where it reads no input.
 #[tactic(auto, unfolding(crate::specs::Command::own_parts))]
-pub fn own_package(alloc: Global, command: Command<'_>) -> Result<Option<MemoryPackage>, AllocError>
+pub fn own_package(alloc: Global, command: Command<'_>) -> Result<Option<InputPackage>, AllocError>
     ensures { IfOk result (λ found.
         option_map (λ held. held.parts) found ≡ own_parts (command_meant command.entry)) }
 {
@@ -50,7 +50,7 @@ pub fn own_package(alloc: Global, command: Command<'_>) -> Result<Option<MemoryP
         Command::Part(_) => None,
         Command::Upgrade => None,
         Command::Resave(_) => None,
-        Command::Sample(rows) => Some(sample_package(alloc, rows)?),
+        Command::Sample(rows) => Some(InputPackage::in_memory(sample_package(alloc, rows)?)),
     };
     Ok(package)
 }
@@ -60,7 +60,7 @@ pub fn own_package(alloc: Global, command: Command<'_>) -> Result<Option<MemoryP
 pub fn output_of(
     alloc: Global,
     command: Command<'_>,
-    package: MemoryPackage,
+    package: InputPackage,
 ) -> Result<Vec<u8>, ToolError>
     ensures ok { IfOk result (λ output.
         IsOutput (command_meant command.entry) «package».parts output.items) }

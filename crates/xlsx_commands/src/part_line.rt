@@ -4,8 +4,8 @@ ghost use Rattle.xlsx_commands.specs.PartNames.{IsPartLine, NamedPartCause, Part
 
 use crate::error::ToolError;
 use crate::named_sheet::{OfSheet, of_sheet};
+use input_package::InputPackage;
 use list_lines::push_text_line;
-use part_events::MemoryPackage;
 use std::alloc::Global;
 use xlsx_core::Xlsx;
 use xlsx_error::XlsxError;
@@ -17,14 +17,14 @@ impl OfSheet for String {
     ghost cause = { PartPathCause };
 
     #[tactic(auto, using(crate::proofs::PartsNamed::path_fails))]
-    fn ask(xlsx: &mut Xlsx<MemoryPackage>, name: &str) -> Result<String, XlsxError> {
+    fn ask(xlsx: &mut Xlsx<InputPackage>, name: &str) -> Result<String, XlsxError> {
         xlsx.worksheet_path(name)
     }
 }
 
 /// The line with the name of the part that the first sheet of this name is read from, whether the
 /// package has that part or not.
-pub fn part_line(alloc: Global, package: MemoryPackage, name: &str) -> Result<Vec<u8>, ToolError>
+pub fn part_line(alloc: Global, package: InputPackage, name: &str) -> Result<Vec<u8>, ToolError>
     ensures ok { IfOk result (λ output. IsPartLine «package».parts name.now output.items) }
     ensures err { IfErr result (CallFails (NamedPartCause «package».parts name.now)) }
 {

@@ -7,8 +7,8 @@ ghost use Rattle.xlsx_commands.specs.PivotLists.{ArePivotLines};
 ghost use Rattle.xlsx_commands.specs.SheetsRefused.{ListingFails};
 
 use crate::error::ToolError;
+use input_package::InputPackage;
 use list_lines::push_pair_line;
-use part_events::MemoryPackage;
 use std::alloc::{AllocError, Global};
 use xlsx_core::{PivotTables, Xlsx};
 
@@ -26,8 +26,8 @@ fn lines_of_pivots(alloc: Global, pivots: &PivotTables) -> Result<String, AllocE
 /// The pivot tables of the workbook, and its package.
 pub fn find_pivots(
     alloc: Global,
-    package: MemoryPackage,
-) -> Result<(PivotTables, MemoryPackage), ToolError>
+    package: InputPackage,
+) -> Result<(PivotTables, InputPackage), ToolError>
     ensures ok { IfOk result (λ found. HasPivots «package».parts (pivots_kept found.0)) }
     ensures same { IfOk result (λ found. found.1.parts ≡ «package».parts) }
     ensures err { IfErr result (ListingFails PivotsCause «package».parts) }
@@ -39,7 +39,7 @@ pub fn find_pivots(
 }
 
 /// A line for each pivot table of the workbook.
-pub fn pivot_lines(alloc: Global, package: MemoryPackage) -> Result<Vec<u8>, ToolError>
+pub fn pivot_lines(alloc: Global, package: InputPackage) -> Result<Vec<u8>, ToolError>
     ensures ok { IfOk result (λ output. ArePivotLines «package».parts output.items) }
     ensures err { IfErr result (CallFails (ListedPivotsCause «package».parts)) }
 {

@@ -7,7 +7,8 @@ ghost use Rattle.xlsx_commands.specs.SheetsRefused.{CacheFails};
 
 use crate::error::ToolError;
 use crate::pivot_lines::find_pivots;
-use part_events::{MemoryPackage, XlReader};
+use input_package::InputPackage;
+use part_events::XlReader;
 use sheet_listing::push_row_line;
 use std::alloc::Global;
 use xlsx_core::XlsxError;
@@ -16,7 +17,7 @@ use xlsx_pivot_cache::PivotCursor;
 /// The lines of the rows of the cache whose definitions and records are the parts at these paths.
 fn lines_of_cache(
     alloc: Global,
-    package: MemoryPackage,
+    package: InputPackage,
     definitions: &str,
     records: &str,
 ) -> Result<String, ToolError>
@@ -51,7 +52,7 @@ fn lines_of_cache(
 /// this name: the names of its fields, and then its records.
 pub fn pivot_rows(
     alloc: Global,
-    package: MemoryPackage,
+    package: InputPackage,
     sheet: &str,
     name: &str,
 ) -> Result<Vec<u8>, ToolError>

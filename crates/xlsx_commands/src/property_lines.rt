@@ -8,14 +8,14 @@ ghost use Rattle.xlsx_commands.specs.PropertyLists.{HasProperties, ArePropertyLi
 ghost use Rattle.xlsx_commands.specs.PropertyLists.{ListedPropertiesCause};
 
 use crate::error::ToolError;
+use input_package::InputPackage;
 use list_lines::{push_custom_line, push_property_line};
-use part_events::MemoryPackage;
 use std::alloc::{AllocError, Global};
 use xlsx_core::{WorkbookProperties, Xlsx};
 use xlsx_properties::named_properties;
 
 /// The properties of the workbook.
-fn properties_of(alloc: Global, package: MemoryPackage) -> Result<WorkbookProperties, ToolError>
+fn properties_of(alloc: Global, package: InputPackage) -> Result<WorkbookProperties, ToolError>
     ensures ok { IfOk result (HasProperties «package».parts) }
     ensures err { IfErr result (CallFails (ListedPropertiesCause «package».parts)) }
 {
@@ -75,7 +75,7 @@ fn lines_of_properties(alloc: Global, properties: &WorkbookProperties) -> Result
 
 /// A line for each property of the workbook: those that it says, in their order, and then those
 /// that users named, in the order of the names.
-pub fn property_lines(alloc: Global, package: MemoryPackage) -> Result<Vec<u8>, ToolError>
+pub fn property_lines(alloc: Global, package: InputPackage) -> Result<Vec<u8>, ToolError>
     ensures ok { IfOk result (λ output. ArePropertyLines «package».parts output.items) }
     ensures err { IfErr result (CallFails (ListedPropertiesCause «package».parts)) }
 {

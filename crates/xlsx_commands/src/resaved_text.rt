@@ -6,13 +6,13 @@ use crate::cell_lines::reading_of;
 use crate::error::ToolError;
 use crate::laws::sheets_that_are_read_can_be_written;
 use crate::upgraded_text::text_of;
-use part_events::MemoryPackage;
+use input_package::InputPackage;
 use std::alloc::Global;
 use xlsx_out::write_package;
 
 /// The text of the package that is written of what is read of the sheet of this name, in version 2,
 /// and a line feed.
-pub fn resaved_text(alloc: Global, package: MemoryPackage, name: &str) -> Result<Vec<u8>, ToolError>
+pub fn resaved_text(alloc: Global, package: InputPackage, name: &str) -> Result<Vec<u8>, ToolError>
     ensures ok { IfOk result (λ output. IsResaved «package».parts name.now output.items) }
     ensures err { IfErr result (CallFails (SheetCause «package».parts name.now)) }
 {

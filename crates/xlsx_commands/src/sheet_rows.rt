@@ -8,7 +8,7 @@ ghost use Rattle.xlsx_commands.specs.SheetRows.{from_first, asked_area};
 use crate::asked_rows::AskedRows;
 use crate::error::ToolError;
 use cell_data::{Data, Range};
-use part_events::MemoryPackage;
+use input_package::InputPackage;
 use std::alloc::Global;
 use xlsx_core::{SheetAnswer, read_sheet_values};
 use xlsx_rows::rows_csv;
@@ -41,7 +41,7 @@ fn in_asked_area(values: Range<Data>, from_a1: bool) -> Range<Data>
 /// The rows of the values of the sheet of this name, as CSV.
 pub fn sheet_rows(
     alloc: Global,
-    package: MemoryPackage,
+    package: InputPackage,
     name: &str,
     asked: AskedRows,
 ) -> Result<Vec<u8>, ToolError>

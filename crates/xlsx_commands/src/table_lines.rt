@@ -11,14 +11,14 @@ ghost use Rattle.xlsx_commands.specs.TablesOpened.{OpensWithTables};
 
 use crate::error::ToolError;
 use cell_data::{Data, Table};
+use input_package::InputPackage;
 use list_lines::push_table_line;
-use part_events::MemoryPackage;
 use sheet_listing::value_lines_of;
 use std::alloc::{AllocError, Global};
 use xlsx_core::Xlsx;
 
 /// The workbook, with the tables of its sheets.
-fn with_tables(alloc: Global, package: MemoryPackage) -> Result<Xlsx<MemoryPackage>, ToolError>
+fn with_tables(alloc: Global, package: InputPackage) -> Result<Xlsx<InputPackage>, ToolError>
     ensures loaded { IfOk result (λ xlsx. IsSome xlsx.lists.tables) }
     ensures ok { IfOk result (OpensWithTables «package».parts) }
     ensures err { IfErr result (ListingFails TablesCause «package».parts) }
@@ -36,7 +36,7 @@ fn with_tables(alloc: Global, package: MemoryPackage) -> Result<Xlsx<MemoryPacka
 /// Appends the line of the table at this index, by its name.
 fn push_table(
     out: &mut String,
-    xlsx: &Xlsx<MemoryPackage>,
+    xlsx: &Xlsx<InputPackage>,
     index: usize,
     name: &str,
 ) -> Result<(), AllocError>
@@ -51,7 +51,7 @@ fn push_table(
     push_table_line(out, name, sheet, area, xlsx.table_columns(index))
 }
 
-fn lines_of_tables(alloc: Global, xlsx: &Xlsx<MemoryPackage>) -> Result<String, AllocError>
+fn lines_of_tables(alloc: Global, xlsx: &Xlsx<InputPackage>) -> Result<String, AllocError>
     requires { IsSome xlsx.now.lists.tables }
     ensures { IfOk result (λ out. string_bytes out ≡ table_lines (loaded_tables xlsx.now)) }
 {
@@ -65,7 +65,7 @@ fn lines_of_tables(alloc: Global, xlsx: &Xlsx<MemoryPackage>) -> Result<String, 
 }
 
 /// A line for each table of the workbook.
-pub fn table_lines(alloc: Global, package: MemoryPackage) -> Result<Vec<u8>, ToolError>
+pub fn table_lines(alloc: Global, package: InputPackage) -> Result<Vec<u8>, ToolError>
     ensures ok { IfOk result (λ output. AreTableLines «package».parts output.items) }
     ensures err { IfErr result (CallFails (ListedTablesCause «package».parts)) }
 {
@@ -74,7 +74,7 @@ pub fn table_lines(alloc: Global, package: MemoryPackage) -> Result<Vec<u8>, Too
 }
 
 /// The first table of this name, with its data.
-pub fn table_of(alloc: Global, package: MemoryPackage, name: &str) -> Result<Table<Data>, ToolError>
+pub fn table_of(alloc: Global, package: InputPackage, name: &str) -> Result<Table<Data>, ToolError>
     ensures ok { IfOk result (HasTable «package».parts name.now) }
     ensures err { IfErr result (CallFails (NamedTableCause «package».parts name.now)) }
 {
@@ -87,7 +87,7 @@ pub fn table_of(alloc: Global, package: MemoryPackage, name: &str) -> Result<Tab
 /// A line for each value in the first table of this name.
 pub fn table_value_lines(
     alloc: Global,
-    package: MemoryPackage,
+    package: InputPackage,
     name: &str,
 ) -> Result<Vec<u8>, ToolError>
     ensures ok { IfOk result (λ output. AreTableValueLines «package».parts name.now output.items) }

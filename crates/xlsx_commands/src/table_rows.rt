@@ -10,7 +10,7 @@ ghost use Rattle.xlsx_commands.specs.TableRows.{fitted_names, header_over};
 use crate::error::ToolError;
 use crate::table_lines::table_of;
 use cell_data::{Data, Table};
-use part_events::MemoryPackage;
+use input_package::InputPackage;
 use std::alloc::{AllocError, Global};
 use xlsx_rows::{CsvOptions, rows_csv};
 
@@ -55,7 +55,7 @@ fn header_of(alloc: Global, table: &Table<Data>) -> Result<Vec<String>, AllocErr
 /// its data.
 pub fn table_rows(
     alloc: Global,
-    package: MemoryPackage,
+    package: InputPackage,
     name: &str,
     options: CsvOptions,
 ) -> Result<Vec<u8>, ToolError>

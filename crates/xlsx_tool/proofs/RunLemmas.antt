@@ -7,7 +7,7 @@ use Rattle.std.proofs.lemmas.List.{take-append-drop, length-append}
 use Rattle.part_events.specs.Package.{Part}
 use Rattle.xlsx_commands.specs.Command.{Command, command_of, own_parts}
 use Rattle.xlsx_commands.specs.Outputs.{IsOutput, OutputCause, OutputFails, HasOutput}
-use Rattle.package_text.specs.PackageText.{package_in}
+use Rattle.input_package.specs.Reading.{package_in}
 use Rattle.xlsx_tool.specs.Run.{Streams, Spells, Succeeds, HasOutputCause}
 use Rattle.xlsx_tool.specs.Run.{TellsInput, GivesParts, IsFed, PackageFed, FeedingFails, OutputRead}
 use Rattle.xlsx_tool.specs.Run.{ReadingFails, Refuses, AnswersExactly}

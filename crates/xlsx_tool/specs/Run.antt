@@ -1,12 +1,11 @@
 -- What a run of the program answers, and when.
 use Rattle.std.specs.Prelude.{◌≡◌, ◌≢◌, ◌↔◌, Result, Err, IsOk, ℕ, ◌≤◌, List, [], ◌++◌, length}
 use Rattle.std.specs.Prelude.{true, Bool, Option, Some, None, is_some}
-use Rattle.part_events.specs.Memory.{Contents, closed}
 use Rattle.part_events.specs.Package.{Part, RisesByOne}
 use Rattle.xlsx_commands.specs.Command.{Command, command_of, own_parts}
 use Rattle.xlsx_commands.specs.Outputs.{IsOutput, OutputCause, HasOutput}
 use Rattle.xlsx_tool.specs.Input.{TookTooMany, longest_input}
-use Rattle.package_text.specs.PackageText.{package_in}
+use Rattle.input_package.specs.Reading.{package_in}
 use Rattle.xlsx_tool.specs.Sink.{SinkState}
 use Rattle.xlsx_tool.specs.Source.{SourceState}
 use Rattle.xlsx_commands.specs.declared.error.ToolError.{ToolError}
@@ -150,10 +149,6 @@ pub record AnswersExactly
       → IsOk result ↔ HasOutput command parts
 
 -- ---- the steps of a run
-
--- a package in memory, fresh, of the parts that were spelled
-abbrev pub PackageRead : Option (List Part) → Contents → Type 0
-PackageRead spelled held = (spelled ≡ Some held.parts) × (held ≡ closed held.parts 0)
 
 -- why an input is no package: it spells none, or memory is wanting
 abbrev pub NoPackage : Option (List Part) → ToolError → Type 0

@@ -16,26 +16,28 @@ use std::process::ExitCode;
 use xlsx_commands::ToolError;
 
 const HELP: &str = "\
-Usage: xlsx_tool cells NAME < package.json
-       xlsx_tool merges NAME < package.json
-       xlsx_tool links NAME < package.json
-       xlsx_tool comments NAME < package.json
-       xlsx_tool csv NAME [OPTION].. < package.json
-       xlsx_tool csv-table NAME [OPTION].. < package.json
-       xlsx_tool table NAME < package.json
-       xlsx_tool pivot SHEET NAME < package.json
-       xlsx_tool precedents NAME < package.json
-       xlsx_tool dependents NAME REF < package.json
-       xlsx_tool check NAME < package.json
-       xlsx_tool part NAME < package.json
-       xlsx_tool sheets < package.json
-       xlsx_tool names < package.json
-       xlsx_tool tables < package.json
-       xlsx_tool pivots < package.json
-       xlsx_tool props < package.json
-       xlsx_tool upgrade < package.json
-       xlsx_tool resave NAME < package.json
+Usage: xlsx_tool cells NAME < INPUT
+       xlsx_tool merges NAME < INPUT
+       xlsx_tool links NAME < INPUT
+       xlsx_tool comments NAME < INPUT
+       xlsx_tool csv NAME [OPTION].. < INPUT
+       xlsx_tool csv-table NAME [OPTION].. < INPUT
+       xlsx_tool table NAME < INPUT
+       xlsx_tool pivot SHEET NAME < INPUT
+       xlsx_tool precedents NAME < INPUT
+       xlsx_tool dependents NAME REF < INPUT
+       xlsx_tool check NAME < INPUT
+       xlsx_tool part NAME < INPUT
+       xlsx_tool sheets < INPUT
+       xlsx_tool names < INPUT
+       xlsx_tool tables < INPUT
+       xlsx_tool pivots < INPUT
+       xlsx_tool props < INPUT
+       xlsx_tool upgrade < INPUT
+       xlsx_tool resave NAME < INPUT
        xlsx_tool sample N
+
+INPUT is a workbook file (.xlsx), or a package text (docs/FORMAT.md).
 
 One line is printed, of the worksheet NAME or of the workbook, for each
 

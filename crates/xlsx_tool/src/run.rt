@@ -1,59 +1,33 @@
-ghost use Rattle.std.specs.Prelude.{◌≡◌, ◌≢◌, true, is_some, IfOk, OnOk, IfErr};
+ghost use Rattle.std.specs.Prelude.{◌≡◌, ◌≢◌, ◌<◌, ◌^◌, length, true, is_some, Some, IfOk, OnOk};
+ghost use Rattle.std.specs.Prelude.{IfErr};
 ghost use Rattle.xlsx_commands.specs.Command.{texts, command_meant, command_of, own_parts};
-ghost use Rattle.xlsx_tool.specs.Run.{Streams, Succeeds, Refuses, AnswersExactly, PackageRead};
+ghost use Rattle.xlsx_tool.specs.Run.{Streams, Succeeds, Refuses, AnswersExactly};
 ghost use Rattle.xlsx_tool.specs.Run.{NoPackage, PackageFed, FeedingFails, OutputRead};
 ghost use Rattle.xlsx_tool.specs.Run.{ReadingFails};
 ghost use Rattle.xlsx_tool.specs.Run.{IsSent, SendFails, reads_nothing};
-ghost use Rattle.package_text.specs.PackageText.{package_in, package_of};
+ghost use Rattle.input_package.specs.Reading.{package_in};
 ghost use Rattle.xlsx_commands.specs.declared.error.ToolError.TheVariants.{WriteFault};
-ghost use Rattle.serde_json.specs.View.{view};
 
 use crate::input::read_input;
 use crate::sink::Sink;
 use crate::source::Source;
-use package_text::package_from_json;
-use part_events::MemoryPackage;
-use serde_json::Value;
+use input_package::{InputError, InputPackage, read_package};
 use std::alloc::Global;
 use xlsx_commands::{
     Command, ToolError, causes_leave_no_output, command_of, output_of, own_package,
 };
 
-/// The JSON value that the bytes spell.
-fn value_from(alloc: Global, bytes: &[u8]) -> Result<Value, ToolError>
-    ensures ok { IfOk result (λ value. package_in bytes.now ≡ package_of (view value)) }
-    ensures err { IfErr result (NoPackage (package_in bytes.now)) }
-{
-    match Value::from_slice(alloc, bytes) {
-        Ok(value) => Ok(value),
-        Err(error) => {
-            if error.is_memory() {
-                return Err(ToolError::OutOfMemory);
-            }
-            Err(ToolError::NotAPackage)
-        }
-    }
-}
-
-/// The package that the JSON value spells.
-fn package_from_value(alloc: Global, value: &Value) -> Result<MemoryPackage, ToolError>
-    ensures ok { IfOk result (PackageRead (package_of (view value.now))) }
-    ensures err { IfErr result (NoPackage (package_of (view value.now))) }
-{
-    match package_from_json(alloc, value)? {
-        Some(package) => Ok(package),
-        None => Err(ToolError::NotAPackage),
-    }
-}
-
-/// The package that the bytes spell.
-fn package_from(alloc: Global, bytes: Vec<u8>) -> Result<MemoryPackage, ToolError>
-    ensures ok { IfOk result (PackageRead (package_in bytes.items)) }
+/// The package that the bytes are.
+fn package_from(alloc: Global, bytes: Vec<u8>) -> Result<InputPackage, ToolError>
+    requires { length bytes.items < 2 ^ 56 }
+    ensures ok { IfOk result (λ held. package_in bytes.items ≡ Some held.parts) }
     ensures err { IfErr result (NoPackage (package_in bytes.items)) }
 {
-    let value = value_from(alloc, &bytes)?;
-    drop(bytes);
-    package_from_value(alloc, &value)
+    match read_package(alloc, bytes) {
+        Ok(package) => Ok(package),
+        Err(InputError::NotAPackage) => Err(ToolError::NotAPackage),
+        Err(InputError::OutOfMemory) => Err(ToolError::OutOfMemory),
+    }
 }
 
 /// The package that the command works on: its own, or the one that the source spells.
@@ -61,7 +35,7 @@ fn package_for<S: Source>(
     alloc: Global,
     command: Command<'_>,
     source: &mut S,
-) -> Result<MemoryPackage, ToolError>
+) -> Result<InputPackage, ToolError>
     ensures ok { let old = S.state source.old in
         let new = S.state source.new in
         IfOk result (λ held. PackageFed (command_meant command.entry) held.parts old new) }

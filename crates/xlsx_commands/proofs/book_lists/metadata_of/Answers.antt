@@ -1,5 +1,5 @@
 use Rattle.std.proofs.Common.{refl}
-use Rattle.part_events.specs.Memory.{state_of}
+use Rattle.input_package.specs.Told.{told_state}
 use Rattle.std.proofs.lemmas.Result.{err_from_is_err_and}
 use Rattle.xlsx_open.specs.Opening.{OpeningCause}
 use Rattle.xlsx_commands.proofs.MemoryCalls.{memory_fails}
@@ -10,6 +10,6 @@ returns-in_err-opened-clause-err c =
     let handed = err_from_is_err_and c.from_residual.result c.from_residual.ensures.1 in
     let cause = OpeningCause c.args.package.parts in
     rw (handed.1, handed.2)
-    (memory_fails cause cause (state_of c.args.package) c.open-opened.new.xml.source
+    (memory_fails cause cause (told_state c.args.package) c.open-opened.new.xml.source
     c.in_err-opened.field-0.0 (c.into_package.result, c.into_package.ensures) refl (λ own. own)
     (rw c.new-xml.ensures at c.in_err-opened.ensures.err))

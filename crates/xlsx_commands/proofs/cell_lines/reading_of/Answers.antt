@@ -1,4 +1,4 @@
-use Rattle.part_events.specs.Memory.{state_of}
+use Rattle.input_package.specs.Told.{told_state}
 use Rattle.std.proofs.Common.{◌∙◌, ap, refl}
 use Rattle.std.specs.Result.{result_from_control_flow}
 use Rattle.std.proofs.lemmas.Result.{err_from_is_err_and}
@@ -15,7 +15,6 @@ returns-in_err-reading-clause-err c =
     let fails = err_at result _ _ answered c.read_sheet-result.ensures.err in
     let cause = SheetCause c.args.package.parts c.args.name.now in
     rw (handed.1, handed.2)
-    (memory_fails cause cause (state_of c.args.package)
-    (state_of c.read_sheet-result.result.package) _ (c.read_sheet-result.result.package, refl) refl
-    (λ own. own)
-    fails)
+    (memory_fails cause cause (told_state c.args.package)
+    (told_state c.read_sheet-result.result.package) _ (c.read_sheet-result.result.package, refl)
+    refl (λ own. own) fails)

@@ -5,7 +5,7 @@ use Rattle.std.proofs.Common.{◌∷◌, ◌++◌, ◌∙◌, [], ap, sym, List,
 use Rattle.std.specs.Prelude.{option_map}
 use Rattle.cell_data.specs.CellValue.{CellValue}
 use Rattle.part_events.specs.Event.{Event}
-use Rattle.part_events.specs.Memory.{state_of}
+use Rattle.input_package.specs.Told.{told_state}
 use Rattle.sheet_listing.specs.SheetListing.{row_line}
 use Rattle.xlsx_pivot_cache.specs.CacheRecords.{row_kept}
 use Rattle.xlsx_pivot_cache.specs.PivotRows.{pivot_rows, cache_rows_left, TakesRow, KeepsPart}
@@ -14,7 +14,7 @@ use Rattle.xlsx_commands.proofs.pivot_rows.lines_of_cache.Goals as goal
 
 pub returns-in-Err-clause-err : goal.returns-in-Err-clause-err
 returns-in-Err-clause-err c =
-    let old = state_of c.args.package in
+    let old = told_state c.args.package in
     let fails : CacheFails c.new-xml.result.source.parts c.args.definitions.now
     c.args.records.now (of_workbook c.in-Err.error) =
     opening_rows_fails c.args.definitions.now c.args.records.now c.new-xml.result.source

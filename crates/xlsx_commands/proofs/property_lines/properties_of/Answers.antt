@@ -1,4 +1,4 @@
-use Rattle.part_events.specs.Memory.{state_of}
+use Rattle.input_package.specs.Told.{told_state}
 use Rattle.std.proofs.Common.{refl, inl, inr, List, subst}
 use Rattle.std.proofs.lemmas.Result.{err_from_is_err_and}
 use Rattle.part_events.specs.Package.{Part}
@@ -14,8 +14,8 @@ returns-in_err-xlsx-clause-err c =
     let failure = c.in_err-xlsx.field-0.0 in
     let handed = err_from_is_err_and c.from_residual.result c.from_residual.ensures.1 in
     rw (handed.1, handed.2)
-    (memory_fails (ListedPropertiesCause parts) (OpeningCause parts) (state_of c.args.package)
-    (state_of failure.package) failure.error (failure.package, refl) refl (λ cause. inl cause)
+    (memory_fails (ListedPropertiesCause parts) (OpeningCause parts) (told_state c.args.package)
+    (told_state failure.package) failure.error (failure.package, refl) refl (λ cause. inl cause)
     c.in_err-xlsx.ensures.err)
 
 pub returns-in_err-properties-clause-err :

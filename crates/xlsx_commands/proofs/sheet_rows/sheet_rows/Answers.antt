@@ -1,4 +1,4 @@
-use Rattle.part_events.specs.Memory.{state_of}
+use Rattle.input_package.specs.Told.{told_state}
 use Rattle.std.proofs.Common.{◌∙◌, ap, refl}
 use Rattle.std.specs.Result.{result_from_control_flow}
 use Rattle.std.proofs.lemmas.Result.{err_from_is_err_and}
@@ -21,8 +21,8 @@ returns-in_err-read-clause-err c =
     let cause = SheetCause parts c.args.name.now in
     rw (handed.1, handed.2)
     (call_fails cause (HasLargeArea parts c.args.name.now c.args.asked.from_a1) _
-    (memory_fails cause cause (state_of c.args.package)
-    (state_of c.read_sheet_values-result.result.package) _
+    (memory_fails cause cause (told_state c.args.package)
+    (told_state c.read_sheet_values-result.result.package) _
     (c.read_sheet_values-result.result.package, refl) refl (λ own. own) fails))
 
 pub returns-in_err-rows_csv-clause-err : goal.returns-in_err-rows_csv-clause-err
