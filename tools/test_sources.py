@@ -20,6 +20,9 @@ TOLD = {
     ("attr_text/fault.rt", "fmt", 1): "its text",
     ("inflate/fault.rt", "fmt", 1): "its text",
     ("inflate/stream.rt", "error_of", 1): PASSED_ON,
+    ("input_package/input.rt", "into_memory", 1): PASSED_ON,
+    ("input_package/reading.rt", "value_from", 1): "the reader of JSON says that it has none",
+    ("input_package/reading.rt", "workbook_file_of", 1): PASSED_ON,
     ("list_archive/main.rt", "contents_line", 1): "its text",
     ("part_events/fault.rt", "fmt", 1): "its text",
     ("part_events/fault.rt", "from", 1): PASSED_ON,
@@ -29,6 +32,7 @@ TOLD = {
     ("xlsx_commands/error.rt", "fmt", 1): "its text",
     ("xlsx_commands/error.rt", "from", 2): PASSED_ON,
     ("xlsx_commands/error.rt", "status", 1): "its status",
+    ("xlsx_commands/upgraded_text.rt", "upgraded_text", 1): PASSED_ON,
     ("xlsx_core/worksheet_list.rt", "ends_listing", 1): "it is asked for",
     ("xlsx_error/error.rt", "fmt", 1): "its text",
     ("xlsx_error/error.rt", "from", 2): PASSED_ON,
@@ -40,7 +44,7 @@ TOLD = {
     ("xlsx_sections/decode.rt", "decode_at", 1): PASSED_ON,
     ("xlsx_sections/decode.rt", "push_text_at", 1): PASSED_ON,
     ("xlsx_tool/main.rt", "words_of", 2): "the system says that it has none for the words",
-    ("xlsx_tool/run.rt", "value_from", 1): "the reader of JSON says that it has none",
+    ("xlsx_tool/run.rt", "package_from", 1): PASSED_ON,
 }
 
 # Where memory is asked for by a number, and what bounds that number: what is held or written already,

@@ -15,7 +15,7 @@ use workbook_file::WorkbookFile;
 use zip_archive::ArchiveError;
 
 /// Why an input is no package.
-#[derive(Clone, Copy, Debug, PartialEq, Eq)]
+#[derive(Debug)]
 pub enum InputError {
     /// Its bytes spell none.
     NotAPackage,

@@ -1,3 +1,4 @@
+use crate::workbook_file_tests::{archive_of_parts, told_part};
 use input_package::{InputError, InputPackage, read_package};
 use part_events::Package;
 use std::alloc::Global;
@@ -5,10 +6,10 @@ use std::test::Fail;
 use test_tables::assert_text;
 use workbook_file::WorkbookFile;
 
-use crate::workbook_file_tests::{archive_of_parts, told_part};
-
 const PARTS: &str = "xl/workbook.xml:<workbook b='1'>c</workbook>|a:<a";
+
 const WORKBOOK: &str = "s(workbook)( b='1') t(c) e(workbook)";
+
 const TEXT: &str = r#"{"version":2,"parts":{"a":[["s","b",""],["e","b"]]}}"#;
 
 /// The input of these bytes.
@@ -24,12 +25,24 @@ fn an_input_is_a_workbook_file_or_a_package_text(rt: HostRuntime) -> Result<(), 
     let alloc = rt.alloc();
     let file = archive_of_parts(alloc, PARTS)?;
     let mut package = input(alloc, &file)?;
-    assert_text(&told_part(alloc, &mut package, "xl/workbook.xml")?, WORKBOOK, "a file")?;
-    assert_text(&told_part(alloc, &mut package, "a")?, "x(malformed markup)", "a flaw")?;
+    assert_text(
+        &told_part(alloc, &mut package, "xl/workbook.xml")?,
+        WORKBOOK,
+        "a file",
+    )?;
+    assert_text(
+        &told_part(alloc, &mut package, "a")?,
+        "x(malformed markup)",
+        "a flaw",
+    )?;
     assert_text(&told_part(alloc, &mut package, "b")?, "absent", "no part")?;
     assert!(rt; package.taken() == 4 && package.faults() == 0);
     let mut package = input(alloc, TEXT.as_bytes())?;
-    assert_text(&told_part(alloc, &mut package, "a")?, "s(b)() e(b)", "a text")
+    assert_text(
+        &told_part(alloc, &mut package, "a")?,
+        "s(b)() e(b)",
+        "a text",
+    )
 }
 
 #[test]
@@ -42,7 +55,7 @@ fn what_is_neither_is_no_package(rt: HostRuntime) -> Result<(), Fail> {
         } else {
             None
         };
-        assert!(rt; refused == Some(InputError::NotAPackage));
+        assert!(rt; matches!(refused, Some(InputError::NotAPackage)));
     }
     Ok(())
 }
@@ -53,15 +66,31 @@ fn an_input_becomes_a_package_in_memory(rt: HostRuntime) -> Result<(), Fail> {
     let file = archive_of_parts(alloc, PARTS)?;
     for _ in 0..2 {
         let mut held = InputPackage::in_memory(input(alloc, &file)?.into_memory(alloc)?);
-        assert_text(&told_part(alloc, &mut held, "xl/workbook.xml")?, WORKBOOK, "a file")?;
-        assert_text(&told_part(alloc, &mut held, "a")?, "x(malformed markup)", "a flaw")?;
+        assert_text(
+            &told_part(alloc, &mut held, "xl/workbook.xml")?,
+            WORKBOOK,
+            "a file",
+        )?;
+        assert_text(
+            &told_part(alloc, &mut held, "a")?,
+            "x(malformed markup)",
+            "a flaw",
+        )?;
     }
     let held = input(alloc, TEXT.as_bytes())?.into_memory(alloc)?;
     let mut package = InputPackage::in_memory(held);
-    assert_text(&told_part(alloc, &mut package, "a")?, "s(b)() e(b)", "a text")?;
+    assert_text(
+        &told_part(alloc, &mut package, "a")?,
+        "s(b)() e(b)",
+        "a text",
+    )?;
     if file.len() < 1000 {
         let mut package = InputPackage::of_file(WorkbookFile::new(alloc, file)?);
-        assert_text(&told_part(alloc, &mut package, "a")?, "x(malformed markup)", "a flaw")?;
+        assert_text(
+            &told_part(alloc, &mut package, "a")?,
+            "x(malformed markup)",
+            "a flaw",
+        )?;
     }
     Ok(())
 }
