@@ -15,7 +15,7 @@ use workbook_file::WorkbookFile;
 use zip_archive::ArchiveError;
 
 /// Why an input is no package.
-#[derive(Debug)]
+#[derive(Debug, Drop)]
 pub enum InputError {
     /// Its bytes spell none.
     NotAPackage,
