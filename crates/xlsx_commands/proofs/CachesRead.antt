@@ -4,7 +4,8 @@ use Rattle.std.proofs.Common.{◌++◌, Option, Some, None, append_assoc, append
 use Rattle.std.proofs.lemmas.Grind.{flat_map-append}
 use Rattle.std.specs.Prelude.{option_map, unwrap_or}
 use Rattle.cell_data.specs.CellValue.{CellValue}
-use Rattle.part_events.specs.Package.{Part, PackageState}
+use Rattle.part_events.specs.Event.{Event}
+use Rattle.part_events.specs.Package.{Part, PackageState, part_of}
 use Rattle.sheet_listing.specs.SheetListing.{row_line}
 use Rattle.xlsx_error.specs.declared.error.XlsxError.{XlsxError}
 use Rattle.xlsx_error.specs.declared.error.XlsxError.TheVariants as workbook
@@ -12,8 +13,9 @@ use Rattle.xlsx_sections.specs.Failing.{FailsBy}
 use Rattle.xlsx_relationships.specs.Paths.{folder_of}
 use Rattle.xlsx_pivots.specs.PivotTables.{paths_of}
 use Rattle.xlsx_pivots.specs.Pivots.{PivotSaid, pivots_of, PivotsCause}
-use Rattle.xlsx_pivot_cache.specs.CacheErrors.{IsCacheFieldsError}
-use Rattle.xlsx_pivot_cache.specs.CacheRecords.{cache_rows, CacheCause, OpenRowsCause}
+use Rattle.xlsx_pivot_cache.specs.CacheErrors.{IsCacheFieldsError, IsRowError}
+use Rattle.xlsx_pivot_cache.specs.CacheFields.{FieldSaid, fields_at}
+use Rattle.xlsx_pivot_cache.specs.CacheRecords.{cache_rows, CacheCause, OpenRowsCause, RowsCause}
 use Rattle.xlsx_open.proofs.Sound.{same_path}
 use Rattle.xlsx_commands.specs.CacheRows.{HasCache, LacksPivot, HasCacheCause, NamedPivotCause}
 use Rattle.xlsx_commands.specs.CacheRows.{row_lines}
@@ -71,6 +73,23 @@ opening_rows_fails definitions records old new error memory told is fails =
     (memory_fails (CacheCause old.parts definitions records)
     (OpenRowsCause old.parts definitions records) old new error memory told
     (λ cause. inl cause) fails)
+
+row_there : (error : XlsxError) → IsRowError error → IsNotMissing error
+row_there (workbook.TableNotFound asked) is = is
+row_there (workbook.PivotTableNotFound asked) is = is
+row_there error is = tt
+
+-- one of its rows can't be read
+pub row_fails : (parts : List Part) (definitions records : List ℕ) (fields : List FieldSaid)
+    (part : List Event) (old new : PackageState) (error : XlsxError) → IsInMemory new
+    → old.is_told ≡ true → fields_at parts definitions ≡ Some fields
+    → part_of parts records ≡ Some part → IsRowError error
+    → FailsBy (RowsCause fields part) old new error
+    → CacheFails parts definitions records (of_workbook error)
+row_fails parts definitions records fields part old new error memory told said there is fails =
+    cache_fails parts definitions records error (row_there error is)
+    (memory_fails (CacheCause parts definitions records) (RowsCause fields part) old new error
+    memory told (λ cause. inr (rw said (rw there cause))) fails)
 
 -- ---- the lines
 

@@ -7,9 +7,13 @@ use Rattle.cell_data.specs.CellValue.{CellValue}
 use Rattle.part_events.specs.Event.{Event}
 use Rattle.input_package.specs.Told.{told_state}
 use Rattle.sheet_listing.specs.SheetListing.{row_line}
-use Rattle.xlsx_pivot_cache.specs.CacheRecords.{row_kept}
+use Rattle.part_events.specs.Reading.{events_of}
+use Rattle.xlsx_sections.specs.Failing.{FailsBy}
+use Rattle.xlsx_pivot_cache.specs.CacheErrors.{IsRowError}
+use Rattle.xlsx_pivot_cache.specs.CacheRecords.{row_kept, RowsCause}
 use Rattle.xlsx_pivot_cache.specs.PivotRows.{pivot_rows, cache_rows_left, TakesRow, KeepsPart}
-use Rattle.xlsx_commands.proofs.CachesRead.{opening_rows_fails, rows_moved, lines_behind}
+use Rattle.xlsx_commands.proofs.CachesRead.{opening_rows_fails, row_fails, rows_moved}
+use Rattle.xlsx_commands.proofs.CachesRead.{lines_behind}
 use Rattle.xlsx_commands.proofs.pivot_rows.lines_of_cache.Goals as goal
 
 pub returns-in-Err-clause-err : goal.returns-in-Err-clause-err
@@ -22,6 +26,20 @@ returns-in-Err-clause-err c =
     (ap (λ (r : Reading). r.source.is_told) c.new-xml.ensures) c.in-Err.ensures.kind
     c.in-Err.ensures.err in
     rw c.from.ensures (rw c.new-xml.ensures at fails)
+
+pub returns-in-Err-next-clause-err : goal.returns-in-Err-next-clause-err
+returns-in-Err-next-clause-err c =
+    let old = pivot_rows c.rows.xml c.rows.cursor in
+    let now = c.rows.invariant in
+    let gives = c.in-Some.ensures.gives in
+    let fails : FailsBy (RowsCause old.fields (events_of old.reading)) old.reading.source
+    c.next.new.xml.source c.in-Err-next.error = rw c.in-Err-next.is at gives.err in
+    let kind : IsRowError c.in-Err-next.error = rw c.in-Err-next.is at gives.kind in
+    rw c.from-in-Err-next.ensures
+    (row_fails c.args.package.parts c.args.definitions.now c.args.records.now old.fields
+    (events_of old.reading) old.reading.source c.next.new.xml.source c.in-Err-next.error
+    (c.into_package-in-Err-next.result, c.into_package-in-Err-next.ensures) now.told now.fields
+    now.part kind fails)
 
 pub rows-preserved : goal.rows-preserved
 rows-preserved c =
