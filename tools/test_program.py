@@ -257,11 +257,11 @@ class Edge:
             self.assertEqual(self.run_on(wanted), (0, lines, b""))
 
     def test_a_workbook_file_is_an_input(self):
-        """It has the lines of the package text that is made of it."""
+        """It has the lines of the text of all its parts, and is upgraded to it."""
         for sample in sorted((TOP / "samples").glob("*.xlsx")):
             file = sample.read_bytes()
             with tempfile.TemporaryFile() as text:
-                command = [sys.executable, TOP / "tools" / "package_text.py", sample]
+                command = [sys.executable, TOP / "tools" / "package_text.py", "--all", sample]
                 subprocess.run(command, stdout=text, check=True)
                 text.seek(0)
                 data = text.read()
