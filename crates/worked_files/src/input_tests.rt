@@ -10,7 +10,7 @@ const PARTS: &str = "xl/workbook.xml:<workbook b='1'>c</workbook>|a:<a";
 
 const WORKBOOK: &str = "s(workbook)( b='1') t(c) e(workbook)";
 
-const TEXT: &str = r#"{"version":2,"parts":{"a":[["s","b",""],["e","b"]]}}"#;
+const TEXT: &str = r#"{"version":2,"parts":[{"name":"a","events":[["b","b",""]]}]}"#;
 
 /// The input of these bytes.
 fn input(alloc: Global, bytes: &[u8]) -> Result<InputPackage, Fail> {
