@@ -1,6 +1,7 @@
 """Tries the built program through real pipes and files, by the texts of docs/FORMAT.md."""
 
 import fcntl
+import io
 import json
 import os
 import pathlib
@@ -14,6 +15,7 @@ import tempfile
 import termios
 import time
 import unittest
+import zipfile
 
 from fixtures import (
     BROKEN_THEME,
@@ -274,6 +276,34 @@ class Edge:
                 self.assertEqual(self.run_on(file, words), self.run_on(data, words), words)
         for file in (b"PK", b"PK\3\4", file[:-30]):
             self.assertEqual(self.run_on(file, ["sheets"]), refusal(5))
+
+    def test_a_part_may_be_one_long_thing(self):
+        """Of 64 MiB, or of 30 million elements: it is read, or refused by its status."""
+        cell = b'<worksheet><sheetData><row><c r="A1" t="str">'
+        ends = b"</c></row></sheetData></worksheet>"
+        lines = 0, b"A1\ts:a\t-\t-\n", b""
+        node = no_workbook(b"Expecting 'v, f, or is' node")
+        malformed = no_workbook(b"Xml error: malformed markup at 4")
+        cut = no_workbook(b"Unexpected end of xml, expecting '</v>'")
+        for before, piece, count, behind, wanted in (
+            (b"<v>", b"x", 2**26, b"</v>" + ends, (0, b"A1\ts:%b\t-\t-\n" % (b"x" * 2**26), b"")),
+            (b"<!--", b"x", 2**26, b"--><v>a</v>" + ends, lines),
+            (b"<?", b"x", 2**26, b"?><v>a</v>" + ends, lines),
+            (b"<", b"x", 2**26, b"/>" + ends, node),
+            (b'<q a="', b"x", 2**26, b'"/>' + ends, node),
+            (b"", b"<a/>", 30_000_000, ends, node),
+            (b"<v>", b"x", 2**26, b"", cut),
+            (b"<", b"x", 2**26, b"", malformed),
+            (b"<!--", b"x", 2**26, b"", malformed),
+        ):
+            sheet = cell + before + piece * count + behind
+            file = io.BytesIO()
+            with zipfile.ZipFile(file, "w", zipfile.ZIP_DEFLATED, compresslevel=1) as book:
+                for name, part in {**MINIMAL, "xl/worksheets/sheet1.xml": sheet}.items():
+                    book.writestr(name, part)
+            found = self.run_on(file.getvalue())
+            # The texts are too long to be shown.
+            self.assertTrue(found == wanted, (before, piece, behind, found[0], found[2]))
 
     def test_cells_that_are_refused(self):
         for cell, text in (
