@@ -31,6 +31,7 @@ told_state held = record {
   left = held.left;
   taken = held.taken;
   faults = 0;
+  takes_memory = true;
 }
 
 -- what a state tells

@@ -8,7 +8,7 @@ use Rattle.part_events.proofs.Nested.{whole_split}
 
 pub stays_forward : (r : Reading) → MovesForward r r
 stays_forward r = record {
-  parts = record { is_told = refl; parts = refl; faults = omega arith };
+  parts = record { is_told = refl; parts = refl; faults = omega arith; takes_memory = refl };
   alloc = refl;
   forward = omega arith;
   taken = omega arith;
@@ -29,6 +29,7 @@ moves_further first second = record {
     is_told = second.parts.is_told ∙ first.parts.is_told;
     parts = second.parts.parts ∙ first.parts.parts;
     faults = omega (arith, first.parts.faults, second.parts.faults);
+    takes_memory = second.parts.takes_memory ∙ first.parts.takes_memory;
   };
   alloc = second.alloc ∙ first.alloc;
   forward = omega (arith, first.forward, second.forward);

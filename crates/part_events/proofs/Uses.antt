@@ -9,6 +9,7 @@ same_further first second = record {
   is_told = second.is_told ∙ first.is_told;
   parts = second.parts ∙ first.parts;
   faults = omega (arith, first.faults, second.faults);
+  takes_memory = second.takes_memory ∙ first.takes_memory;
 }
 
 pub uses_then : {few more most : ℕ} {old mid new : PackageState} → few + more ≤ most

@@ -44,6 +44,7 @@ state_of held = record {
   left = length (open_events held.parts held.place) - taken_of held.place;
   taken = held.taken;
   faults = 0;
+  takes_memory = false;
 }
 
 -- a package of these parts, of which none is open

@@ -31,7 +31,7 @@ abbrev pub part_of : List Part → List ℕ → Option (List Event)
 part_of [] name = None
 part_of (part ∷ parts) name = if has_name name part then Some part.events else part_of parts name
 
--- What a package is to its reader. Where it doesn't tell its content, only the last five fields
+-- What a package is to its reader. Where it doesn't tell its content, only the last six fields
 -- mean something.
 pub record PackageState : Type 0 where
   pub is_told : Bool
@@ -46,6 +46,8 @@ pub record PackageState : Type 0 where
   -- how many events were taken of any part, up to the last value of the count
   pub taken : ℕ
   pub faults : ℕ
+  -- a call may be refused for want of memory
+  pub takes_memory : Bool
 
 -- a count of 64 bits rose, or stands at its end
 abbrev pub RisesByOne : ℕ → ℕ → Type 0
@@ -72,6 +74,7 @@ pub record SameParts (old new : PackageState) : Type 0 where
   pub is_told : new.is_told ≡ old.is_told
   pub parts : new.parts ≡ old.parts
   pub faults : old.faults ≤ new.faults
+  pub takes_memory : new.takes_memory ≡ old.takes_memory
 
 -- no part is open
 pub record IsClosed (state : PackageState) : Type 0 where
@@ -80,11 +83,16 @@ pub record IsClosed (state : PackageState) : Type 0 where
   pub has_current : state.has_current ≡ false
   pub left : state.left ≡ 0
 
+-- no memory was left for a call of a package that takes some; its count of faults stays
+pub record LacksMemory (old new : PackageState) : Type 0 where
+  pub faults : new.faults ≡ old.faults
+  pub takes_memory : new.takes_memory ≡ true
+
 -- why a call may be refused: the package failed, which its count of faults tells, or there was no
 -- memory, which that count doesn't
 abbrev pub MayRefuse : PackageState → PackageState → PackageError → Type 0
 MayRefuse old new Failed = HasCause old new
-MayRefuse old new OutOfMemory = new.faults ≡ old.faults
+MayRefuse old new OutOfMemory = LacksMemory old new
 
 -- a refused call: no part is open, and no event was taken
 pub record Refuses (old new : PackageState) (error : PackageError) : Type 0 where

@@ -8,7 +8,7 @@ use Rattle.part_events.specs.Event.{entity_ref, flaw, other}
 use Rattle.part_events.specs.Nesting.{starts_in, ends_in, depth, open_name, IsWhole, whole_rest}
 use Rattle.part_events.specs.Nesting.{whole}
 use Rattle.part_events.specs.Package.{PackageState, HasCause, KeepsFaults, SameParts, IsClosed}
-use Rattle.part_events.specs.Package.{CountsUp}
+use Rattle.part_events.specs.Package.{CountsUp, LacksMemory}
 use Rattle.part_events.specs.Section.{content, is_closed, behind}
 use Rattle.part_events.specs.declared.fault.StreamError.{StreamError}
 use Rattle.part_events.specs.declared.fault.StreamError.TheVariants.{Io, Xml, OutOfMemory}
@@ -79,7 +79,7 @@ pub record LeavesClosed (old new : PackageState) : Type 0 where
 abbrev pub OpenFails : PackageState → PackageState → StreamError → Type 0
 OpenFails old new Io = HasCause old new
 OpenFails old new (Xml fault) = ⊥
-OpenFails old new OutOfMemory = new.faults ≡ old.faults
+OpenFails old new OutOfMemory = LacksMemory old new
 
 -- What every call keeps: the parts and the allocator are the same, the package's count of taken
 -- events rose by those that were taken of the part, up to its last value, and no more were taken

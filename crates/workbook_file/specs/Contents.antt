@@ -54,6 +54,7 @@ file_state held = record {
   left = left_of held.part;
   taken = held.taken;
   faults = 0;
+  takes_memory = true;
 }
 
 -- a file just opened: it is this archive, no part is open, and no event was taken

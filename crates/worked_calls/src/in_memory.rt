@@ -1,7 +1,7 @@
-//! A package in memory has no faults, so that no call that lends its reader answers `Io`.
+//! A package in memory has no faults and takes no memory, so that each part opens, and no call that
+//! lends its reader answers `Io`.
 
-ghost use Rattle.std.specs.Prelude.{◌≡◌, IfErr};
-ghost use Rattle.part_events.specs.declared.fault.StreamError.TheVariants.{OutOfMemory};
+ghost use Rattle.std.specs.Prelude.{◌≡◌, IfErr, IsOk};
 ghost use Rattle.part_events.specs.Reading.{IsReading};
 ghost use Rattle.xlsx_error.specs.declared.error.XlsxError.TheVariants.{Io};
 
@@ -10,11 +10,10 @@ use cell_styles::Style;
 use part_events::{MemoryPackage, StreamError, XlReader};
 use xlsx_core::{PivotCacheIter, PivotTables, Xlsx, XlsxCellReader, XlsxError};
 
-/// Opens the part of this name, and answers false where there is none. It is refused for want of
-/// memory alone.
+/// Opens the part of this name, and answers false where there is none.
 #[tactic(auto, using(crate::proofs::InMemory::never_failed))]
 pub fn part_in_memory(xml: &mut XlReader<MemoryPackage>, name: &str) -> Result<bool, StreamError>
-    ensures { IfErr result (λ error. error ≡ OutOfMemory) }
+    ensures { IsOk result }
 {
     let found = xml.open(name);
     // What it reads is a package in memory still, whose count of faults is 0.

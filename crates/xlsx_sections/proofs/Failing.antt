@@ -29,7 +29,12 @@ given_back P (Ok value) is holds = absurd is
 given_back P (Err own) is holds = subst P (sym is) holds
 
 pub same_parts : (state : PackageState) → SameParts state state
-same_parts state = record { is_told = refl; parts = refl; faults = omega arith }
+same_parts state = record {
+  is_told = refl;
+  parts = refl;
+  faults = omega arith;
+  takes_memory = refl;
+}
 
 -- the first section of a part is refused behind its start
 pub part_refused : {name path : List ℕ} {old : PackageState} {mid : Reading} (ending : Ending)

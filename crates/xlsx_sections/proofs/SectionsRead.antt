@@ -177,6 +177,7 @@ section_entered {name = name} {path = path} {old = old} {opened = opened} {enter
         is_told = reads.moves.parts.is_told ∙ same.is_told;
         parts = reads.moves.parts.parts ∙ same.parts;
         faults = omega (arith, reads.moves.parts.faults, same.faults);
+        takes_memory = reads.moves.parts.takes_memory ∙ same.takes_memory;
       };
       faults = reads.stays.faults ∙ counts.faults;
       begins = omega (arith, first, reads.moves.forward, reads.moves.taken, counts.taken);
