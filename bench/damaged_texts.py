@@ -1,5 +1,5 @@
 #!/usr/bin/env python3
-"""Compares what the program cut_events cuts of random and damaged texts with what tools/markup.py
+"""Compares what the program cut_events cuts of random and damaged texts with what tools/reading/markup.py
 does, and tells how many texts there were, and how many of them have a flaw.
 
 A text is made of pieces of markup, or of single marks, or of pieces that were damaged by a few

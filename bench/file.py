@@ -4,12 +4,13 @@ table; with `--csv` it measures `csv S` beside openpyxl and the writer of Python
 `--dates` `csv S --dates` (docs/PERFORMANCE.md).
 
 The script writes workbook files with four cells in a row: texts and formulas, or with `--dates` a
-date, a shared string, a number, and a date with a time of day. It runs in turn `./xlsx`,
-`tools/package_text.py` alone (`its text`), and openpyxl, which opens the workbook and goes once
-over all cells, with `read_only` and without; it tells their formulas so, or else their values,
-where `cells` tells both. Rows are written by openpyxl with `read_only` and by `csv.writer`. All of
-this runs by one interpreter. Seconds are those of processor time of all processes that a run
-starts. What `./xlsx` wrote is compared with the lines that are wanted, or with the other's rows.
+date, a shared string, a number, and a date with a time of day. It runs in turn `./xlsx` and
+openpyxl, which opens the workbook and goes once over all cells, with `read_only` and without; it
+tells their formulas so, or else their values, where `cells` tells both. Rows are written by
+openpyxl with `read_only` and by `csv.writer`. Seconds are those of processor time of all processes
+that a run starts, `of its markup` the peak by the bytes that the sheet's part unpacks to, and
+growth that of the seconds from the row above. What `./xlsx` wrote is compared with the lines that
+are wanted, or with the other's rows.
 """
 
 import argparse
@@ -18,6 +19,7 @@ import os
 import subprocess
 import sys
 import tempfile
+import zipfile
 
 from books import Dates, Formulas, run_by, write_book
 from cells import Listing, check
@@ -60,16 +62,15 @@ class Size:
     def __init__(self, folder, python, rows):
         self.rows, self.python = rows, python
         self.book = os.path.join(folder, f"book-{rows}.xlsx")
-        files = ("lines.txt", "theirs.txt", "package.json")
-        self.lines, self.theirs, self.text = (os.path.join(folder, name) for name in files)
+        self.lines, self.theirs = (os.path.join(folder, name) for name in ("lines", "theirs"))
         write_book(self.book, {"S": self.mix}, rows)
-        self.ours, self.feeder, self.full, self.read_only = [], [], [], []
+        with zipfile.ZipFile(self.book) as book:
+            self.markup = book.getinfo("xl/worksheets/sheet1.xml").file_size
+        self.ours, self.full, self.read_only = [], [], []
 
     def run_ours(self):
         words = [str(TOP / "xlsx"), self.book, *self.words]
         self.ours.append(measured(words, os.devnull, self.lines))
-        words = [self.python, str(TOP / "tools" / "package_text.py"), self.book]
-        self.feeder.append(measured(words, os.devnull, self.text))
 
     def run_theirs(self, runs, *words):
         runs.append(measured([self.python, "-c", *words], os.devnull, self.theirs))
@@ -78,7 +79,7 @@ class Size:
 class Cells(Size):
     """The cells, each looked at once."""
 
-    head = ["openpyxl", "ratio", "read_only", "ratio", "peak MiB", "openpyxl"]
+    head = ["openpyxl", "ratio", "read_only", "ratio"]
 
     def __init__(self, *given):
         super().__init__(*given)
@@ -101,14 +102,14 @@ class Cells(Size):
             for theirs in (full, read_only)
             for field in (f"{theirs.processor:.2f}", f"{ours.processor / theirs.processor:.2f}")
         )
-        return [*of_both, mib(ours.peak), mib(full.peak)]
+        return [*of_both]
 
 
 class Rows(Size):
     """The rows of the values, written by both."""
 
     words, theirs_by = ("csv", "S"), ROWS
-    head = ["openpyxl", "ratio", "peak MiB", "openpyxl"]
+    head = ["read_only", "ratio"]
 
     def run(self):
         self.run_ours()
@@ -119,7 +120,7 @@ class Rows(Size):
     def fields(self, ours):
         theirs = each(min, self.read_only)
         ratio = ours.processor / theirs.processor
-        return [f"{theirs.processor:.2f}", f"{ratio:.2f}", mib(ours.peak), mib(theirs.peak)]
+        return [f"{theirs.processor:.2f}", f"{ratio:.2f}"]
 
 
 class RowsOfDates(Rows):
@@ -128,10 +129,20 @@ class RowsOfDates(Rows):
     mix, words, theirs_by = Dates(), ("csv", "S", "--dates"), ROWS_OF_DATES
 
 
-def row_of(size):
-    ours, feeder = each(min, size.ours), each(min, size.feeder)
-    seconds = [f"{ours.processor:.2f}", f"{feeder.processor:.2f}"]
-    return [f"{4 * size.rows:,}", f"{os.path.getsize(size.book):,}", *seconds, *size.fields(ours)]
+def row_of(size, before):
+    """A row of the table, behind that of the size before, if any."""
+    ours = each(min, size.ours)
+    growth = f"{ours.processor / each(min, before.ours).processor:.2f}" if before else ""
+    return [
+        f"{4 * size.rows:,}",
+        f"{os.path.getsize(size.book):,}",
+        f"{ours.processor:.2f}",
+        growth,
+        *size.fields(ours),
+        mib(ours.peak),
+        f"{ours.peak / size.markup:.2f}",
+        mib(each(min, size.read_only).peak),
+    ]
 
 
 def main():
@@ -142,7 +153,7 @@ def main():
         "--rows",
         type=int,
         default=25_000,
-        help="rows of four cells (default: 25,000, and twice that)",
+        help="rows of four cells (default: 25,000, and twice and four times that)",
     )
     parser.add_argument(
         "--python", default=sys.executable, help="an interpreter that has openpyxl (default: this)"
@@ -167,12 +178,13 @@ def main():
     build()
     with tempfile.TemporaryDirectory() as folder:
         python = run_by(asked.python, folder)
-        sizes = [asked.kind(folder, python, rows) for rows in (asked.rows, 2 * asked.rows)]
+        sizes = [asked.kind(folder, python, times * asked.rows) for times in (1, 2, 4)]
         for _ in range(asked.repeats):
             for size in sizes:
                 size.run()
-        head = ["cells", "bytes", "seconds", "its text", *asked.kind.head]
-        table(head, [row_of(size) for size in sizes])
+        head = ["cells", "bytes", "seconds", "growth", *asked.kind.head]
+        head += ["peak MiB", "of its markup", "read_only"]
+        table(head, [row_of(size, before) for before, size in zip([None, *sizes], sizes)])
 
 
 if __name__ == "__main__":

@@ -1,7 +1,7 @@
 #!/usr/bin/env python3
 """Measures how the markup of a part is cut into events, beside expat, and prints one table
 (docs/PERFORMANCE.md). With `--book FILE.xlsx` it compares what each part of a workbook is cut into
-with what tools/markup.py does, in place of that.
+with what tools/reading/markup.py does, in place of that.
 
 The script writes the markup of a sheet of bench/file.py with 400,000 cells, and of one with twice
 as many. The program cut_events cuts each, and looks at each text of each event; it is run once over

@@ -116,7 +116,7 @@ def refuse_each(words, text, lines, library):
 def text_of(book, folder):
     """The package text of a sample workbook, in a file."""
     text = os.path.join(folder, f"{book}.json")
-    words = [sys.executable, TOP / "tools" / "package_text.py", SAMPLES / f"{book}.xlsx"]
+    words = [sys.executable, TOP / "tools" / "reading" / "package_text.py", SAMPLES / f"{book}.xlsx"]
     with open(text, "wb") as out:
         subprocess.run(words, stdout=out, check=True)
     return text

@@ -1,4 +1,4 @@
-"""What tools/markup.py and the program cut_events cut the bytes of a part into, as the lines that
+"""What tools/reading/markup.py and the program cut_events cut the bytes of a part into, as the lines that
 the latter prints."""
 
 import json
@@ -6,6 +6,7 @@ import pathlib
 import re
 import subprocess
 
+import fixtures  # noqa: F401, by which tools/reading is found
 import markup
 from escapes import escaped
 
@@ -14,10 +15,11 @@ OUT = TOP / "crates" / "cut_events" / "out"
 # The gate builds the program twice, by two compilers.
 BUILDS = ["cut_events", "cut_events.by-rattle"]
 
-MALFORMED, NO_TEXT = "x\tmalformed markup", "x\tnot a text in UTF-8"
+# Flaws, as events of a package text.
+MALFORMED, NO_TEXT = ["x"], ["x", "not a text in UTF-8"]
 PLACE = re.compile(r"at character (\d+)$")
 
-# How parts begin that tools/markup.py reads, and the program doesn't.
+# How parts begin that tools/reading/markup.py reads, and the program doesn't.
 UTF_16 = (b"\xff\xfe", b"\xfe\xff", b"<\0", b"\0<")
 
 
@@ -31,18 +33,22 @@ def told(found):
         if letter == "b":
             yield line("s", *texts)
             yield line("e", texts[0])
+        elif letter == "x":
+            yield line("x", *(texts or ["malformed markup"]))
         else:
             yield line(letter, *texts)
 
 
 def cut_whole(data):
-    """The lines of the events that tools/markup.py cuts of what it doesn't refuse."""
+    """The events that tools/reading/markup.py cuts of what it doesn't refuse."""
     lists = [event for some in markup.events([data]) for event in some]
-    return list(told(json.loads(f"[{','.join(lists)}]")))
+    return json.loads(f"[{','.join(lists)}]")
 
 
-def wanted(data):
+def cut(data):
     """The same, with a flaw at the end in place of a refusal."""
+    if data.startswith(UTF_16):
+        return [NO_TEXT]
     try:
         return cut_whole(data)
     except markup.MarkupFault as fault:
@@ -57,6 +63,11 @@ def wanted(data):
     if "\0" in text:
         return [NO_TEXT]
     return cut_whole(text[: int(place[1])].encode()) + [MALFORMED]
+
+
+def wanted(data):
+    """The lines of these."""
+    return list(told(cut(data)))
 
 
 def found(build, data):

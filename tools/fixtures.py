@@ -1,10 +1,16 @@
-"""Packages that the tests share: as markup, as a zip archive and as a package text."""
+"""Packages that the tests share: as markup, as a zip archive and as a package text. What imports it
+finds the modules of tools/reading, too."""
 
 import io
+import pathlib
+import sys
 import zipfile
 
-from markup import events, spelled
-from package_text import FORMS
+READING = pathlib.Path(__file__).resolve().parent / "reading"
+sys.path.append(str(READING))
+
+from markup import events, spelled  # noqa: E402
+from package_text import FORMS  # noqa: E402
 
 TYPES = "http://schemas.openxmlformats.org/officeDocument/2006/relationships/"
 

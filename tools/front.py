@@ -1,24 +1,23 @@
-"""Answers the words of ./xlsx by the program xlsx_tool, on a workbook file or on a package text.
+"""Answers the words of ./xlsx by the program xlsx_tool, which reads the workbook file, or the
+package text, itself.
 
-The status is the program's own, that of tools/package_text.py (docs/FORMAT.md), or 1 where the
-program could not be built or gave no answer. What can be refused is refused before a build.
+The status is the program's own, or 1 where the program could not be built or gave no answer, 3
+where the file can't be read, and 11 or 12 where the program refuses a workbook of another kind
+(docs/FORMAT.md). What can be refused is refused before a build.
 """
 
-import contextlib
 import os
 import re
 import select
-import shutil
 import stat
 import sys
-import tempfile
 
 import words as of_words
 from escapes import unescaped
 from place import PROGRAM, is_ready
 from program import LIMIT, PROVING, UNPROVED, UNPROVED_SAYS, WRITE_FAULT, Ended, Program
 from program import build, end_by_signals, say
-from words import Reads, one_line
+from words import one_line
 
 # The most address space that the proved program gets, in MiB; 0 sets no bound.
 MEMORY = "4096"
@@ -42,6 +41,9 @@ def standard_input():
 
 def kept(source, most=sys.maxsize):
     """The bytes of an open file, at most so many, in a temporary one."""
+    # This and other modules are brought in where they are needed: an answer needs few.
+    import tempfile
+
     file = tempfile.TemporaryFile()
     while most and (piece := source.read(min(most, 1 << 20))):
         file.write(piece)
@@ -51,11 +53,11 @@ def kept(source, most=sys.maxsize):
     return file
 
 
-class Package:
-    """A package text that the program reads, once or more often: that of an open file."""
+class Input:
+    """What the program reads, once or more often: an open file, and its name, if it has one."""
 
-    def __init__(self, file):
-        self.file, self.start = file, None
+    def __init__(self, file, path=None):
+        self.file, self.path, self.start = file, path, None
         try:
             # What a file is read from, where it can be read again.
             if stat.S_ISREG(os.fstat(file.fileno()).st_mode):
@@ -63,7 +65,7 @@ class Package:
         except OSError:
             pass
 
-    def input(self):
+    def number(self):
         """The number of the file, which stands at its start."""
         if self.start is not None:
             os.lseek(self.file.fileno(), self.start, os.SEEK_SET)
@@ -82,132 +84,56 @@ class Refused(Exception):
         self.status, self.said = status, said
 
 
-@contextlib.contextmanager
-def told_of(path):
-    """Has what is refused of a workbook file told with its name."""
-    from package_text import Refusal
-
-    try:
-        yield
-        return
-    except Refusal as refusal:
-        status, text = refusal.status, str(refusal)
-    except MemoryError:
-        status, text = 8, "out of memory"
+def refused_file(path, status, text):
+    """The refusal of a file, told with its name."""
     name = os.fsencode(one_line(path))
-    raise Refused(status, name + f": {one_line(text)}\n".encode(errors="replace"))
+    return Refused(status, name + f": {one_line(text)}\n".encode(errors="replace"))
 
 
-class Book:
-    """A workbook file, of which a package text is made."""
-
-    def __init__(self, path, limit, stack):
-        from package_text import workbook_of, written
-
-        self.path = source = path
-        with told_of(path):
-            if path == of_words.STANDARD_INPUT:
-                with written():
-                    source = stack.enter_context(kept(standard_input())).fileno()
-            self.workbook = stack.enter_context(workbook_of(source, limit=limit))
-
-        # What was made of it, by the sheets that it is made for, and the last one that was made for
-        # the part of one.
-        self.packages, self.part = {}, ("", None)
-
-    def has_choice(self):
-        """Whether there are sheets to choose from."""
-        return self.workbook.sheet_count() > 1
-
-    def made(self, sheets):
-        with told_of(self.path):
-            return Package(self.workbook.text(sheets))
-
-    def package(self, sheets):
-        """The package text for some sheets, or for the part of one."""
-        if isinstance(sheets, str):
-            if self.part[0] != sheets:
-                self.part = sheets, self.made(sheets)
-            return self.part[1]
-        if sheets not in self.packages:
-            self.packages[sheets] = self.made(sheets)
-        return self.packages[sheets]
-
-    def whole(self):
-        from package_text import Sheets
-
-        return self.package(Sheets.ALL)
-
-
-class Text:
-    """A package text of standard input, which has all that there is."""
-
-    def __init__(self, asked):
-        self.text = Package(standard_input())
-        if asked.is_read_again() and not self.text.is_repeated():
-            self.text = Package(kept(self.text.file, LIMIT + 1))
-
-    def has_choice(self):
-        return False
-
-    def whole(self):
-        return self.text
+def opened(path):
+    """The file of a name. Nothing is waited for: a pipe that nobody writes to is no file."""
+    try:
+        number = os.open(path, os.O_RDONLY | os.O_NONBLOCK | os.O_CLOEXEC)
+    except OSError as error:
+        raise refused_file(path, 3, f"can't be read: {error.strerror}") from None
+    mode = os.fstat(number).st_mode
+    if stat.S_ISREG(mode):
+        return open(number, "rb", buffering=0)
+    os.close(number)
+    if stat.S_ISDIR(mode):
+        raise refused_file(path, 3, "can't be read: Is a directory")
+    what = "a pipe, and no file" if stat.S_ISFIFO(mode) else "no regular file"
+    raise refused_file(path, 3, f"can't be read: it is {what}")
 
 
 class Front:
-    """One call: the program, and what it reads, a Book or a Text."""
+    """One call: the program, and what it reads."""
 
     def __init__(self, program, source):
         self.program, self.source = program, source
 
-        # The names of worksheets' parts, by those of the worksheets.
-        self.parts = {}
+    def lines(self, words):
+        """The lines of a command, each as its fields."""
+        import tempfile
 
-    def lines(self, words, package=None):
-        """The lines of a command, each as its fields, on a package text, or on that for its
-        words."""
-        package = package or self.package(words)
         with tempfile.TemporaryFile() as output:
-            status, said = self.program.run(words, package.input(), output.fileno())
+            status, said = self.program.run(words, self.source.number(), output.fileno())
             if status:
-                raise Refused(status, said)
+                raise self.refused(status, said)
             output.seek(0)
             text = output.read().decode()
         return [[unescaped(field) for field in line.split("\t")] for line in text.split("\n")[:-1]]
 
-    def package(self, words):
-        """The package text for the program's words: all that there is but worksheets' own parts at
-        which the command doesn't look."""
-        command = of_words.COMMANDS.get(words[0])
-        reads = Reads.ALL if command is None else command.reads
-        if reads is Reads.ALL or not self.source.has_choice():
-            return self.source.whole()
-        from package_text import Sheets
+    def refused(self, status, said):
+        """What is said of a refusal of the program: where the file is a workbook of another kind,
+        which kind that is."""
+        if self.source.path is not None and self.source.is_repeated():
+            from kinds import other_kind
 
-        name = self.of_table(words[1]) if reads is Reads.TABLE else None
-        name = words[1] if reads is Reads.SHEET else name
-        return self.source.package(Sheets.NONE if name is None else self.part_of(name))
-
-    def of_table(self, name):
-        """The name of the worksheet of the first table of this name, or None where the program
-        tells none: it then refuses the command, too."""
-        try:
-            tables = self.lines(["tables"])
-        except Refused:
-            return None
-        return next((sheet for table, sheet, *_ in tables if table == name), None)
-
-    def part_of(self, name):
-        """The name of the part of the worksheet NAME, or no sheet's where the program tells
-        none."""
-        from package_text import Sheets
-
-        if name not in self.parts:
-            try:
-                [[self.parts[name]]] = self.lines(["part", name], self.source.package(Sheets.BOOK))
-            except Refused:
-                self.parts[name] = Sheets.NONE
-        return self.parts[name]
+            other = other_kind(self.source.number())
+            if other is not None:
+                return refused_file(self.source.path, *other)
+        return Refused(status, said)
 
     def sheet(self, number):
         """The name of the sheet at a place among all, from 1."""
@@ -254,7 +180,7 @@ class Front:
 
     def say_names(self, words, said):
         """Says which names there are where one isn't found."""
-        if not self.package(words).is_repeated():
+        if not self.source.is_repeated():
             if said == f"Worksheet '{words[1]}' not found\n".encode():
                 say("the sheets of a workbook are listed by: ./xlsx FILE.xlsx sheets")
             return
@@ -272,34 +198,45 @@ class Front:
     def answer(self, asked):
         """Has the program answer, onto standard output: the status."""
         words = self.named(asked)
-        status, said = self.program.run(words, self.package(words).input(), 1)
+        status, said = self.program.run(words, self.source.number(), 1)
         if status == 7 and said == WRITE_FAULT and is_reader_gone():
             return 7
-        self.tell(words, status, said)
-        return status
+        return self.told(words, status, said)
 
-    def tell(self, words, status, said):
-        """Tells what the program said, and which names there are."""
-        os.write(2, said)
-        if status == 6 and len(words) > 1:
+    def told(self, words, status, said):
+        """Tells what the program said, and which names there are: the status."""
+        if status == 0:
+            os.write(2, said)
+            return 0
+        refused = self.refused(status, said)
+        os.write(2, refused.said)
+        if refused.status == 6 and len(words) > 1:
             self.say_names(words, said)
+        return refused.status
 
     def save(self, asked):
-        """Has the program answer, and writes its package text as a workbook file: the status."""
-        from workbook_file import save
+        """Has the program answer, and writes its answer as a file: the status."""
+        import shutil
+        import tempfile
+
+        from saving import CantWrite, replacing
 
         words, path = self.named(asked), asked.saved
         with tempfile.TemporaryFile() as answer:
-            status, said = self.program.run(words, self.package(words).input(), answer.fileno())
-            self.tell(words, status, said)
+            status, said = self.program.run(words, self.source.number(), answer.fileno())
             if status == 0:
                 answer.seek(0)
-                with told_of(path):
-                    save(answer, path)
-        return status
+                try:
+                    with replacing(path) as file:
+                        shutil.copyfileobj(answer, file)
+                except CantWrite as refusal:
+                    raise refused_file(path, 7, str(refusal)) from None
+        return self.told(words, status, said)
 
     def write_all(self, asked):
         """Writes each worksheet as CSV into a file of a folder: the status."""
+        import tempfile
+
         folder, options, worksheets = asked.folder, asked.options, self.worksheets()
         try:
             os.makedirs(folder, exist_ok=True)
@@ -316,7 +253,7 @@ class Front:
     def write_one(self, name, options, path):
         with open(path, "xb") as output:
             words = ["csv", name, *options]
-            status, said = self.program.run(words, self.package(words).input(), output.fileno())
+            status, said = self.program.run(words, self.source.number(), output.fileno())
         if status:
             raise Refused(status, f"'{one_line(name)}': ".encode() + said)
 
@@ -370,24 +307,17 @@ def memory_of(word):
     return int(word)
 
 
-def source_of(path, asked, stack):
-    """What is read: a workbook file, or a package text of standard input."""
-    if path is not None:
-        return Book(path, sys.maxsize if asked.is_package() else LIMIT, stack)
-    if not asked.is_page() and asked.word != "sample" and os.isatty(0):
+def source_of(path, asked):
+    """What is read: a file, or standard input."""
+    if path is not None and path != of_words.STANDARD_INPUT:
+        return Input(opened(path), path)
+    if path is None and not asked.is_page() and asked.word != "sample" and os.isatty(0):
         call = f"./xlsx FILE.xlsx {asked.word} .."
         say(f"waiting for a package text at the terminal; {call} reads a file")
-    return Text(asked)
-
-
-def write_package(book):
-    """Writes the whole package text of a workbook file: the status."""
-    try:
-        with open(1, "wb", closefd=False) as out:
-            shutil.copyfileobj(book.whole().file, out)
-    except OSError:
-        raise Refused(7, b"" if is_reader_gone() else WRITE_FAULT) from None
-    return 0
+    source = Input(standard_input())
+    if asked.is_read_again() and not source.is_repeated():
+        return Input(kept(source.file, LIMIT + 1))
+    return source
 
 
 def answered(words):
@@ -399,22 +329,19 @@ def answered(words):
         help_page(os.environ.get("XLSX_MEMORY", MEMORY))
         if not is_ready():
             return 0
-    with contextlib.ExitStack() as stack:
-        source = source_of(path, asked, stack)
-        if asked.is_package():
-            return write_package(source)
-        if is_ready():
-            is_proved = True
-        elif is_proved:
-            build()
-        else:
-            say(UNPROVED_SAYS)
-        front = Front(Program(PROGRAM if is_proved else None, memory), source)
-        if asked.saved is not None:
-            return front.save(asked)
-        if asked.folder is not None:
-            return front.write_all(asked)
-        return front.answer(asked)
+    source = source_of(path, asked)
+    if is_ready():
+        is_proved = True
+    elif is_proved:
+        build()
+    else:
+        say(UNPROVED_SAYS)
+    front = Front(Program(PROGRAM if is_proved else None, memory), source)
+    if asked.saved is not None:
+        return front.save(asked)
+    if asked.folder is not None:
+        return front.write_all(asked)
+    return front.answer(asked)
 
 
 def main(words):

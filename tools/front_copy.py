@@ -63,8 +63,7 @@ fi
 mkdir -p out/rlib
 """
 # What ./xlsx is made of.
-FRONT = ("escapes", "front", "markup", "package_text", "place", "program", "prove", "words")
-FRONT += ("workbook_file",)
+FRONT = ("escapes", "front", "kinds", "place", "program", "prove", "saving", "words")
 FILES = ("xlsx", *(f"tools/{name}.py" for name in FRONT))
 
 
@@ -89,7 +88,7 @@ class FrontCopy(unittest.TestCase):
         self.written("program", STAND_IN)
         self.written("bin/rt", RT)
         self.book = self.written("book.xlsx", archive(MINIMAL))
-        self.size = len(self.text_of_book())
+        self.size = len(self.book.read_bytes())
 
     def written(self, name, data):
         path = self.folder / name
@@ -97,10 +96,6 @@ class FrontCopy(unittest.TestCase):
         path.write_bytes(data.encode() if isinstance(data, str) else data)
         path.chmod(0o755)
         return path
-
-    def text_of_book(self):
-        words = ["python3", self.folder / "top" / "tools" / "package_text.py", self.book]
-        return subprocess.run(words, stdout=subprocess.PIPE, check=True).stdout
 
     def build(self, program=None):
         self.program.parent.mkdir(exist_ok=True)

@@ -7,11 +7,7 @@ where there is none in the cache, too. What `rt ci` built is taken from where it
 """
 
 import fcntl
-import hashlib
 import os
-import shutil
-import subprocess
-import tempfile
 import time
 
 TOP = os.path.dirname(os.path.dirname(os.path.realpath(__file__)))
@@ -34,6 +30,9 @@ def git_of(top):
 
 def cache_of(top):
     """The folder of the user's cache for the repository at this place."""
+    # This and other modules are brought in where they are needed: an answer needs few.
+    import hashlib
+
     cache = os.environ.get("XDG_CACHE_HOME") or os.path.expanduser("~/.cache")
     return os.path.join(cache, f"xlsx-{hashlib.sha256(os.fsencode(top)).hexdigest()[:16]}")
 
@@ -44,7 +43,7 @@ def place_of(top):
     return cache_of(top) if git is None else os.path.join(git, "xlsx")
 
 
-PLACE, LANES = place_of(TOP), os.path.join(cache_of(TOP), "lanes")
+PLACE = place_of(TOP)
 PROGRAM = os.path.join(PLACE, NAME)
 LOG = os.path.join(PLACE, "proving.log")
 
@@ -98,21 +97,33 @@ def is_fresh(program):
     )
 
 
+def lanes():
+    """The folder of the copies in which crates are proved."""
+    return os.path.join(cache_of(TOP), "lanes")
+
+
 def now(folder):
     """The moment in nanoseconds, as the files of a folder have it."""
+    import tempfile
+
     with tempfile.NamedTemporaryFile(dir=folder) as begun:
         return os.stat(begun.name).st_mtime_ns
 
 
 def publish(built, moment):
     """Puts a program that is built into its place, where it is whole at each moment."""
+    import shutil
+    import subprocess
+    import tempfile
+
     with tempfile.TemporaryDirectory(dir=PLACE) as folder:
         copy = os.path.join(folder, NAME)
         shutil.copy(built, copy)
         # What changes during a build counts as newer than the program.
         os.utime(copy, ns=(moment, moment))
         given = {"stdin": subprocess.DEVNULL, "stdout": subprocess.DEVNULL}
-        subprocess.run([copy, "--version"], check=True, **given)
+        if subprocess.run([copy, "--version"], **given).returncode:
+            raise ValueError(f"{built} isn't whole")
         os.replace(copy, PROGRAM)
 
 
@@ -128,7 +139,7 @@ def is_taken():
         os.makedirs(PLACE, exist_ok=True)
         publish(OF_GATE, os.stat(OF_GATE).st_mtime_ns)
         return True
-    except (OSError, subprocess.CalledProcessError):
+    except (OSError, ValueError):
         return False
     finally:
         if held is not None:

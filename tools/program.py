@@ -3,17 +3,15 @@
 import contextlib
 import os
 import resource
-import shutil
 import signal
 import subprocess
 import sys
-import tempfile
 
-from place import CRATE, LANES, LOG, NAME, PLACE, TOP
+from place import CRATE, LOG, NAME, PLACE, TOP, lanes
 from words import one_line
 
-# The most bytes that the program reads.
-LIMIT = 64 * 1024 * 1024
+# The most bytes that the program reads, those of a workbook file.
+LIMIT = 256 * 1024 * 1024
 
 # How long the first proof takes, and an answer without one, on four processors.
 PROVING = "about half an hour"
@@ -41,6 +39,8 @@ def say(text):
 
 def find(command, what):
     """Sees that a command is there."""
+    import shutil
+
     if shutil.which(command) is None:
         raise Ended(1, f"{command}, {what}, is not among the commands (PATH)")
 
@@ -93,10 +93,12 @@ def status_of(child):
 
 def build():
     """Proves and builds the program."""
+    import tempfile
+
     find("rt", "the command of the Rattle kit")
     say(f"no proved program is there yet: proving takes {PROVING}; {ANSWERS}")
     say(f"proving; what rt says goes to {LOG}")
-    for folder in (PLACE, LANES):
+    for folder in (PLACE, lanes()):
         try:
             os.makedirs(folder, exist_ok=True)
             tempfile.TemporaryFile(dir=folder).close()
@@ -127,20 +129,23 @@ class Program:
             except (OSError, ValueError, OverflowError):
                 pass
 
-    def run(self, words, package, output):
-        """Runs words on the package text of an open file, by its number, and has the lines go to
-        another. The status, and what is said of a refusal."""
+    def run(self, words, source, output):
+        """Runs words on an open file, by its number, and has the lines go to another. The status, and
+        what is said of a refusal."""
         if self.built is None:
-            return self.run_unproved(words, package, output)
-        given = {"stdin": package, "stdout": output, "stderr": subprocess.PIPE}
+            return self.run_unproved(words, source, output)
+        given = {"stdin": source, "stdout": output, "stderr": subprocess.PIPE}
         with child_of([self.built, *words], self.bound, **given) as child, child.stderr:
             said = child.stderr.read()
             return status_of(child), said
 
-    def run_unproved(self, words, package, output):
+    def run_unproved(self, words, source, output):
         """The same by a run without a proof, where that gives an answer."""
+        import shutil
+        import tempfile
+
         with tempfile.TemporaryFile() as lines, tempfile.TemporaryFile() as errors:
-            given = {"cwd": CRATE, "stdin": package, "stdout": lines, "stderr": errors}
+            given = {"cwd": CRATE, "stdin": source, "stdout": lines, "stderr": errors}
             with child_of(["rt", "try", "--", *words], **given) as child:
                 status = status_of(child)
             errors.seek(0)

@@ -19,7 +19,7 @@ import sys
 import tempfile
 import time
 
-from place import LANES, LOG, PLACE, is_left, locks, needs_of, now, publish
+from place import LOG, PLACE, is_left, lanes, locks, needs_of, now, publish
 
 # What one proof may take of memory, in KiB.
 MEMORY = 4 * 1024 * 1024
@@ -96,7 +96,7 @@ class Lane:
     """
 
     def __init__(self, name, table):
-        self.name, self.top = name, os.path.join(LANES, name)
+        self.name, self.top = name, os.path.join(lanes(), name)
         crates = os.path.join(self.top, "crates")
         os.makedirs(place(self.top, name), exist_ok=True)
         clear(self.top, ("crates",))
@@ -109,7 +109,7 @@ class Lane:
         for need in names:
             to = place(self.top, need)
             copy(place(".", need), to, ignore=shutil.ignore_patterns("out"), dirs_exist_ok=True)
-            built = place(os.path.join(LANES, need), need, "out", "rlib")
+            built = place(os.path.join(lanes(), need), need, "out", "rlib")
             # Where another `rt` took it away since it was built, this one builds it again.
             if need != name and os.path.isdir(built):
                 copy(built, place(self.top, need, "out", "rlib"))
@@ -173,7 +173,7 @@ class Proving:
 
     def built(self):
         """The program, as it is built in its copy."""
-        return place(os.path.join(LANES, self.program), self.program, "out", self.program)
+        return place(os.path.join(lanes(), self.program), self.program, "out", self.program)
 
     def begin_some(self, most):
         """Begins what can be proved now, each with one processor, or with two where no crate waits

@@ -1,14 +1,15 @@
-"""Tries that the program cut_events cuts the parts of the samples as tools/markup.py does."""
+"""Tries that the program cut_events cuts the parts of the samples as tools/reading/markup.py does."""
 
 import pathlib
 import unittest
 import zipfile
 
-from cutting import BUILDS, MALFORMED, NO_TEXT, OUT, found, wanted
+from cutting import BUILDS, OUT, found, wanted
 
 SAMPLES = pathlib.Path(__file__).resolve().parent.parent / "samples"
 
-# Parts that are refused, and what is told of them.
+# Parts with a flaw, and what is told of them.
+MALFORMED, NO_TEXT = "x\tmalformed markup", "x\tnot a text in UTF-8"
 REFUSED = [
     (b"<a>b<", ["s\ta\t", "t\tb", MALFORMED]),
     (b"\xef\xbb\xbf<a/>\xc3\xbc & b", ["s\ta\t", "e\ta", "t\tü ", MALFORMED]),

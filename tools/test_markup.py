@@ -10,6 +10,7 @@ import unittest.mock
 from random import Random
 from xml.parsers import expat
 
+import fixtures  # noqa: F401, by which tools/reading is found
 import markup
 from markup import Cutter, MarkupFault, TooLong, events
 from package_text import FORMS

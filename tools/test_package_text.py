@@ -74,7 +74,7 @@ class Files(unittest.TestCase):
         if data is not None:
             pathlib.Path(self.path).write_bytes(data)
         ran = subprocess.run(
-            [sys.executable, HERE / "package_text.py", self.path, *words],
+            [sys.executable, HERE / "reading" / "package_text.py", self.path, *words],
             stdout=stdout,
             stderr=subprocess.PIPE,
             **given,

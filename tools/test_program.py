@@ -263,7 +263,7 @@ class Edge:
         for sample in sorted((TOP / "samples").glob("*.xlsx")):
             file = sample.read_bytes()
             with tempfile.TemporaryFile() as text:
-                command = [sys.executable, TOP / "tools" / "package_text.py", "--all", sample]
+                command = [sys.executable, TOP / "tools" / "reading" / "package_text.py", "--all", sample]
                 subprocess.run(command, stdout=text, check=True)
                 text.seek(0)
                 data = text.read()

@@ -79,7 +79,7 @@ def parted(events):
 
 
 def package_text(path, *words):
-    words = [sys.executable, HERE / "package_text.py", path, *words]
+    words = [sys.executable, HERE / "reading" / "package_text.py", path, *words]
     return subprocess.run(words, stdout=subprocess.PIPE, check=True).stdout
 
 

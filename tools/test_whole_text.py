@@ -1,20 +1,18 @@
-"""Tries that what ./xlsx feeds of a workbook has the answer of its whole text: the same bytes, the
-same status and the same words, for every command."""
+"""Tries that a workbook file has the answers of the package text that Python makes of its parts:
+the same bytes, the same status and the same words, for every command."""
 
-import contextlib
+import io
+import json
 import pathlib
 import subprocess
-import tempfile
 import unittest
-import warnings
+import zipfile
 
+from cutting import cut
 from escapes import unescaped
 from fixtures import BROKEN_THEME, LISTED, MINIMAL, MIXED, SALES, archive, relationships
-from front import Book, Front, Refused
-from package_text import Refusal, Sheets, workbook_of
 from place import OF_GATE
-from program import LIMIT, Program
-from words import COMMANDS
+from words import A_TABLE, COMMANDS
 
 SAMPLES = pathlib.Path(__file__).resolve().parent.parent / "samples"
 
@@ -237,50 +235,27 @@ def kind_of(command, parameter):
     """What a name is of that a command takes."""
     if command.word == "pivot" and parameter == "NAME":
         return "pivot"
-    return "table" if command.reads is command.reads.TABLE else "sheet"
+    return "table" if command.takes == A_TABLE else "sheet"
+
+
+def text_of(file):
+    """The package text of all parts of a workbook file."""
+    with zipfile.ZipFile(io.BytesIO(file)) as book:
+        parts = [{"name": name, "events": cut(book.read(name))} for name in book.namelist()]
+    return json.dumps({"version": 2, "parts": parts}, ensure_ascii=False).encode()
+
+
+def answers_on(data):
+    """What answers words on an input."""
+
+    def answer(words):
+        ran = subprocess.run([OF_GATE, *words], input=data, capture_output=True)
+        return ran.returncode, ran.stdout, ran.stderr
+
+    return answer
 
 
 class WholeText(unittest.TestCase):
-    def setUp(self):
-        folder = tempfile.TemporaryDirectory()
-        self.addCleanup(folder.cleanup)
-        self.path = str(pathlib.Path(folder.name, "book.xlsx"))
-        # ./xlsx leaves its temporary files to its end.
-        warnings.simplefilter("ignore", ResourceWarning)
-
-    def write(self, parts):
-        with open(self.path, "wb") as file:
-            file.write(archive(parts))
-        return self.path
-
-    def fed(self, path, words):
-        """What is answered on the parts that are chosen for the words."""
-        with contextlib.ExitStack() as stack:
-            try:
-                front = Front(Program(OF_GATE, 4096), Book(path, LIMIT, stack))
-                fed = front.package(words).input()
-                with tempfile.TemporaryFile() as out:
-                    status, said = front.program.run(words, fed, out.fileno())
-                    out.seek(0)
-                    return status, out.read(), said
-            except Refused as refused:
-                return refused.status, b"", refused.said
-
-    def whole(self, path):
-        """What answers words on the whole text."""
-        try:
-            with workbook_of(path) as workbook, workbook.text(Sheets.ALL) as kept:
-                text = kept.read()
-        except Refusal as refusal:
-            refused = refusal.status, b"", f"{path}: {refusal}\n".encode()
-            return lambda words: refused
-
-        def answer(words):
-            ran = subprocess.run([OF_GATE, *words], input=text, capture_output=True)
-            return ran.returncode, ran.stdout, ran.stderr
-
-        return answer
-
     def asked_of(self, answer):
         """Words for each command, with each name that the workbook has, and one that it hasn't."""
         names = {}
@@ -306,17 +281,17 @@ class WholeText(unittest.TestCase):
                 if command.word == "csv":
                     yield [command.word, name, "--dates", "--delimiter=tab"]
 
-    def compare(self, path):
+    def compare(self, file):
         """Sees that all words have the answer of the whole text."""
-        answer = self.whole(path)
+        answer, of_text = answers_on(file), answers_on(text_of(file))
         for words in self.asked_of(answer):
             with self.subTest(words=words):
-                self.assertEqual(self.fed(path, words), answer(words))
+                self.assertEqual(answer(words), of_text(words))
 
     def test_samples(self):
         for path in sorted(SAMPLES.glob("*.xlsx")):
             with self.subTest(sample=path.name):
-                self.compare(str(path))
+                self.compare(path.read_bytes())
 
     def test_fixtures(self):
         for name, parts in (
@@ -327,44 +302,39 @@ class WholeText(unittest.TestCase):
             ("MIXED", MIXED),
         ):
             with self.subTest(fixture=name):
-                self.compare(self.write(parts))
+                self.compare(archive(parts))
 
     def test_packages_of_each_kind(self):
         for shown, changes in KINDS.items():
             with self.subTest(shown):
-                self.compare(self.write(changed(changes)))
+                self.compare(archive(changed(changes)))
 
     def test_names_of_parts_in_other_case_and_with_backslashes(self):
         turned = {name.replace("/", "\\").upper(): part for name, part in BASE.items()}
-        self.compare(self.write(turned))
+        self.compare(archive(turned))
 
     def test_each_command_answers_on_the_workbook(self):
         """So that the comparisons are of answers, and not of refusals alone."""
-        answer, answered = self.whole(self.write(BASE)), set()
-        for words in self.asked_of(answer):
-            if answer(words)[0] == 0:
-                answered.add(words[0])
+        answer = answers_on(archive(BASE))
+        answered = {words[0] for words in self.asked_of(answer) if answer(words)[0] == 0}
         self.assertEqual(answered, set(COMMANDS) - {"sample"})
 
     def test_a_thousand_sheets(self):
-        self.compare(self.write(of_many(1000)))
+        self.compare(archive(of_many(1000)))
 
     def test_a_broken_sheet_that_is_not_asked_for_is_not_told(self):
-        """Its fault is that of the whole text alone, and of what asks for it."""
-        words = [words for words in self.asked_of(self.whole(self.write(BASE))) if "T" not in words]
-        wanted = {tuple(asked): self.fed(self.path, asked) for asked in words}
-        self.write({**BASE, SHEET.format(2): "<"})
-        told = f"{self.path}: {SHEET.format(2)} is broken: markup without an end, at character 0\n"
-        refused = 13, b"", told.encode()
-        self.assertEqual(self.whole(self.path)(["sheets"]), refused)
-        for asked in words:
-            with self.subTest(words=asked):
-                # The second table is that sheet's.
-                is_read = asked == ["upgrade"] or "T2" in asked
-                own = refused if is_read else wanted[tuple(asked)]
-                self.assertEqual(self.fed(self.path, asked), own)
+        """Its fault is told to those alone that ask for it."""
+        whole = answers_on(archive(BASE))
+        broken = answers_on(archive({**BASE, SHEET.format(2): "<"}))
+        asked = [words for words in self.asked_of(whole) if "T" not in words and "T2" not in words]
+        for words in asked:
+            if words != ["upgrade"]:
+                with self.subTest(words=words):
+                    self.assertEqual(broken(words), whole(words))
         for word in ("cells", "csv", "links", "merges"):
-            self.assertEqual(self.fed(self.path, [word, "T"]), refused)
+            status, lines, said = broken([word, "T"])
+            self.assertEqual((status, lines), (6, b""))
+            self.assertIn(b"malformed markup", said)
 
 
 if __name__ == "__main__":

@@ -143,7 +143,7 @@ class Files(unittest.TestCase):
 
     def run_on(self, data, *words, **given):
         given = {"input": data, **given} if "stdin" not in given else given
-        words = [sys.executable, HERE / "workbook_file.py", *words]
+        words = [sys.executable, HERE / "reading" / "workbook_file.py", *words]
         ran = subprocess.run(
             words, stdout=subprocess.PIPE, stderr=subprocess.PIPE, cwd=self.folder, **given
         )

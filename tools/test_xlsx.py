@@ -6,11 +6,12 @@ import re
 import resource
 import shutil
 import signal
+import struct
 import subprocess
 import sys
 import unittest
 
-from fixtures import LINES, MINIMAL, archive, package_text, relationships
+from fixtures import LINES, MINIMAL, archive, package_text
 from front_copy import TOP, FrontCopy
 from words import COMMANDS, USAGE, is_of_sheet
 
@@ -34,6 +35,7 @@ ulimit -v
 # table or pivot table it is asked for; there is none of the name that begins with `no`.
 LISTING = """\
 #!/bin/sh
+[ "$(head -c 3)" != nut ] || { echo 'not a package' >&2; exit 5; }
 cat >/dev/null
 case "$1:$2" in
 sheets:)
@@ -62,32 +64,31 @@ shift
 for word; do said="$said | $word"; done
 printf '%s\\n' "$said"
 """
-# Tells which parts the package has.
-FED = """\
+# Answers the bytes that it is given.
+PASSING = """\
 #!/bin/sh
-grep -o '"name":"[^"]*"' | cut -d '"' -f 4 | tr '\\n' ' '
-echo
+[ "$*" = upgrade ] || exit 2
+exec cat
 """
-# The same, but that it tells of one table, and of one worksheet's part where nothing is fed but what
-# tells it.
-CHOOSING = """\
+# Refuses what it is given as a package that is none.
+REFUSING = """\
 #!/bin/sh
-fed=$(grep -o '"name":"[^"]*"' | cut -d '"' -f 4 | tr '\\n' ' ')
-case "$1:$2:$fed" in
-"part:Two:_rels/.rels xl/_rels/workbook.xml.rels xl/workbook.xml ") echo xl/sheets/two.xml ;;
-part:*) echo "Worksheet '$2' not found" >&2; exit 6 ;;
-tables:*) printf 'T\\tTwo\\tA1:B2\\tx\\n' ;;
-*) echo "$fed" ;;
-esac
+cat >/dev/null
+echo 'not a package' >&2
+exit 5
 """
-NAMED = ("cells", "merges", "links", "comments", "csv", "csv-table", "table", "precedents")
-NAMED += ("check", "sample")
 # Words that are references of a cell, and such that are none.
 REFERENCES = ("A1", "a7", "XFD1048576", "XFE1", "ZZZ1", "A1048577", "AAAA1", "A01", "A0", "7", "A")
 REFERENCES += ("", "$A$7", "A1:B2", "\u00e91", "A\u0661", "A1 ", "1A", "A" + "0" * 5_000 + "7")
 UNPROVED = (
     "xlsx: this answer is not proved; past 1 MiB of lines or a minute's run there is none\n"
 )
+
+
+def directory_entry(name):
+    """An entry of a compound file's directory."""
+    text = f"{name}\0".encode("utf-16-le")
+    return text.ljust(64, b"\0") + struct.pack("<H", len(text)) + bytes(62)
 
 
 class Wrapper(FrontCopy):
@@ -250,13 +251,10 @@ class Wrapper(FrontCopy):
     # Refused before the build
 
     def test_what_can_be_refused_is_refused_before_the_build(self):
-        self.written("no.xlsx", "nut")
-        for words, status, said in (
-            (["n.xlsx", "cells", "S"], 3, "n.xlsx: can't be read: No such file or directory\n"),
-            (["no.xlsx", "cells", "S"], 14, "no.xlsx: no zip archive, and so no .xlsx workbook\n"),
-        ):
-            with self.subTest(words=words):
-                self.assertEqual(self.run_on(*words), (status, b"", said))
+        for name, why in (("n.xlsx", "No such file or directory"), ("bin", "Is a directory")):
+            with self.subTest(name=name):
+                said = f"{name}: can't be read: {why}\n"
+                self.assertEqual(self.run_on(name, "cells", "S"), (3, b"", said))
         self.assertFalse(self.program.exists())
 
     # Words and files
@@ -270,7 +268,7 @@ class Wrapper(FrontCopy):
             )
         self.assertEqual(self.run_on("--version"), (0, b"version\n", ""))
 
-    def test_a_workbook_file_becomes_the_programs_input(self):
+    def test_a_workbook_file_is_the_programs_input(self):
         self.build()
         for status in (0, 6, 9):
             self.assertEqual(
@@ -358,8 +356,9 @@ class Wrapper(FrontCopy):
         data = self.book.read_bytes()
         wanted = 0, f"cells 0: {self.size}\n".encode(), ""
         self.assertEqual(self.run_on("-", "cells", "0", data=data), wanted)
-        said = "-: no zip archive, and so no .xlsx workbook\n"
-        self.assertEqual(self.run_on("-", "cells", "0", data=b"nut"), (14, b"", said))
+        with open(self.book, "rb") as file:
+            file.seek(0)
+            self.assertEqual(self.run_on("-", "cells", "0", data=None, stdin=file), wanted)
 
     def test_a_terminal_is_told_what_is_waited_for(self):
         self.build()
@@ -459,7 +458,7 @@ class Wrapper(FrontCopy):
         names = ["books/a b.xlsx", "books/more/it's.xlsx", "books/no.xlsx"]
         (top / "list").write_text("".join(f"{name}\n" for name in names))
         given = {"cwd": top, "env": self.environment(), "stdout": subprocess.PIPE}
-        wanted = [f"{status} {name}" for status, name in zip((0, 0, 14), names)]
+        wanted = [f"{status} {name}" for status, name in zip((0, 0, 5), names)]
         subprocess.run(["sh", "-c", folder], **given)
         told = (top / "statuses").read_text().splitlines()
         self.assertEqual(sorted(told, key=lambda line: line.split(" ", 1)[1]), wanted)
@@ -475,7 +474,7 @@ class Wrapper(FrontCopy):
         """What stands beside two workbooks and one that is none, and none of it any more."""
         for name in names:
             made = [self.folder / "top" / f"{name}{end}" for end in (".csv", ".said")]
-            none = "" if name != names[-1] else f"{name}: no zip archive, and so no .xlsx workbook\n"
+            none = "" if name != names[-1] else "not a package\n"
             first = "" if none else "csv of First\n"
             self.assertEqual([path.read_text() for path in made], [first, none])
             for path in made:
@@ -512,46 +511,32 @@ class Wrapper(FrontCopy):
             wanted = 6, b"", f"{first}\nxlsx: there are these {second}\n"
             self.assertEqual(self.run_on("book.xlsx", *words), wanted)
 
-    def test_only_what_a_command_asks_for_is_fed(self):
-        self.build(self.written("fed", FED))
-        book = ["_rels/.rels", "xl/_rels/workbook.xml.rels", "xl/workbook.xml"]
-        sheets = [f"xl/sheets/{name}.xml" for name in ("one", "two", "three")]
-        kinds = (("worksheet", name[len("xl/") :]) for name in sheets)
-        more = {
-            "xl/_rels/workbook.xml.rels": relationships(*kinds),
-            "xl/styles.xml": "<a/>",
-            **dict.fromkeys(sheets, "<a/>"),
-            sheets[0]: "<",
-        }
-        parts = {name: part for name, part in {**MINIMAL, **more}.items() if "sheet1" not in name}
-        self.written("several.xlsx", archive(parts))
-        none = [*book, "xl/styles.xml"]
-        without = ([word] for word in ("sheets", "names", "props", "tables", "pivots"))
-        for words in (*without, ["pivot", "S", "T"], ["comments", "Two"]):
-            with self.subTest(words=words):
-                ran = self.run_on("several.xlsx", *words)
-                self.assertEqual(ran, (0, f"{' '.join(none)} \n".encode(), ""))
-        self.build(self.written("choosing", CHOOSING))
-        of_sheet = (["csv", "Two"], ["precedents", "Two"], ["dependents", "Two", "A1"])
-        for words in (["cells", "Two"], ["table", "T"], ["csv-table", "T"], *of_sheet):
-            with self.subTest(words=words):
-                ran = self.run_on("several.xlsx", *words)
-                self.assertEqual(ran, (0, f"{' '.join([*none, sheets[1]])} \n".encode(), ""))
-        for words in (["cells", "Four"], ["table", "U"]):
-            with self.subTest(words=words):
-                ran = self.run_on("several.xlsx", *words)
-                self.assertEqual(ran, (0, f"{' '.join(none)} \n".encode(), ""))
-        said = "several.xlsx: xl/sheets/one.xml is broken: markup without an end, at character 0\n"
-        for words in (["package"], ["upgrade"]):
-            self.assertEqual(self.run_on("several.xlsx", *words), (13, b"", said))
-
-    def test_the_whole_package_text(self):
-        self.assertEqual(self.run_on("book.xlsx", "package"), (0, self.text_of_book(), ""))
-        self.assertFalse(self.program.exists())
-        with open("/dev/full", "wb") as full:
-            ran = self.run_on("book.xlsx", "package", stdout=full)
-        self.assertEqual(ran, (7, None, "write fault\n"))
+    def test_the_package_text_is_what_upgrade_prints(self):
+        self.build(self.written("passing", PASSING))
+        for word in ("package", "upgrade"):
+            ran = self.run_on("book.xlsx", word)
+            self.assertEqual(ran, (0, self.book.read_bytes(), ""))
         self.check_words("package", said="there is no command 'package', and no file of that name")
+
+    def test_a_workbook_of_another_kind_is_told_as_what_it_is(self):
+        self.build(self.written("refusing", REFUSING))
+        mark = bytes.fromhex("d0cf11e0a1b11ae1").ljust(512, b"\0")
+        opened = "application/vnd.oasis.opendocument.spreadsheet"
+        for name, data, status, text in (
+            ("book.xls", mark + directory_entry("Workbook"), 11, "an .xls workbook"),
+            ("b.xlsx", mark + directory_entry("EncryptedPackage"), 12, "an encrypted workbook"),
+            ("book.xlsb", archive({"xl/workbook.bin": "x"}), 11, "an .xlsb workbook"),
+            ("book.ods", archive({"mimetype": opened}), 11, "an OpenDocument file"),
+            ("compound.xls", mark, 5, "not a package"),
+            ("archive.xlsx", archive({"a": "x"}), 5, "not a package"),
+            ("cut.xlsx", archive({"a": "x"})[:-1], 5, "not a package"),
+        ):
+            self.written(name, data)
+            save = ": save it as .xlsx" if status == 11 else ""
+            said = f"{text}\n" if status == 5 else f"{name}: {text}{save}\n"
+            for words in (["sheets"], ["cells"], ["cells", "--sheet", "1"], ["csv", "--all", "x"]):
+                with self.subTest(name=name, words=words):
+                    self.assertEqual(self.run_on(name, *words), (status, b"", said))
 
     def test_a_reader_that_goes_away_is_told_nothing(self):
         self.build()
@@ -568,34 +553,15 @@ class Wrapper(FrontCopy):
 
     def test_a_file_that_is_refused(self):
         self.build()
-        self.written("no.xlsx", "nut")
-        for name, status, text in (
-            ("none.xlsx", 3, "can't be read: No such file or directory"),
-            ("NONE.XLSM", 3, "can't be read: No such file or directory"),
-            ("none.xls", 3, "can't be read: No such file or directory"),
-            ("bin", 3, "can't be read: Is a directory"),
-            ("/dev/fd/0", 3, "can't be read: it is a pipe, and no file"),
-            ("no.xlsx", 14, "no zip archive, and so no .xlsx workbook"),
+        for name, text in (
+            ("none.xlsx", "can't be read: No such file or directory"),
+            ("NONE.XLSM", "can't be read: No such file or directory"),
+            ("none.xls", "can't be read: No such file or directory"),
+            ("bin", "can't be read: Is a directory"),
+            ("/dev/fd/0", "can't be read: it is a pipe, and no file"),
+            ("/dev/null", "can't be read: it is no regular file"),
         ):
-            self.assertEqual(self.run_on(name, "cells", "0"), (status, b"", f"{name}: {text}\n"))
-
-    def test_a_file_whose_package_text_is_too_large(self):
-        self.build()
-        self.written("long.xlsx", archive({"xl/workbook.xml": "x" * 67_108_864}))
-        status, out, said = self.run_on("long.xlsx", "cells", "0")
-        self.assertEqual((status, out), (4, b""))
-        self.assertIn("input too large", said)
-
-    def test_no_room_for_the_package_text(self):
-        self.build()
-        said = "book.xlsx: write fault: File too large\n"
-        ran = self.run_on(
-            "book.xlsx",
-            "cells",
-            "0",
-            preexec_fn=lambda: resource.setrlimit(resource.RLIMIT_FSIZE, (1000, 1000)),
-        )
-        self.assertEqual(ran, (7, b"", said))
+            self.assertEqual(self.run_on(name, "cells", "0"), (3, b"", f"{name}: {text}\n"))
 
     def test_no_standard_input(self):
         self.build()

@@ -1,24 +1,13 @@
 """The words that ./xlsx takes: its commands, its page, and what is wrong with other words."""
 
 import collections
-import enum
 import re
 
 CONTROL = re.compile("[\0-\x1f\x7f-\x9f]")
 
 # What a command is told by: its word, the names of what stands behind it, the same as a sentence
-# says it, which worksheets' own parts it reads, and the lines of the page.
-Command = collections.namedtuple("Command", "word parameters takes reads page")
-
-
-class Reads(enum.Enum):
-    """Which worksheets' own parts a command reads: those of all, that of the worksheet that its
-    first name is of, that of the worksheet with the table of this name, or none."""
-
-    ALL = "all"
-    SHEET = "sheet"
-    TABLE = "table"
-    NONE = "none"
+# says it, and the lines of the page.
+Command = collections.namedtuple("Command", "word parameters takes page")
 
 
 A_SHEET = "the name of a sheet, or --sheet and its number, or neither for the first worksheet"
@@ -33,7 +22,6 @@ COMMANDS = {
             "cells",
             ("NAME",),
             A_SHEET,
-            Reads.SHEET,
             (
                 "prints one line for each cell of the worksheet NAME with a value, a",
                 "formula or a style: its position, value, formula and fill, with tabs",
@@ -45,21 +33,18 @@ COMMANDS = {
             "sheets",
             (),
             NOTHING,
-            Reads.NONE,
             ("prints one line for each sheet: its name, type and state",),
         ),
         Command(
             "names",
             (),
             NOTHING,
-            Reads.NONE,
             ("prints one line for each defined name: the name and its text",),
         ),
         Command(
             "merges",
             ("NAME",),
             A_SHEET,
-            Reads.SHEET,
             (
                 "prints one line for each area of merged cells of the worksheet NAME,",
                 "by its corners, as in A1:C1",
@@ -69,7 +54,6 @@ COMMANDS = {
             "links",
             ("NAME",),
             A_SHEET,
-            Reads.SHEET,
             (
                 "prints one line for each link of the worksheet NAME: its area, target,",
                 "location, displayed text and tooltip, as in",
@@ -80,7 +64,6 @@ COMMANDS = {
             "comments",
             ("NAME",),
             A_SHEET,
-            Reads.NONE,
             (
                 "prints one line for each comment of the worksheet NAME: its cell, its",
                 "author and its text, as in",
@@ -91,7 +74,6 @@ COMMANDS = {
             "props",
             (),
             NOTHING,
-            Reads.NONE,
             (
                 "prints one line for each property of the workbook: its name and,",
                 "behind a tab and =, its text",
@@ -101,7 +83,6 @@ COMMANDS = {
             "csv",
             ("NAME",),
             A_SHEET,
-            Reads.SHEET,
             (
                 "prints the rows of the values of the worksheet NAME as CSV, with options,",
                 "each at most once: --dates --digits=N --delimiter=C --crlf --bom --from-a1",
@@ -111,7 +92,6 @@ COMMANDS = {
             "csv-table",
             ("NAME",),
             A_TABLE,
-            Reads.TABLE,
             (
                 "prints the names of the columns and the rows of the table NAME as CSV.",
                 "It takes the options of csv, but for --from-a1",
@@ -121,7 +101,6 @@ COMMANDS = {
             "tables",
             (),
             NOTHING,
-            Reads.NONE,
             (
                 "prints one line for each table: its name, its sheet, the area of its",
                 "data and the names of its columns",
@@ -131,21 +110,18 @@ COMMANDS = {
             "table",
             ("NAME",),
             A_TABLE,
-            Reads.TABLE,
             ("prints one line for each value in the table NAME: position and value",),
         ),
         Command(
             "pivots",
             (),
             NOTHING,
-            Reads.NONE,
             ("prints one line for each pivot table: its sheet and its name",),
         ),
         Command(
             "pivot",
             ("SHEET", "NAME"),
             f"{A_SHEET}, and the name of a pivot table",
-            Reads.NONE,
             (
                 "prints one line for each row of the cache of the pivot table NAME on",
                 "SHEET: the names of its fields first, and then the records",
@@ -155,7 +131,6 @@ COMMANDS = {
             "precedents",
             ("NAME",),
             A_SHEET,
-            Reads.SHEET,
             (
                 "prints one line for each formula of the worksheet NAME: its cell and",
                 "the areas that it names, with tabs between them, as in",
@@ -166,7 +141,6 @@ COMMANDS = {
             "dependents",
             ("NAME", "REF"),
             A_CELL,
-            Reads.SHEET,
             (
                 "prints one line for each cell of the worksheet NAME whose formula names",
                 "the cell REF, such as A7: its reference",
@@ -176,7 +150,6 @@ COMMANDS = {
             "check",
             ("NAME",),
             A_SHEET,
-            Reads.SHEET,
             (
                 "prints one line for each formula of the worksheet NAME: its cell, and",
                 "agrees, or differs and what it comes to, or no value, unsupported or",
@@ -188,14 +161,12 @@ COMMANDS = {
             "part",
             ("NAME",),
             A_SHEET,
-            Reads.NONE,
             ("prints the name of the part that the worksheet NAME is read from",),
         ),
         Command(
             "upgrade",
             (),
             NOTHING,
-            Reads.ALL,
             (
                 "prints the package text in version 2, where an empty element is one",
                 "event",
@@ -205,7 +176,6 @@ COMMANDS = {
             "resave",
             ("NAME",),
             A_SHEET,
-            Reads.SHEET,
             (
                 "writes a package of the values and formulas of the worksheet NAME",
                 "alone, and prints its text in version 2",
@@ -215,7 +185,6 @@ COMMANDS = {
             "sample",
             ("N",),
             "a number of rows, from 1 to 20,000",
-            Reads.NONE,
             (
                 "makes a package of N rows, at most 20,000, and prints how much is read",
                 "of it",
@@ -242,8 +211,8 @@ SETTINGS = {
 }
 NO_DELIMITER = ('"', "\r", "\n")
 
-# This one is of ./xlsx alone, and takes a file.
-PACKAGE = "package"
+# This one is of ./xlsx alone, takes a file, and is that one of the program.
+PACKAGE, UPGRADE = "package", "upgrade"
 
 # The command whose answer can be written as a workbook file, and the option before the file's name;
 # that for a folder, of csv alone, and that for the number of a sheet.
@@ -306,7 +275,7 @@ that behind a word -- alone each is a name. And
     resave NAME --to OUT.xlsx
                   writes the package of `resave NAME' as a workbook file: nothing
                   where it is refused
-    package       prints the whole package text of FILE
+    package       prints the package text of FILE, as upgrade does
 
 The program is proved and built first, where it is missing or older than its
 sources: from nothing this takes {proving}. With --unproved it answers in
@@ -392,9 +361,6 @@ class Asked:
 
     def is_page(self):
         return self.has_page
-
-    def is_package(self):
-        return self.word == PACKAGE
 
     def command(self):
         return COMMANDS.get(self.word)
@@ -496,12 +462,14 @@ def asked_by(words, file=None):
     for page in (one for one in words[: [*words, END].index(END)] if one in PAGES):
         if len(words) > 1 or file is not None:
             raise Faulty(f"{page} stands alone")
+    if words == [PACKAGE] and file is not None:
+        words = [UPGRADE]
     asked = Asked(words)
     if asked.word is None and file is not None:
         raise Faulty(f"what of {file} is asked for? For one, ./xlsx {file} sheets lists its sheets")
     if asked.word is None:
         raise Faulty(f"there is no command beside '{words[0]}'")
-    if not asked.is_page() and not (words == [PACKAGE] and file is not None):
+    if not asked.is_page():
         check_command(asked, file)
     for one in words:
         try:

@@ -16,7 +16,10 @@ import zipfile
 import zlib
 
 from markup import BETWEEN, EMPTY, END, START, MarkupFault, TooLong, events, spelled
-from words import one_line
+
+sys.path.append(os.path.dirname(os.path.dirname(os.path.abspath(__file__))))
+
+from words import one_line  # noqa: E402
 
 try:
     from lzma import LZMAError

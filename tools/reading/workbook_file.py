@@ -14,7 +14,7 @@ import zipfile
 
 from markup import WHITE_SPACE
 from package_text import PAIR, Refusal, folded, is_foreign, parser_of
-from program import LIMIT, end_by_signals
+from program import end_by_signals
 from words import one_line
 
 STATUSES = """\
@@ -23,6 +23,9 @@ is too long; 5 it is no package text; 7 the file can't be written; 8 out of
 memory; 15 an event or a name that no markup spells. But for 0 nothing is
 written, and a file that is there stays as it is.
 """
+
+# The most bytes of a package text.
+LIMIT = 64 * 1024 * 1024
 
 # How many texts an event of each kind is.
 FORMS = {"s": 3, "e": 2, "b": 3, "t": 2, "d": 2, "r": 2, "o": 1}
