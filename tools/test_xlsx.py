@@ -9,7 +9,9 @@ import signal
 import struct
 import subprocess
 import sys
+import time
 import unittest
+import zlib
 
 from fixtures import LINES, MINIMAL, archive, package_text
 from front_copy import TOP, FrontCopy
@@ -89,6 +91,18 @@ def directory_entry(name):
     """An entry of a compound file's directory."""
     text = f"{name}\0".encode("utf-16-le")
     return text.ljust(64, b"\0") + struct.pack("<H", len(text)) + bytes(62)
+
+
+def with_entry(data, name, packed, size):
+    """An archive with one entry more, of these packed bytes, which are to unpack to so many."""
+    end = data.rindex(b"PK\5\6")
+    count, length, at = struct.unpack("<HII", data[end + 10 : end + 20])
+    said = struct.pack("<HHHHHIIIHH", 20, 0, 8, 0, 33, 0, len(packed), size, len(name), 0)
+    own = b"PK\3\4" + said + name.encode() + packed
+    header = b"PK\1\2" + struct.pack("<H", 20) + said + bytes(10) + struct.pack("<I", at)
+    directory = data[at : at + length] + header + name.encode()
+    told = struct.pack("<HHII", count + 1, count + 1, len(directory), at + len(own))
+    return data[:at] + own + directory + b"PK\5\6" + bytes(4) + told + bytes(2)
 
 
 class Wrapper(FrontCopy):
@@ -711,6 +725,20 @@ class Wrapper(FrontCopy):
             self.assertEqual(
                 self.run_on("book.xlsx", "cells", "S", stdout=full), (7, None, "write fault\n")
             )
+
+    def test_a_small_file_that_unpacks_to_a_gigabyte_is_refused_in_seconds(self):
+        self.build(PROGRAM)
+        packer = zlib.compressobj(9, zlib.DEFLATED, -15)
+        piece = bytes(2**20)
+        packed = b"".join(packer.compress(piece) for _ in range(1025)) + packer.flush()
+        sheet = "xl/worksheets/sheet1.xml"
+        data = archive({name: part for name, part in MINIMAL.items() if name != sheet})
+        self.written("bomb.xlsx", with_entry(data, sheet, packed, 1025 * 2**20))
+        began = time.monotonic()
+        status, lines, said = self.run_on("bomb.xlsx", "cells", "S")
+        self.assertEqual((status, lines), (6, b""))
+        self.assertIn("too large", said)
+        self.assertLess(time.monotonic() - began, 60)
 
     def test_the_first_command_of_the_readme_prints_what_stands_there(self):
         self.build(PROGRAM)
