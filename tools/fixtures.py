@@ -7,7 +7,7 @@ import sys
 import zipfile
 
 READING = pathlib.Path(__file__).resolve().parent / "reading"
-sys.path.append(str(READING))
+sys.path.insert(0, str(READING))
 
 from markup import events, spelled  # noqa: E402
 from package_text import FORMS  # noqa: E402
