@@ -13,7 +13,6 @@ import random
 import subprocess
 import sys
 import zipfile
-import zlib
 
 from measure import TOP, add_program, program_of
 
@@ -23,7 +22,6 @@ SAMPLES = sorted((TOP / "samples").glob("*.xlsx"))
 COMMANDS = (["cells"], ["csv"], ["links"])
 # Those of a refusal of an input, of a workbook and for want of memory, and the statuses of files.
 STATUSES = {0, 4, 5, 6, 8, 11, 12, 13, 14}
-BROKEN = (zipfile.BadZipFile, zlib.error, NotImplementedError, RuntimeError, ValueError, EOFError)
 
 
 def answer(program, words, data):
@@ -60,8 +58,8 @@ class Trial:
         """Sees that other lines are those of the text of the damaged file."""
         try:
             text = test_whole_text.text_of(data)
-        except BROKEN:
-            # Only what this command doesn't look at is broken, or Python reads less of an archive.
+        except (zipfile.BadZipFile, *test_whole_text.BROKEN):
+            # Python looks at the directory otherwise.
             self.counts["of which Python reads no text"] += 1
             return
         if answer(self.program, words, text) != (0, lines):

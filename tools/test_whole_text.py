@@ -7,12 +7,16 @@ import pathlib
 import subprocess
 import unittest
 import zipfile
+import zlib
 
 from cutting import cut
 from escapes import unescaped
 from fixtures import BROKEN_THEME, LISTED, MINIMAL, MIXED, SALES, archive, relationships
 from place import OF_GATE
 from words import A_TABLE, COMMANDS
+
+# What a part raises that can't be unpacked.
+BROKEN = (zipfile.BadZipFile, zlib.error, NotImplementedError, RuntimeError, EOFError)
 
 SAMPLES = pathlib.Path(__file__).resolve().parent.parent / "samples"
 
@@ -238,10 +242,19 @@ def kind_of(command, parameter):
     return "table" if command.takes == A_TABLE else "sheet"
 
 
+def events_in(book, name):
+    """The events of a part, or a flaw where its bytes can't be had."""
+    try:
+        data = book.read(name)
+    except BROKEN:
+        return [["x", "damaged"]]
+    return cut(data)
+
+
 def text_of(file):
     """The package text of all parts of a workbook file."""
     with zipfile.ZipFile(io.BytesIO(file)) as book:
-        parts = [{"name": name, "events": cut(book.read(name))} for name in book.namelist()]
+        parts = [{"name": name, "events": events_in(book, name)} for name in book.namelist()]
     return json.dumps({"version": 2, "parts": parts}, ensure_ascii=False).encode()
 
 
