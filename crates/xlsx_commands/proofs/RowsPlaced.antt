@@ -175,13 +175,7 @@ pub rows_fail : (cause : XlsxError → Type 0) (large : Type 0) (count : ℕ)
 rows_fail cause large count result BoxTooLarge exactly is has = has (exactly.1 is)
 rows_fail cause large count result OutOfMemory exactly is has = tt
 
--- a call that is refused before rows are made
-pub call_fails : (cause : XlsxError → Type 0) (large : Type 0) (error : XlsxError)
-    → CallFails cause (of_workbook error) → RowsFail cause large (of_workbook error)
-call_fails cause large workbook.OutOfMemory fails = fails
-call_fails cause large error fails = fails
-
--- and a call that is refused as the program is
+-- a call that is refused as the program is, before rows are made
 pub refused_alike : (cause : XlsxError → Type 0) (large : Type 0) (error : ToolError)
     → CallFails cause error → RowsFail cause large error
 refused_alike cause large tool.BoxTooLarge fails = absurd fails

@@ -1,14 +1,29 @@
 ghost use Rattle.std.specs.Prelude.{IfOk, IfErr};
 ghost use Rattle.cell_data.specs.Pairs.{value_pairs, formula_pairs};
-ghost use Rattle.xlsx_core.specs.SheetReading.{SheetCause, ReadsAs};
-ghost use Rattle.xlsx_core.specs.Worksheets.{HasLeastRanges};
+ghost use Rattle.xlsx_core.specs.ReadCells.{HoldsCells, LieOnSheet};
+ghost use Rattle.xlsx_core.specs.SheetReading.{SheetCause, ReadsAs, ReadsValuesAs};
+ghost use Rattle.xlsx_core.specs.Worksheets.{HasLeastRange, HasLeastRanges};
 ghost use Rattle.xlsx_commands.specs.Outputs.{AreLinesOf, CallFails};
 
 use crate::error::ToolError;
+use cell_data::{Data, Range};
 use input_package::InputPackage;
 use sheet_listing::listing_of;
 use std::alloc::Global;
-use xlsx_core::{SheetAnswer, SheetReading, read_sheet};
+use xlsx_core::{ReadCells, SheetAnswer, SheetReading, read_cells};
+
+/// The cells of the sheet of this name as they came, without the package.
+fn cells_of(alloc: Global, package: InputPackage, name: &str) -> Result<ReadCells, ToolError>
+    ensures inside { IfOk result LieOnSheet }
+    ensures reading { IfOk result (HoldsCells «package».parts name.now) }
+    ensures err { IfErr result (CallFails (SheetCause «package».parts name.now)) }
+{
+    let SheetAnswer { result, package } = read_cells(alloc, package, name);
+    // What is made of the cells needs the package no more, and its part may be as large as they.
+    drop(package);
+    let cells = result?;
+    Ok(cells)
+}
 
 /// What is read of the sheet of this name.
 pub(crate) fn reading_of(
@@ -21,11 +36,25 @@ pub(crate) fn reading_of(
     ensures ranges { IfOk result HasLeastRanges }
     ensures err { IfErr result (CallFails (SheetCause «package».parts name.now)) }
 {
-    let SheetAnswer { result, package } = read_sheet(alloc, package, name);
-    // What is read needs the package no more.
-    drop(package);
-    let reading = result?;
+    let cells = cells_of(alloc, package, name)?;
+    let reading = cells.into_ranges(alloc)?;
     Ok(reading)
+}
+
+/// The values of the sheet of this name.
+pub(crate) fn values_of(
+    alloc: Global,
+    package: InputPackage,
+    name: &str,
+) -> Result<Range<Data>, ToolError>
+    ensures ok { IfOk result (λ values.
+        ReadsValuesAs «package».parts name.now (value_pairs values)) }
+    ensures range { IfOk result HasLeastRange }
+    ensures err { IfErr result (CallFails (SheetCause «package».parts name.now)) }
+{
+    let cells = cells_of(alloc, package, name)?;
+    let values = cells.into_values(alloc)?;
+    Ok(values)
 }
 
 /// The lines of the sheet of this name.

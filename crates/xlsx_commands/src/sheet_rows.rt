@@ -6,11 +6,11 @@ ghost use Rattle.xlsx_commands.specs.SheetRows.{AreRowsOf, HasLargeArea};
 ghost use Rattle.xlsx_commands.specs.SheetRows.{from_first, asked_area};
 
 use crate::asked_rows::AskedRows;
+use crate::cell_lines::values_of;
 use crate::error::ToolError;
 use cell_data::{Data, Range};
 use input_package::InputPackage;
 use std::alloc::Global;
-use xlsx_core::{SheetAnswer, read_sheet_values};
 use xlsx_rows::rows_csv;
 
 /// The same values in the area from A1 to their last row and column.
@@ -49,10 +49,7 @@ pub fn sheet_rows(
     ensures err { IfErr result (RowsFail (SheetCause «package».parts name.now)
         (HasLargeArea «package».parts name.now asked.from_a1)) }
 {
-    let SheetAnswer { result, package } = read_sheet_values(alloc, package, name);
-    // What is read needs the package no more.
-    drop(package);
-    let read = result?;
+    let read = values_of(alloc, package, name)?;
     let values = in_asked_area(read, asked.from_a1);
     Ok(rows_csv(alloc, None, &values, &asked.options)?)
 }

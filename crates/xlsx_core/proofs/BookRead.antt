@@ -11,7 +11,7 @@ use Rattle.xlsx_core.specs.ReadCells.{HoldsCells, ReadsCells}
 use Rattle.xlsx_core.specs.SheetReading.{all_wanted, placed_events, data_events, TakesSheet}
 use Rattle.xlsx_core.specs.SheetReading.{ReadsToData, SheetFails, PlacedSheetFails}
 use Rattle.xlsx_core.specs.Worksheets.{path_of, grounds_of_book, palette_of_book}
-use Rattle.xlsx_core.specs.declared.read_cells.ReadCells.{ReadCells}
+use Rattle.xlsx_core.specs.declared.as_read.ReadCells.{ReadCells}
 use Rattle.xlsx_core.specs.declared.xlsx.Xlsx.{Xlsx}
 use Rattle.xlsx_core.proofs.SheetsRead.{OpensPlaced, opens_placed, holds_cells, sheet_fails}
 use Rattle.xlsx_core.proofs.TakenOnce.{sheet_taken, sheet_to_data, uses_taken}

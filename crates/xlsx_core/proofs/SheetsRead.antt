@@ -37,7 +37,7 @@ use Rattle.cell_data.specs.declared.value.Data.{Data}
 use Rattle.xlsx_core.specs.ReadCells.{HoldsCells, ReadsCells, strings_beside, palette_beside}
 use Rattle.xlsx_core.specs.SheetReading.{ReadsAs, ReadsValuesAs}
 use Rattle.xlsx_core.specs.Worksheets.{HoldsWanted, IsValueRange, IsFormulaRange}
-use Rattle.xlsx_core.specs.declared.read_cells.ReadCells.{ReadCells}
+use Rattle.xlsx_core.specs.declared.as_read.ReadCells.{ReadCells}
 use Rattle.xlsx_core.specs.declared.sheet_reading.SheetReading.{SheetReading}
 use Rattle.xlsx_core.specs.SheetReading.{SheetFails, PlacedSheetFails}
 use Rattle.xlsx_sections.proofs.Failing.{fails_by_weaker, same_parts}

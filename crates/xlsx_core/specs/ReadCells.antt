@@ -10,7 +10,7 @@ use Rattle.xlsx_values.specs.Value.{Grounds}
 use Rattle.xlsx_core.specs.SheetReading.{events_at, events_named, opened_grounds, all_wanted}
 use Rattle.xlsx_core.specs.SheetReading.{IsPaletteOf}
 use Rattle.xlsx_core.specs.Worksheets.{HoldsWanted}
-use Rattle.xlsx_core.specs.declared.read_cells.ReadCells.{ReadCells}
+use Rattle.xlsx_core.specs.declared.as_read.ReadCells.{ReadCells}
 
 -- the shared strings that stand beside cells
 abbrev pub strings_beside : ReadCells → List (List ℕ)

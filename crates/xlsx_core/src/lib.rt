@@ -4,7 +4,7 @@
 //! package), `worksheets` (the calls of `Xlsx` that read a worksheet),
 //! `worksheet_list` (the one that reads all), `placed_sheet` (the sheet of a name, and its part),
 //! `standing` (the last cell of each position, from the header row on), `ranges` (cells as ranges),
-//! `read_cells` (the cells of a sheet as they came, and the ranges of them), `sheet_reading`
+//! `as_read` (the cells of a sheet as they came, and the ranges of them), `sheet_reading`
 //! (`read_sheet`, `read_sheet_values`, `SheetReading`, `SheetAnswer`), `merges` (the calls on
 //! merged cells), `links` (those on hyperlinks), `comments` (the one on comments), `properties`
 //! (the one on properties), `sheet_lists` (the loop over what the sheets say), `table_list` (tables
@@ -62,7 +62,7 @@ mod pivots;
 mod placed_sheet;
 mod properties;
 mod ranges;
-mod read_cells;
+mod as_read;
 mod sheet_lists;
 mod sheet_reading;
 mod standing;
@@ -73,6 +73,7 @@ mod worksheet_list;
 mod worksheets;
 mod xlsx;
 
+pub use as_read::{ReadCells, read_cells};
 pub use laws::{
     links_that_are_taken_are_not_refused, ranges_differ_by_texts, readable_sheets_are_not_refused,
     sheets_are_read_alike, sheets_go_by_their_parts, table_data_that_are_read_are_not_refused,

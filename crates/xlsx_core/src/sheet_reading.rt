@@ -6,7 +6,7 @@ ghost use Rattle.xlsx_core.specs.SheetReading.{ReadsAs, ReadsValuesAs, SheetFail
 ghost use Rattle.xlsx_core.specs.SheetReading.{TakesSheet, ReadsToData};
 ghost use Rattle.xlsx_core.specs.Worksheets.{HasLeastRange, HasLeastRanges};
 
-use crate::read_cells::read_cells;
+use crate::as_read::read_cells;
 use cell_data::{Data, Range};
 use cell_styles::StyleRange;
 use part_events::Package;

@@ -24,7 +24,7 @@ use crate::placed_sheet::{
     asked_of, open_placed, path_named, read_placed, read_range, read_values,
 };
 use crate::ranges::{copied_style_range, formula_range, place_range};
-use crate::read_cells::ReadCells;
+use crate::as_read::ReadCells;
 use crate::sheet_reading::SheetAnswer;
 use crate::xlsx::Xlsx;
 use cell_data::{Data, DataRef, Range};

@@ -1,38 +1,32 @@
-use Rattle.input_package.specs.Told.{told_state}
-use Rattle.std.proofs.Common.{◌∙◌, ap, refl}
+use Rattle.std.proofs.Common.{◌∙◌, ap}
 use Rattle.std.specs.Result.{result_from_control_flow}
 use Rattle.std.proofs.lemmas.Result.{err_from_is_err_and}
 use Rattle.cell_data.specs.RangeItems.{box_count}
 use Rattle.xlsx_core.specs.SheetReading.{SheetCause}
 use Rattle.xlsx_commands.specs.SheetRows.{HasLargeArea}
 use Rattle.xlsx_commands.proofs.OutputLemmas.{ok_at, err_at}
-use Rattle.xlsx_commands.proofs.MemoryCalls.{memory_fails}
 use Rattle.xlsx_commands.proofs.RowsPlaced.{rows_of_sheet, large_of_sheet, fits_by, rows_fail}
-use Rattle.xlsx_commands.proofs.RowsPlaced.{call_fails, asked_range}
+use Rattle.xlsx_commands.proofs.RowsPlaced.{refused_alike, asked_range}
 use Rattle.xlsx_commands.proofs.sheet_rows.sheet_rows.Goals as goal
 
 pub returns-in_err-read-clause-err : goal.returns-in_err-read-clause-err
 returns-in_err-read-clause-err c =
     let handed = err_from_is_err_and c.from_residual.result c.from_residual.ensures.1 in
     let answered = c.branch-read.ensures ∙ ap result_from_control_flow c.in_err-read.is in
-    let result = c.read_sheet_values-result.result.result in
-    let fails = err_at result _ _ answered c.read_sheet_values-result.ensures.err in
+    let fails = err_at c.values_of.result _ _ answered c.values_of.ensures.err in
     let parts = c.args.package.parts in
-    let cause = SheetCause parts c.args.name.now in
     rw (handed.1, handed.2)
-    (call_fails cause (HasLargeArea parts c.args.name.now c.args.asked.from_a1) _
-    (memory_fails cause cause (told_state c.args.package)
-    (told_state c.read_sheet_values-result.result.package) _
-    (c.read_sheet_values-result.result.package, refl) refl (λ own. own) fails))
+    (refused_alike (SheetCause parts c.args.name.now)
+    (HasLargeArea parts c.args.name.now c.args.asked.from_a1) _ fails)
 
 pub returns-in_err-rows_csv-clause-err : goal.returns-in_err-rows_csv-clause-err
 returns-in_err-rows_csv-clause-err c =
     let handed = err_from_is_err_and c.from_residual-in_err-rows_csv.result
     c.from_residual-in_err-rows_csv.ensures.1 in
     let answered = c.branch-read.ensures ∙ ap result_from_control_flow c.in_ok-read.is in
-    let result = c.read_sheet_values-result.result.result in
-    let reads = ok_at result _ _ answered (c.read_sheet_values-result.ensures.reading refl) in
-    let least = ok_at result _ _ answered c.read_sheet_values-result.ensures.range in
+    let result = c.values_of.result in
+    let reads = ok_at result _ _ answered c.values_of.ensures.ok in
+    let least = ok_at result _ _ answered c.values_of.ensures.range in
     let parts = c.args.package.parts in
     let found = c.in_ok-read.read in
     rw (handed.1, handed.2)
@@ -47,9 +41,9 @@ returns-in_err-rows_csv-clause-err c =
 pub returns-clause-ok : goal.returns-clause-ok
 returns-clause-ok c =
     let answered = c.branch-read.ensures ∙ ap result_from_control_flow c.in_ok-read.is in
-    let result = c.read_sheet_values-result.result.result in
-    let reads = ok_at result _ _ answered (c.read_sheet_values-result.ensures.reading refl) in
-    let least = ok_at result _ _ answered c.read_sheet_values-result.ensures.range in
+    let result = c.values_of.result in
+    let reads = ok_at result _ _ answered c.values_of.ensures.ok in
+    let least = ok_at result _ _ answered c.values_of.ensures.range in
     let found = c.in_ok-read.read in
     let rows = c.in_ok-rows_csv.field-0 in
     rows_of_sheet c.args.package.parts c.args.name.now found reads least c.args.asked.from_a1

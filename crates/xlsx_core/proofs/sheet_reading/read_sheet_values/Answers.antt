@@ -2,7 +2,7 @@ use Rattle.std.proofs.Common.{Result, subst}
 use Rattle.std.specs.Prelude.{IfOk}
 use Rattle.xlsx_error.specs.declared.error.XlsxError.{XlsxError}
 use Rattle.xlsx_core.specs.ReadCells.{HoldsCells}
-use Rattle.xlsx_core.specs.declared.read_cells.ReadCells.{ReadCells}
+use Rattle.xlsx_core.specs.declared.as_read.ReadCells.{ReadCells}
 use Rattle.xlsx_core.proofs.SheetsRead.{values_read}
 use Rattle.xlsx_core.proofs.sheet_reading.read_sheet_values.Goals as goal
 

@@ -4,7 +4,7 @@ use Rattle.xlsx_core.specs.SheetReading.{all_wanted, SheetFails, PlacedSheetFail
 use Rattle.xlsx_core.specs.Worksheets.{path_of, grounds_of_book}
 use Rattle.xlsx_core.proofs.BookRead.{book_cells, book_fails, book_taken, book_to_data}
 use Rattle.xlsx_core.proofs.SheetsRead.{opening_fails}
-use Rattle.xlsx_core.proofs.read_cells.read_cells.Goals as goal
+use Rattle.xlsx_core.proofs.as_read.read_cells.Goals as goal
 
 pub returns-in-Ok-clause-reading : goal.returns-in-Ok-clause-reading
 returns-in-Ok-clause-reading g c = λ told.

@@ -5,16 +5,16 @@ use Rattle.std.proofs.lemmas.Result.{err_from_is_err_and}
 use Rattle.xlsx_core.specs.SheetReading.{SheetCause}
 use Rattle.xlsx_commands.proofs.OutputLemmas.{err_at}
 use Rattle.xlsx_commands.proofs.MemoryCalls.{memory_fails}
-use Rattle.xlsx_commands.proofs.cell_lines.reading_of.Goals as goal
+use Rattle.xlsx_commands.proofs.cell_lines.cells_of.Goals as goal
 
-pub returns-in_err-reading-clause-err : goal.returns-in_err-reading-clause-err
-returns-in_err-reading-clause-err c =
+pub returns-in_err-cells-clause-err : goal.returns-in_err-cells-clause-err
+returns-in_err-cells-clause-err c =
     let handed = err_from_is_err_and c.from_residual.result c.from_residual.ensures.1 in
-    let answered = c.branch-reading.ensures ∙ ap result_from_control_flow c.in_err-reading.is in
-    let result = c.read_sheet-result.result.result in
-    let fails = err_at result _ _ answered c.read_sheet-result.ensures.err in
+    let answered = c.branch-cells.ensures ∙ ap result_from_control_flow c.in_err-cells.is in
+    let result = c.read_cells-result.result.result in
+    let fails = err_at result _ _ answered c.read_cells-result.ensures.err in
     let cause = SheetCause c.args.package.parts c.args.name.now in
     rw (handed.1, handed.2)
     (memory_fails cause cause (told_state c.args.package)
-    (told_state c.read_sheet-result.result.package) _ (c.read_sheet-result.result.package, refl)
+    (told_state c.read_cells-result.result.package) _ (c.read_cells-result.result.package, refl)
     refl (λ own. own) fails)

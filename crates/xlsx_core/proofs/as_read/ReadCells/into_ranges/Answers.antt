@@ -1,5 +1,5 @@
 use Rattle.xlsx_core.proofs.LeastAreas.{least_ranges}
-use Rattle.xlsx_core.proofs.read_cells.ReadCells.into_ranges.Goals as goal
+use Rattle.xlsx_core.proofs.as_read.ReadCells.into_ranges.Goals as goal
 
 pub returns-clause-ranges : goal.returns-clause-ranges
 returns-clause-ranges c =
