@@ -53,6 +53,7 @@
 //! `worksheet_style`, which is lent the workbook, copies them, and only where a cell has a style.
 #![tactic(auto)]
 
+mod as_read;
 mod comments;
 mod laws;
 mod links;
@@ -62,7 +63,6 @@ mod pivots;
 mod placed_sheet;
 mod properties;
 mod ranges;
-mod as_read;
 mod sheet_lists;
 mod sheet_reading;
 mod standing;

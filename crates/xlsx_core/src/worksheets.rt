@@ -20,11 +20,11 @@ ghost use Rattle.xlsx_core.specs.Worksheets.{ReadsFormulas, RangeFails};
 ghost use Rattle.xlsx_core.specs.Worksheets.{IsRangeError, EntersSheet, ReaderFails, ReadsStyles};
 ghost use Rattle.xlsx_core.specs.Worksheets.{IsStyleRangeError, palette_of_book};
 
+use crate::as_read::ReadCells;
 use crate::placed_sheet::{
     asked_of, open_placed, path_named, read_placed, read_range, read_values,
 };
 use crate::ranges::{copied_style_range, formula_range, place_range};
-use crate::as_read::ReadCells;
 use crate::sheet_reading::SheetAnswer;
 use crate::xlsx::Xlsx;
 use cell_data::{Data, DataRef, Range};
