@@ -7,7 +7,6 @@ import os
 import pathlib
 import subprocess
 import sys
-import time
 from typing import NamedTuple
 
 TOP = pathlib.Path(__file__).resolve().parent.parent
@@ -17,6 +16,8 @@ from place import PROGRAM  # noqa: E402
 
 # The most bytes that the program reads.
 LIMIT = 67_108_864
+
+ONE_RUN = str(TOP / "bench" / "one_run.py")
 
 JSON_LOAD = [sys.executable, "-c", "import json, sys; json.load(sys.stdin)"]
 
@@ -132,6 +133,8 @@ class Run(NamedTuple):
 def ran(words, stdin, stdout=os.devnull, stderr=None):
     """Runs the words, and answers how they ended and what was measured: a status, or the number of
     a signal below 0."""
+    read, write = os.pipe()
+    os.set_inheritable(write, True)
     written = os.O_WRONLY | os.O_CREAT | os.O_TRUNC
     files = [
         (os.POSIX_SPAWN_OPEN, 0, stdin, os.O_RDONLY, 0),
@@ -139,12 +142,14 @@ def ran(words, stdin, stdout=os.devnull, stderr=None):
     ]
     if stderr is not None:
         files.append((os.POSIX_SPAWN_OPEN, 2, stderr, written, 0o600))
-    began = time.perf_counter()
-    child = os.posix_spawn(words[0], words, os.environ, file_actions=files)
-    _, status, used = os.wait4(child, 0)
-    seconds = time.perf_counter() - began
-    peak = used.ru_maxrss * (1 if sys.platform == "darwin" else 1024)
-    return os.waitstatus_to_exitcode(status), Run(seconds, used.ru_utime + used.ru_stime, peak)
+    own = [sys.executable, "-E", "-s", "-S", ONE_RUN, str(write), *words]
+    child = os.posix_spawn(own[0], own, os.environ, file_actions=files)
+    os.close(write)
+    with open(read, encoding="ascii") as told:
+        ended, *used = told.read().split()
+    os.waitpid(child, 0)
+    seconds, processor, peak = used
+    return int(ended), Run(float(seconds), float(processor), int(peak))
 
 
 def measured(words, stdin, stdout=os.devnull, stderr=None, statuses=(0,)):
