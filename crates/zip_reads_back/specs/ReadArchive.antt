@@ -1,11 +1,10 @@
 -- What is read of an archive that is written.
-use Rattle.std.specs.Prelude.{◌≡◌, ℕ, ◌+◌, ◌-◌, ◌<◌, List, [], ◌∷◌, length, true, false}
+use Rattle.std.specs.Prelude.{◌≡◌, ℕ, ◌+◌, ◌<◌, List, [], ◌∷◌, length, true, false}
 use Rattle.std.specs.List.{All, AllPairs}
 use Rattle.std.specs.Str.{is_utf8}
 use Rattle.crc32.specs.Crc.{crc_of}
 use Rattle.part_events.specs.Package.{folded}
-use Rattle.zip_writer.specs.Written.{File, entry, entries, name_flags, written}
-use Rattle.zip_archive.specs.Ends.{is_wide}
+use Rattle.zip_writer.specs.Written.{File, entry, entries, name_flags}
 use Rattle.zip_archive.specs.Entries.{Archive, Entry}
 use Rattle.zip_archive.specs.Names.{is_foreign}
 
@@ -33,11 +32,6 @@ archive_of_files files = record { entries = entries_of 0 files; start = length (
 -- files whose bytes are bytes
 abbrev pub AreBytes : List File → Type 0
 AreBytes files = All (λ file. All (λ b. b < 256) file.bytes) files
-
--- what stands in front of the record of the end doesn't look like one of 64 bits. Names could be
--- such that it does
-abbrev pub IsPlain : List File → Type 0
-IsPlain files = is_wide (length (written files) - 22) (written files) ≡ false
 
 -- names of parts, of which no two are one, and none is one that a Mac adds
 pub record ArePartNames (files : List File) : Type 0 where

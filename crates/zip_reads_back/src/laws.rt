@@ -1,19 +1,19 @@
 ghost use Rattle.std.specs.Prelude.{◌≡◌, ℕ, ◌<◌, ◌≤◌, List, length, Ok};
 ghost use Rattle.std.specs.Prelude.{slice_get, slice_index_or};
-ghost use Rattle.zip_writer.specs.Written.{File, IsWritable, written};
+ghost use Rattle.zip_writer.specs.Written.{File, IsPlain, IsWritable, written};
 ghost use Rattle.zip_archive.specs.Entries.{archive_of};
 ghost use Rattle.zip_archive.specs.Members.{no_entry};
 ghost use Rattle.zip_archive.specs.Names.{part_entry};
 ghost use Rattle.zip_archive.specs.Opened.{opened};
 ghost use Rattle.zip_reads_back.specs.ReadArchive.{archive_of_files, entries_of, AreBytes};
-ghost use Rattle.zip_reads_back.specs.ReadArchive.{ArePartNames, IsPlain};
-ghost use Rattle.zip_reads_back.specs.ReadArchive.{no_file};
+ghost use Rattle.zip_reads_back.specs.ReadArchive.{ArePartNames, no_file};
 
 /// What is written of files is an archive that has an entry for each file, with its name, in their
 /// order (`entries`); each holds the file's bytes (`bytes`), and where no two names are one, the
-/// entry of a name is that of its file (`parts`).
+/// entry of a name is that of its file (`parts`). `write_archive` says of all that it writes that it
+/// is writable and plain; no more is asked than that bytes are bytes.
 pub fn written_archives_read_back()
-    ensures entries { (files : List File) → IsWritable files → AreBytes files → IsPlain files →
+    ensures entries { (files : List File) → IsWritable files → IsPlain files → AreBytes files →
         archive_of (written files) ≡ Ok (archive_of_files files) }
     ensures bytes { (files : List File) (i limit : ℕ) → IsWritable files → AreBytes files →
         i < length files → length (slice_index_or files i no_file).bytes ≤ limit →
