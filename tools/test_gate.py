@@ -7,6 +7,7 @@ import pathlib
 import shutil
 import subprocess
 import tempfile
+import threading
 import time
 import unittest
 import unittest.mock
@@ -112,11 +113,14 @@ class Gate(unittest.TestCase):
         self.fail(f"nobody locks {path}")
 
     def read_to(self, child, text):
-        """What a child says up to the line that has a text."""
-        said = ""
+        """What a child says up to the line that has a text, which it has some minutes for."""
+        said, ending = "", threading.Timer(600, child.kill)
+        ending.start()
+        self.addCleanup(ending.cancel)
         for line in child.stdout:
             said += line
             if text in line:
+                ending.cancel()
                 return said
         self.fail(f"no line has {text!r}: {said}")
 
@@ -157,10 +161,15 @@ class Gate(unittest.TestCase):
         xlsx = self.begin_xlsx()
         self.wait_for(self.git / "rt-ci.lock")
         gate = self.begin(RT_CI)
-        said = self.read_to(gate, "waiting for another rt ci in this copy of the repository")
+        # It waits, whether it says so or not: what it does first is to take `out` of each crate away.
+        left = self.top / "crates" / "low" / "out"
+        left.mkdir()
+        time.sleep(2)
+        self.assertIsNone(gate.poll())
+        self.assertTrue(left.exists())
         os.close(held)
         self.assertIn("xlsx: built\ntold 1\n", self.end(xlsx))
-        self.check_passed(self.end(gate, said))
+        self.check_passed(self.end(gate))
 
 
 if __name__ == "__main__":
