@@ -40,6 +40,8 @@ OUT = TOP / "crates" / "xlsx_tool" / "out"
 BUILDS = ["xlsx_tool", "xlsx_tool.by-rattle"]
 
 LIMIT = 67_108_864
+FILE_LIMIT = 268_435_456
+COMPOUND = bytes.fromhex("d0cf11e0a1b11ae1")
 CELLS = ["cells", "S"]
 PACKAGE = package_text(MINIMAL)
 
@@ -54,16 +56,23 @@ def page(words):
     return re.search(rf"`{words}` prints\n\n```\n(.*?)```\n", FORMAT, re.DOTALL)[1].encode()
 
 
-# The text of each status, but for those of a workbook that can't be opened.
-TEXTS = {
-    int(status): f"{text}\n".encode()
-    for status, text in re.findall(r"^\| (\d+) \| `([^`]+)` \|", section("Statuses"), re.MULTILINE)
-}
+# The first text of each status, but for those of a workbook that can't be opened, and all of them.
+STATED = re.findall(r"^\| (\d+) \| `([^`]+)` \|", section("Statuses"), re.MULTILINE)
+TEXTS = {int(status): f"{text}\n".encode() for status, text in reversed(STATED)}
 
 
 def refusal(status):
     """What a run that is refused ends with, and what it wrote."""
     return status, b"", TEXTS[status]
+
+
+def refused_as(front, at=0):
+    """What a run ends with that is refused by the one text that begins so, at a byte."""
+    ((status, text),) = [(status, text) for status, text in STATED if text.startswith(front)]
+    return int(status), b"", f"{re.sub('N$', str(at), text)}\n".encode()
+
+
+NO_FILE = "not a workbook file: "
 
 
 def no_workbook(text):
@@ -274,8 +283,21 @@ class Edge:
                 *([word, name] for name in names for word in ("cells", "csv", "links")),
             ):
                 self.assertEqual(self.run_on(file, words), self.run_on(data, words), words)
-        for file in (b"PK", b"PK\3\4", file[:-30]):
-            self.assertEqual(self.run_on(file, ["sheets"]), refusal(5))
+
+    def test_a_file_that_is_no_workbook_file_is_told_as_what_it_is(self):
+        file = (TOP / "samples" / "comments.xlsx").read_bytes()
+        no_end = refused_as(NO_FILE + "no record")
+        for cut in (b"PK", b"PK\3\4", file[:-30], file[:-1]):
+            self.assertEqual(self.run_on(cut, ["sheets"]), no_end)
+        compound = refused_as(NO_FILE + "a compound file")
+        for told in (COMPOUND, COMPOUND + bytes(1000), COMPOUND + file):
+            self.assertEqual(self.run_on(told, ["sheets"]), compound)
+        self.assertEqual(self.run_on(COMPOUND[:-1], ["sheets"]), refusal(5))
+        start = int.from_bytes(file[-6:-2], "little")
+        self.assertEqual(file[start : start + 4], b"PK\1\2")
+        damaged = file[:start] + b"\0" + file[start + 1 :]
+        at_start = refused_as(NO_FILE + "no header", start)
+        self.assertEqual(self.run_on(damaged, ["sheets"]), at_start)
 
     def test_a_part_may_be_one_long_thing(self):
         """Of 64 MiB, or of 30 million elements: it is read, or refused by its status."""
@@ -520,6 +542,26 @@ class Edge:
         # It ends though the pipe is still open.
         child.stdin.flush()
         self.assertEqual(child.wait(timeout=100), 4)
+
+    def test_a_file_has_a_limit_of_its_own(self):
+        """As many bytes are taken as a file may have, and one more; a text has the lower limit."""
+        no_end = refused_as(NO_FILE + "no record")
+        compound = refused_as(NO_FILE + "a compound file")
+        large = refused_as("file too large")
+        for front, size, wanted in (
+            (b"PK", LIMIT + 1, no_end),
+            (b"PK", FILE_LIMIT, no_end),
+            (b"PK", FILE_LIMIT + 1, large),
+            (COMPOUND, FILE_LIMIT, compound),
+            (COMPOUND, FILE_LIMIT + 1, large),
+            (COMPOUND[:-1], LIMIT + 1, refusal(4)),
+            (b"KP", FILE_LIMIT + 1, refusal(4)),
+        ):
+            file = self.file_of(front)
+            file.truncate(size)
+            self.assertEqual(self.run_on(None, stdin=file), wanted, (front, size))
+            limit = LIMIT if wanted == refusal(4) else FILE_LIMIT
+            self.assertEqual(os.lseek(file.fileno(), 0, os.SEEK_CUR), min(size, limit + 1))
 
     # Sinks
 

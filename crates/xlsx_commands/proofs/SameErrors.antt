@@ -1,20 +1,38 @@
 -- `==` of errors of the program holds exactly where they are seen as the same.
-use Rattle.std.proofs.Common.{◌≡◌, ℕ, true, false, nat_eq, refl, sym, ◌∙◌, ap}
+use Rattle.std.proofs.Common.{◌≡◌, ℕ, true, false, nat_eq, refl, sym, ◌∙◌, ap, subst}
 use Rattle.equalities.specs.Equality.{IsEqualityBy}
 use Rattle.equalities.proofs.Equality.{of_number, unequal}
 use Rattle.xlsx_error.proofs.SameRefusals.{refusal_law}
 use Rattle.xlsx_commands.specs.Status.{SeenError, error_seen, of_book, usage, read_fault}
 use Rattle.xlsx_commands.specs.Status.{input_too_large, not_a_package, write_fault, out_of_memory}
+use Rattle.xlsx_commands.specs.Status.{file_too_large, not_a_workbook_file}
 use Rattle.xlsx_commands.specs.Status.{box_too_large}
 use Rattle.xlsx_commands.specs.contracts.error.ToolErrorPartialEq.TheImpl as error
 use Rattle.xlsx_commands.specs.declared.error.ToolError.{ToolError}
 use Rattle.xlsx_commands.specs.declared.error.ToolError.TheVariants as is
+use Rattle.zip_archive.specs.contracts.fault.ArchiveFaultPartialEq.TheImpl as fault
+use Rattle.zip_archive.specs.declared.fault.ArchiveFault.{ArchiveFault}
+use Rattle.zip_archive.specs.declared.fault.ArchiveFault.TheVariants.{Compound, Damaged, NoArchive}
+
+same_fault : (a b : ArchiveFault) → fault.ghosts.eq a b ≡ true → a ≡ b
+same_fault NoArchive NoArchive same = refl
+same_fault Compound Compound same = refl
+same_fault (Damaged at) (Damaged other) same = ap Damaged ((of_number at other).0 same)
+same_fault _ _ same = absurd (unequal same)
+
+fault_itself : (a : ArchiveFault) → fault.ghosts.eq a a ≡ true
+fault_itself NoArchive = refl
+fault_itself Compound = refl
+fault_itself (Damaged at) = (of_number at at).1 refl
 
 same_from : (a b : ToolError) → error.ghosts.eq a b ≡ true → error_seen a ≡ error_seen b
 same_from is.Usage is.Usage same = refl
 same_from is.ReadFault is.ReadFault same = refl
 same_from is.InputTooLarge is.InputTooLarge same = refl
+same_from is.FileTooLarge is.FileTooLarge same = refl
 same_from is.NotAPackage is.NotAPackage same = refl
+same_from (is.NotAWorkbookFile a) (is.NotAWorkbookFile b) same =
+    ap not_a_workbook_file (same_fault a b same)
 same_from is.WriteFault is.WriteFault same = refl
 same_from is.OutOfMemory is.OutOfMemory same = refl
 same_from is.BoxTooLarge is.BoxTooLarge same = refl
@@ -31,6 +49,8 @@ kind_of (of_book refusal) = 4
 kind_of write_fault = 5
 kind_of out_of_memory = 6
 kind_of box_too_large = 7
+kind_of file_too_large = 8
+kind_of (not_a_workbook_file fault) = 9
 
 -- errors of two kinds differ
 kinds_differ : (v w : SeenError) → nat_eq (kind_of v) (kind_of w) ≡ false → v ≡ w → ⊥
@@ -41,7 +61,11 @@ same_to : (a b : ToolError) → error_seen a ≡ error_seen b → error.ghosts.e
 same_to is.Usage is.Usage same = refl
 same_to is.ReadFault is.ReadFault same = refl
 same_to is.InputTooLarge is.InputTooLarge same = refl
+same_to is.FileTooLarge is.FileTooLarge same = refl
 same_to is.NotAPackage is.NotAPackage same = refl
+same_to (is.NotAWorkbookFile a) (is.NotAWorkbookFile b) same =
+    let one : a ≡ b = cc in
+    subst (λ (c : ArchiveFault). fault.ghosts.eq a c ≡ true) one (fault_itself a)
 same_to is.WriteFault is.WriteFault same = refl
 same_to is.OutOfMemory is.OutOfMemory same = refl
 same_to is.BoxTooLarge is.BoxTooLarge same = refl

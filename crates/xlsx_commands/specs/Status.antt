@@ -1,34 +1,54 @@
 -- What the program ends with after each refusal: a status and a text.
-use Rattle.std.specs.Prelude.{ℕ, List, codes}
+use Rattle.std.specs.Prelude.{ℕ, List, ◌++◌, codes}
+use Rattle.std.specs.Fmt.{decimal}
 use Rattle.xlsx_error.specs.XlsxError.{text_of, Refusal, refusal_seen}
 use Rattle.xlsx_error.specs.declared.error.XlsxError.{XlsxError}
 use Rattle.xlsx_error.specs.declared.error.XlsxError.TheVariants as workbook
 use Rattle.xlsx_commands.specs.declared.error.ToolError.{ToolError}
 use Rattle.xlsx_commands.specs.declared.error.ToolError.TheVariants.{Usage, ReadFault}
 use Rattle.xlsx_commands.specs.declared.error.ToolError.TheVariants.{InputTooLarge}
-use Rattle.xlsx_commands.specs.declared.error.ToolError.TheVariants.{NotAPackage, Workbook}
+use Rattle.xlsx_commands.specs.declared.error.ToolError.TheVariants.{FileTooLarge, NotAPackage}
+use Rattle.xlsx_commands.specs.declared.error.ToolError.TheVariants.{NotAWorkbookFile, Workbook}
 use Rattle.xlsx_commands.specs.declared.error.ToolError.TheVariants.{WriteFault, OutOfMemory}
 use Rattle.xlsx_commands.specs.declared.error.ToolError.TheVariants.{BoxTooLarge}
 use Rattle.xlsx_rows.specs.declared.error.CsvError.{CsvError}
 use Rattle.xlsx_rows.specs.declared.error.CsvError.TheVariants as rows
+use Rattle.zip_archive.specs.declared.fault.ArchiveFault.{ArchiveFault}
+use Rattle.zip_archive.specs.declared.fault.ArchiveFault.TheVariants.{Compound, Damaged, NoArchive}
+
+-- the status where the input is no workbook file: a broken archive, or none
+abbrev pub file_status : ArchiveFault → ℕ
+file_status NoArchive = 13
+file_status (Damaged at) = 13
+file_status Compound = 14
 
 -- 0 is success, and 1 is kept for the system
 abbrev pub status_of : ToolError → ℕ
 status_of Usage = 2
 status_of ReadFault = 3
 status_of InputTooLarge = 4
+status_of FileTooLarge = 4
 status_of NotAPackage = 5
+status_of (NotAWorkbookFile fault) = file_status fault
 status_of (Workbook error) = 6
 status_of WriteFault = 7
 status_of OutOfMemory = 8
 status_of BoxTooLarge = 10
+
+-- why the input is no workbook file. The byte is counted from 0
+abbrev pub fault_text : ArchiveFault → List ℕ
+fault_text NoArchive = codes "no record of the end of an archive"
+fault_text Compound = codes "a compound file, as of .xls or encrypted ones"
+fault_text (Damaged at) = codes "no header in the directory at byte " ++ decimal at
 
 -- the text of an error of the program
 abbrev pub error_text : ToolError → List ℕ
 error_text Usage = codes "usage"
 error_text ReadFault = codes "read fault"
 error_text InputTooLarge = codes "input too large"
+error_text FileTooLarge = codes "file too large"
 error_text NotAPackage = codes "not a package"
+error_text (NotAWorkbookFile fault) = codes "not a workbook file: " ++ fault_text fault
 error_text (Workbook error) = text_of error
 error_text WriteFault = codes "write fault"
 error_text OutOfMemory = codes "out of memory"
@@ -49,7 +69,9 @@ pub data SeenError : Type 0 where
   usage : SeenError
   read_fault : SeenError
   input_too_large : SeenError
+  file_too_large : SeenError
   not_a_package : SeenError
+  not_a_workbook_file : ArchiveFault → SeenError
   of_book : Refusal → SeenError
   write_fault : SeenError
   out_of_memory : SeenError
@@ -60,7 +82,9 @@ abbrev pub error_seen : ToolError → SeenError
 error_seen Usage = usage
 error_seen ReadFault = read_fault
 error_seen InputTooLarge = input_too_large
+error_seen FileTooLarge = file_too_large
 error_seen NotAPackage = not_a_package
+error_seen (NotAWorkbookFile fault) = not_a_workbook_file fault
 error_seen (Workbook error) = of_book (refusal_seen error)
 error_seen WriteFault = write_fault
 error_seen OutOfMemory = out_of_memory

@@ -1,5 +1,5 @@
 ghost use Rattle.std.specs.Prelude.{◌≡◌};
-ghost use Rattle.xlsx_commands.specs.Status.{status_of};
+ghost use Rattle.xlsx_commands.specs.Status.{file_status, status_of};
 
 use input_package::InputPackage;
 use std::alloc::{AllocError, AllocFailed};
@@ -8,6 +8,7 @@ use std::fmt;
 use xlsx_core::OpenFailure;
 use xlsx_error::XlsxError;
 use xlsx_rows::CsvError;
+use zip_archive::ArchiveFault;
 
 /// Why the program fails (docs/FORMAT.md).
 #[derive(Debug, PartialEq, Eq, Drop)]
@@ -16,10 +17,14 @@ pub enum ToolError {
     Usage,
     /// The source failed.
     ReadFault,
-    /// The input is longer than the limit.
+    /// The input is longer than a package text may be.
     InputTooLarge,
-    /// The input spells no package.
+    /// The input begins as a workbook file does, and is longer than one may be.
+    FileTooLarge,
+    /// The input begins as no workbook file does, and spells no package.
     NotAPackage,
+    /// The input begins as a workbook file does, or as a compound file, and is none, by this fault.
+    NotAWorkbookFile(ArchiveFault),
     /// The workbook can't be opened, or its sheet not be read.
     Workbook(XlsxError),
     /// The sink failed; what was written is a front of the output.
@@ -27,6 +32,16 @@ pub enum ToolError {
     OutOfMemory,
     /// The area whose rows are asked for has more than 16,777,216 cells.
     BoxTooLarge,
+}
+
+/// The status that the program ends with where its input is no workbook file.
+fn file_status(fault: &ArchiveFault) -> u8
+    ensures { result ≡ file_status fault.now }
+{
+    match fault {
+        ArchiveFault::NoArchive | ArchiveFault::Damaged(_) => 13,
+        ArchiveFault::Compound => 14,
+    }
 }
 
 impl ToolError {
@@ -37,8 +52,9 @@ impl ToolError {
         match self {
             ToolError::Usage => 2,
             ToolError::ReadFault => 3,
-            ToolError::InputTooLarge => 4,
+            ToolError::InputTooLarge | ToolError::FileTooLarge => 4,
             ToolError::NotAPackage => 5,
+            ToolError::NotAWorkbookFile(fault) => file_status(fault),
             ToolError::Workbook(_) => 6,
             ToolError::WriteFault => 7,
             ToolError::OutOfMemory => 8,
@@ -58,7 +74,17 @@ impl fmt::Display for ToolError {
             ToolError::Usage => f.write_str("usage"),
             ToolError::ReadFault => f.write_str("read fault"),
             ToolError::InputTooLarge => f.write_str("input too large"),
+            ToolError::FileTooLarge => f.write_str("file too large"),
             ToolError::NotAPackage => f.write_str("not a package"),
+            ToolError::NotAWorkbookFile(ArchiveFault::NoArchive) => {
+                f.write_str("not a workbook file: no record of the end of an archive")
+            }
+            ToolError::NotAWorkbookFile(ArchiveFault::Compound) => {
+                f.write_str("not a workbook file: a compound file, as of .xls or encrypted ones")
+            }
+            ToolError::NotAWorkbookFile(ArchiveFault::Damaged(at)) => {
+                write!(f, "not a workbook file: no header in the directory at byte {at}")
+            }
             ToolError::Workbook(error) => write!(f, "{error}"),
             ToolError::WriteFault => f.write_str("write fault"),
             ToolError::OutOfMemory => f.write_str("out of memory"),

@@ -1,17 +1,65 @@
 -- The input, read in pieces.
 use Rattle.std.proofs.Common.{◌≡◌, ℕ, ◌+◌, ◌<◌, ◌≤◌, List, ◌++◌, length, take, drop, sym, ◌∙◌}
-use Rattle.std.proofs.Common.{ap, subst}
+use Rattle.std.proofs.Common.{ap, ap₂, subst, refl, [], ◌∷◌, ◌||◌, nat_lt}
 use Rattle.std.proofs.Common.{Bool, true, false, arith}
+use Rattle.std.specs.Prelude.{if◌then◌else◌}
+use Rattle.std.specs.Str.{bytes_eq}
+use Rattle.std.proofs.lemmas.Bool.{ltb-true, ltb-false}
 use Rattle.std.proofs.lemmas.List.{append-nil, length-append, length-drop, length-take-le}
+use Rattle.std.proofs.lemmas.List.{take-append-drop, take-append-le}
+use Rattle.zip_archive.specs.Entries.{compound_mark}
+use Rattle.input_package.specs.Reading.{begins_as_file, longest, longest_input}
 use Rattle.part_events.specs.Package.{RisesByOne}
 use Rattle.xlsx_tool.specs.Source.{SourceState}
-use Rattle.xlsx_tool.specs.Input.{InputRead, InputFails, PieceRead, PieceFails, TookTooMany}
+use Rattle.xlsx_tool.specs.Input.{InputRead, InputFails, PieceRead, PieceFails, PastLimit}
 use Rattle.xlsx_commands.specs.declared.error.ToolError.{ToolError}
 use Rattle.xlsx_commands.specs.declared.error.ToolError.TheVariants.{ReadFault, OutOfMemory}
+use Rattle.xlsx_commands.specs.declared.error.ToolError.TheVariants.{FileTooLarge, InputTooLarge}
+
+-- ---- how bytes begin
+
+-- bytes begin as those in front of them, where these are eight or more
+abbrev BeginAlike : List ℕ → List ℕ → Type 0
+BeginAlike bytes more = begins_as_file more ≡ begins_as_file bytes
+
+pub begin_alike : (bytes behind : List ℕ) → 8 ≤ length bytes → BeginAlike bytes (bytes ++ behind)
+begin_alike bytes behind long =
+    ap₂ (λ two eight. bytes_eq two (80 ∷ 75 ∷ []) || bytes_eq eight compound_mark)
+    (take-append-le 2 bytes behind (omega arith)) (take-append-le 8 bytes behind (omega arith))
+
+pub limit_by : (is_file : Bool) → (67108864 ≤ longest is_file) × (longest is_file ≤ 268435456)
+limit_by true = (omega arith, omega arith)
+limit_by false = (omega arith, omega arith)
+
+-- the least and the greatest limit
+pub limits : (bytes : List ℕ) → (67108864 ≤ longest_input bytes) × (longest_input bytes ≤ 268435456)
+limits bytes = limit_by (begins_as_file bytes)
+
+limit_stays : (before after : List ℕ) → take (length before) after ≡ before →
+    8 ≤ length before → longest_input after ≡ longest_input before
+limit_stays before after front long =
+    let whole : after ≡ before ++ drop (length before) after =
+    sym (take-append-drop (length before) after)
+    ∙ ap (λ xs. xs ++ drop (length before) after) front in
+    ap longest_input whole
+    ∙ ap longest (begin_alike before (drop (length before) after) long)
+
+limit_by_size : (before after : List ℕ) (room : ℕ) (b : Bool) → nat_lt (length before) 8 ≡ b →
+    room ≤ 65536 → length before + room ≤ longest_input before + 1 →
+    take (length before) after ≡ before → length after ≤ length before + room →
+    length after ≤ longest_input after + 1
+limit_by_size before after room true is small room_fits front fits =
+    let short = ltb-true (length before) 8 is in
+    omega (arith, short, small, fits, (limits after).0)
+limit_by_size before after room false is small room_fits front fits =
+    let long = ltb-false (length before) 8 is in
+    let same = limit_stays before after front long in
+    omega (arith, room_fits, fits, same)
 
 -- some of the input was read, and is these bytes
 pub record IsReading (bytes : List ℕ) (first now : SourceState) : Type 0 where
-  pub fits : length bytes ≤ 67108865
+  pub fits : length bytes ≤ longest_input bytes + 1
+  pub most : longest_input bytes ≤ 268435456
   pub is_told : now.is_told ≡ first.is_told
   pub faults : now.faults ≡ first.faults
   pub whole : first.is_told ≡ true → first.left ≡ bytes ++ now.left
@@ -19,22 +67,25 @@ pub record IsReading (bytes : List ℕ) (first now : SourceState) : Type 0 where
 -- a piece more was read
 pub reads_on :
     (room : ℕ) (before after : List ℕ) (first now next : SourceState)
-    → length before + room ≤ 67108865 → IsReading before first now
+    → room ≤ 65536 → length before + room ≤ longest_input before + 1
+    → IsReading before first now
     → PieceRead room before after now next true → IsReading after first next
-reads_on room before after first now next fits reading piece = record {
-  fits = omega (arith, piece.3, fits);
+reads_on room before after first now next small fits reading piece = record {
+  fits = limit_by_size before after room (nat_lt (length before) 8) refl small fits piece.4
+      piece.3;
+  most = (limits after).1;
   is_told = piece.0 ∙ reading.is_told;
   faults = piece.1 ∙ reading.faults;
-  whole = λ told. reading.whole told ∙ piece.4 (reading.is_told ∙ told);
+  whole = λ told. reading.whole told ∙ piece.5 (reading.is_told ∙ told);
 }
 
 -- nothing is left
 pub reads_all :
     (room : ℕ) (before after : List ℕ) (first now next : SourceState)
-    → length before ≤ 67108864 → IsReading before first now
+    → length before ≤ longest_input before → IsReading before first now
     → PieceRead room before after now next false → InputRead after first next
 reads_all room before after first now next fits reading piece = record {
-  fits = rw piece.1 fits;
+  fits = subst (λ (bytes : List ℕ). length bytes ≤ longest_input bytes) (sym piece.1) fits;
   faults = piece.0 ∙ reading.faults;
   whole = λ told. (
       let ends = piece.2 (reading.is_told ∙ told) in
@@ -44,15 +95,36 @@ reads_all room before after first now next fits reading piece = record {
 }
 
 -- more was read than the limit
-pub reads_too_many :
-    (bytes : List ℕ) (first now : SourceState)
-    → 67108864 < length bytes → IsReading bytes first now
-    → first.is_told ≡ true → TookTooMany first now
-reads_too_many bytes first now long reading told = record {
-  taken = bytes;
-  many = omega (arith, long, reading.fits);
-  from = reading.whole told;
+reads_too_many :
+    (is_file : Bool) (bytes : List ℕ) (first now : SourceState)
+    → begins_as_file bytes ≡ is_file
+    → longest_input bytes < length bytes → IsReading bytes first now → PastLimit is_file first now
+reads_too_many is_file bytes first now begins long reading = record {
+  faults = reading.faults;
+  took = λ told. record {
+    taken = bytes;
+    begins = begins;
+    many = omega (arith, long, reading.fits, ap longest begins);
+    from = reading.whole told;
+  };
 }
+
+past_by : (is_file : Bool) (bytes : List ℕ) (first now : SourceState) →
+    begins_as_file bytes ≡ is_file → longest_input bytes < length bytes →
+    IsReading bytes first now →
+    InputFails first now (if is_file then FileTooLarge else InputTooLarge)
+past_by true bytes first now begins long reading =
+    reads_too_many true bytes first now begins long reading
+past_by false bytes first now begins long reading =
+    reads_too_many false bytes first now begins long reading
+
+-- the refusal is that of how the bytes begin
+pub past_the_limit : (bytes : List ℕ) (first now : SourceState) (error : ToolError) →
+    error ≡ (if begins_as_file bytes then FileTooLarge else InputTooLarge) →
+    longest_input bytes < length bytes → IsReading bytes first now → InputFails first now error
+past_the_limit bytes first now error is long reading =
+    subst (InputFails first now) (sym is)
+    (past_by (begins_as_file bytes) bytes first now refl long reading)
 
 -- why a piece wasn't read is why the input wasn't
 pub piece_fails :

@@ -1,13 +1,15 @@
 -- A run, from what its steps give.
 use Rattle.std.proofs.Common.{◌≡◌, ℕ, List, ◌++◌, length, take, drop, refl, sym, ◌∙◌, ap}
 use Rattle.std.proofs.Common.{subst, append_assoc}
-use Rattle.std.proofs.Common.{true≢false, true, arith, Option, Some, None}
+use Rattle.std.proofs.Common.{true≢false, true, false, arith, Option, Some, None, Bool, ◌≤◌}
 use Rattle.std.specs.Prelude.{◌≢◌, Result, Ok, Err, IfErr, OnOk}
 use Rattle.std.proofs.lemmas.List.{take-append-drop, length-append}
 use Rattle.part_events.specs.Package.{Part}
 use Rattle.xlsx_commands.specs.Command.{Command, command_of, own_parts}
 use Rattle.xlsx_commands.specs.Outputs.{IsOutput, OutputCause, OutputFails, HasOutput}
-use Rattle.input_package.specs.Reading.{package_in}
+use Rattle.input_package.specs.Reading.{begins_as_file, longest, package_in}
+use Rattle.xlsx_tool.specs.Input.{PastLimit}
+use Rattle.xlsx_tool.proofs.InputLemmas.{begin_alike, limit_by}
 use Rattle.xlsx_tool.specs.Run.{Streams, Spells, Succeeds, HasOutputCause}
 use Rattle.xlsx_tool.specs.Run.{TellsInput, GivesParts, IsFed, PackageFed, FeedingFails, OutputRead}
 use Rattle.xlsx_tool.specs.Run.{ReadingFails, Refuses, AnswersExactly}
@@ -15,7 +17,8 @@ use Rattle.xlsx_tool.specs.Source.{SourceState}
 use Rattle.xlsx_commands.specs.declared.error.ToolError.{ToolError}
 use Rattle.xlsx_commands.specs.declared.error.ToolError.TheVariants.{Usage, ReadFault}
 use Rattle.xlsx_commands.specs.declared.error.ToolError.TheVariants.{InputTooLarge}
-use Rattle.xlsx_commands.specs.declared.error.ToolError.TheVariants.{NotAPackage, Workbook}
+use Rattle.xlsx_commands.specs.declared.error.ToolError.TheVariants.{FileTooLarge, NotAPackage}
+use Rattle.xlsx_commands.specs.declared.error.ToolError.TheVariants.{NotAWorkbookFile, Workbook}
 use Rattle.xlsx_commands.specs.declared.error.ToolError.TheVariants.{WriteFault, OutOfMemory}
 use Rattle.xlsx_commands.specs.declared.error.ToolError.TheVariants.{BoxTooLarge}
 
@@ -127,6 +130,18 @@ no_cause never words source command asked parts output error is prints same caus
     never command parts output error prints
     (subst (λ (parts : List Part). OutputCause command parts error) package_is own.cause)
 
+-- an input that spells a package isn't past its limit
+never_past :
+    (is_file : Bool) (old new : SourceState) (parts : List Part) → PastLimit is_file old new
+    → old.is_told ≡ true → Spells old.left parts → ⊥
+never_past is_file old new parts past told spells =
+    let took = past.took told in
+    let long = length-append took.taken new.left in
+    let eight : 8 ≤ length took.taken = omega (arith, took.many, (limit_by is_file).0) in
+    let begins = ap begins_as_file took.from ∙ begin_alike took.taken new.left eight
+    ∙ took.begins in
+    omega (arith, took.many, spells.fits, ap longest begins, ap length took.from, long)
+
 -- a package that has an output was not refused for any cause of its own
 not_refused :
     NeverBoth → (words : List (List ℕ)) (old new : Streams) (command : Command)
@@ -143,16 +158,30 @@ not_refused never words old new command parts output InputTooLarge is prints own
     (λ (command : Command). FeedingFails command old.source new.source InputTooLarge) command_is
     refuses.cause in
     let input = told_input (own_parts command) old.source parts fails.0 is.tells is.gives in
-    let took = fails.2 input.0 in
-    let long = length-append took.taken new.source.left in
-    omega (arith, took.many, input.1.fits, ap length took.from, long)
+    never_past false old.source new.source parts fails.1 input.0 input.1
+not_refused never words old new command parts output FileTooLarge is prints own refuses =
+    let command_is = same_some refuses.command command (command_of words) refuses.asked is.asked in
+    let fails = subst
+    (λ (command : Command). FeedingFails command old.source new.source FileTooLarge) command_is
+    refuses.cause in
+    let input = told_input (own_parts command) old.source parts fails.0 is.tells is.gives in
+    never_past true old.source new.source parts fails.1 input.0 input.1
 not_refused never words old new command parts output NotAPackage is prints own refuses =
     let command_is = same_some refuses.command command (command_of words) refuses.asked is.asked in
     let fails = subst
     (λ (command : Command). FeedingFails command old.source new.source NotAPackage) command_is
     refuses.cause in
     let input = told_input (own_parts command) old.source parts fails.0 is.tells is.gives in
-    not_some parts (package_in old.source.left) input.1.spelled (fails.2 input.0).spelled
+    not_some parts (package_in old.source.left) input.1.spelled (fails.1.cause input.0).none
+not_refused
+    never words old new command parts output (NotAWorkbookFile fault) is prints own refuses =
+    let error : ToolError = NotAWorkbookFile fault in
+    let command_is = same_some refuses.command command (command_of words) refuses.asked is.asked in
+    let fails = subst
+    (λ (command : Command). FeedingFails command old.source new.source error) command_is
+    refuses.cause in
+    let input = told_input (own_parts command) old.source parts fails.0 is.tells is.gives in
+    not_some parts (package_in old.source.left) input.1.spelled (fails.1.cause input.0).none
 not_refused never words old new command parts output (Workbook error) is prints own refuses =
     no_cause never words old.source command refuses.command parts output (Workbook error) is prints
     refuses.asked refuses.cause.1

@@ -1,17 +1,18 @@
 -- What a run of the program answers, and when.
 use Rattle.std.specs.Prelude.{◌≡◌, ◌≢◌, ◌↔◌, Result, Err, IsOk, ℕ, ◌≤◌, List, [], ◌++◌, length}
-use Rattle.std.specs.Prelude.{true, Bool, Option, Some, None, is_some}
+use Rattle.std.specs.Prelude.{true, false, Bool, Option, Some, None, is_some}
 use Rattle.part_events.specs.Package.{Part, RisesByOne}
 use Rattle.xlsx_commands.specs.Command.{Command, command_of, own_parts}
 use Rattle.xlsx_commands.specs.Outputs.{IsOutput, OutputCause, HasOutput}
-use Rattle.xlsx_tool.specs.Input.{TookTooMany, longest_input}
-use Rattle.input_package.specs.Reading.{package_in}
+use Rattle.xlsx_tool.specs.Input.{PastLimit}
+use Rattle.input_package.specs.Reading.{IsFaulty, IsNoText, longest_input, package_in}
 use Rattle.xlsx_tool.specs.Sink.{SinkState}
 use Rattle.xlsx_tool.specs.Source.{SourceState}
 use Rattle.xlsx_commands.specs.declared.error.ToolError.{ToolError}
 use Rattle.xlsx_commands.specs.declared.error.ToolError.TheVariants.{Usage, ReadFault}
 use Rattle.xlsx_commands.specs.declared.error.ToolError.TheVariants.{InputTooLarge}
-use Rattle.xlsx_commands.specs.declared.error.ToolError.TheVariants.{NotAPackage}
+use Rattle.xlsx_commands.specs.declared.error.ToolError.TheVariants.{FileTooLarge, NotAPackage}
+use Rattle.xlsx_commands.specs.declared.error.ToolError.TheVariants.{NotAWorkbookFile}
 use Rattle.xlsx_commands.specs.declared.error.ToolError.TheVariants.{WriteFault, OutOfMemory}
 
 -- the source and the sink of a run
@@ -26,7 +27,7 @@ pub record NoFaults (old new : Streams) : Type 0 where
 
 -- the input is a package of these parts
 pub record Spells (input : List ℕ) (parts : List Part) : Type 0 where
-  pub fits : length input ≤ longest_input
+  pub fits : length input ≤ longest_input input
   pub spelled : package_in input ≡ Some parts
 
 -- the words are no command, or one that reads no input
@@ -81,10 +82,11 @@ pub record Succeeds (words : List (List ℕ)) (old new : Streams) : Type 0 where
   pub reads : OutputRead command output old.source new.source
   pub written : old.sink.is_told ≡ true → new.sink.written ≡ old.sink.written ++ output
 
--- the input is no package
-pub record IsNoPackage (source : SourceState) : Type 0 where
-  pub fits : length source.left ≤ longest_input
-  pub spelled : package_in source.left ≡ None
+-- no fault came, and the input fits and is no package, for a cause
+pub record IsNoPackage (why : List ℕ → Type 0) (old new : SourceState) : Type 0 where
+  pub faults : new.faults ≡ old.faults
+  pub fits : old.is_told ≡ true → length old.left ≤ longest_input old.left
+  pub cause : old.is_told ≡ true → why old.left
 
 -- the command works on a package in which this refusal has its cause
 pub record HasOutputCause (command : Command) (source : SourceState) (error : ToolError)
@@ -98,11 +100,13 @@ abbrev pub FeedingFails : Command → SourceState → SourceState → ToolError 
 FeedingFails command old new ReadFault =
     (own_parts command ≡ None) × RisesByOne old.faults new.faults
 FeedingFails command old new InputTooLarge =
-    (own_parts command ≡ None) × (new.faults ≡ old.faults)
-    × (old.is_told ≡ true → TookTooMany old new)
+    (own_parts command ≡ None) × PastLimit false old new
+FeedingFails command old new FileTooLarge =
+    (own_parts command ≡ None) × PastLimit true old new
 FeedingFails command old new NotAPackage =
-    (own_parts command ≡ None) × (new.faults ≡ old.faults)
-    × (old.is_told ≡ true → IsNoPackage old)
+    (own_parts command ≡ None) × IsNoPackage IsNoText old new
+FeedingFails command old new (NotAWorkbookFile fault) =
+    (own_parts command ≡ None) × IsNoPackage (λ bytes. IsFaulty bytes fault) old new
 FeedingFails command old new OutOfMemory = new.faults ≡ old.faults
 FeedingFails command old new _ = ⊥
 
@@ -110,7 +114,10 @@ FeedingFails command old new _ = ⊥
 abbrev pub ReadingFails : Command → SourceState → SourceState → ToolError → Type 0
 ReadingFails command old new ReadFault = FeedingFails command old new ReadFault
 ReadingFails command old new InputTooLarge = FeedingFails command old new InputTooLarge
+ReadingFails command old new FileTooLarge = FeedingFails command old new FileTooLarge
 ReadingFails command old new NotAPackage = FeedingFails command old new NotAPackage
+ReadingFails command old new (NotAWorkbookFile fault) =
+    FeedingFails command old new (NotAWorkbookFile fault)
 ReadingFails command old new OutOfMemory = new.faults ≡ old.faults
 ReadingFails command old new error = (new.faults ≡ old.faults) × HasOutputCause command old error
 
@@ -150,11 +157,12 @@ pub record AnswersExactly
 
 -- ---- the steps of a run
 
--- why an input is no package: it spells none, or memory is wanting
-abbrev pub NoPackage : Option (List Part) → ToolError → Type 0
-NoPackage spelled NotAPackage = spelled ≡ None
-NoPackage spelled OutOfMemory = Unit {0}
-NoPackage spelled _ = ⊥
+-- why an input is no package, or memory is wanting
+abbrev pub NoPackage : List ℕ → ToolError → Type 0
+NoPackage bytes NotAPackage = IsNoText bytes
+NoPackage bytes (NotAWorkbookFile fault) = IsFaulty bytes fault
+NoPackage bytes OutOfMemory = Unit {0}
+NoPackage bytes _ = ⊥
 
 -- why bytes are not written, and what was written of them
 abbrev pub SendFails : List ℕ → SinkState → SinkState → ToolError → Type 0

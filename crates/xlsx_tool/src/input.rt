@@ -1,12 +1,13 @@
-ghost use Rattle.std.specs.Prelude.{◌<◌, length, IfOk, IfErr};
+ghost use Rattle.std.specs.Prelude.{◌≡◌, ◌<◌, length, if◌then◌else◌, IfOk, IfErr};
+ghost use Rattle.input_package.specs.Reading.{begins_as_file};
+ghost use Rattle.xlsx_commands.specs.declared.error.ToolError.TheVariants.{FileTooLarge};
+ghost use Rattle.xlsx_commands.specs.declared.error.ToolError.TheVariants.{InputTooLarge};
 ghost use Rattle.xlsx_tool.specs.Input.{InputRead, InputFails, PieceRead, PieceFails};
 
 use crate::source::Source;
+use input_package::{begins_as_file, longest_input};
 use std::alloc::Global;
 use xlsx_commands::ToolError;
-
-/// The most bytes that an input may have.
-pub const INPUT_LIMIT: usize = 67_108_864;
 
 /// How many bytes are asked for at a time.
 const PIECE: usize = 65_536;
@@ -34,8 +35,19 @@ fn read_piece<S: Source>(
     Ok(true)
 }
 
-/// Reads the source to its end. More bytes than the limit are refused as `InputTooLarge`, and a
-/// failure of the source as `ReadFault`.
+/// Why an input that begins so isn't read past its limit.
+fn past_limit(bytes: &[u8]) -> ToolError
+    ensures { result ≡ (if begins_as_file bytes.now then FileTooLarge else InputTooLarge) }
+{
+    if begins_as_file(bytes) {
+        ToolError::FileTooLarge
+    } else {
+        ToolError::InputTooLarge
+    }
+}
+
+/// Reads the source to its end. More bytes than an input may have that begins so are refused as
+/// `FileTooLarge` or `InputTooLarge`, and a failure of the source as `ReadFault`.
 pub fn read_input<S: Source>(alloc: Global, source: &mut S) -> Result<Vec<u8>, ToolError>
     ensures ok { let old = S.state source.old in
         let new = S.state source.new in
@@ -44,11 +56,13 @@ pub fn read_input<S: Source>(alloc: Global, source: &mut S) -> Result<Vec<u8>, T
 {
     let mut bytes = Vec::new(alloc);
     let mut piece = vec![in alloc; 0u8; PIECE]?;
-    'pieces: while bytes.len() <= INPUT_LIMIT {
-        let room = PIECE.min(INPUT_LIMIT + 1 - bytes.len());
+    let mut limit = longest_input(&bytes);
+    'pieces: while bytes.len() <= limit {
+        let room = PIECE.min(limit + 1 - bytes.len());
         if !read_piece(source, &mut bytes, &mut piece[..room])? {
             return Ok(bytes);
         }
+        limit = longest_input(&bytes);
     }
-    Err(ToolError::InputTooLarge)
+    Err(past_limit(&bytes))
 }

@@ -21,11 +21,12 @@ use xlsx_commands::{
 fn package_from(alloc: Global, bytes: Vec<u8>) -> Result<InputPackage, ToolError>
     requires { length bytes.items < 2 ^ 56 }
     ensures ok { IfOk result (λ held. package_in bytes.items ≡ Some held.parts) }
-    ensures err { IfErr result (NoPackage (package_in bytes.items)) }
+    ensures err { IfErr result (NoPackage bytes.items) }
 {
     match read_package(alloc, bytes) {
         Ok(package) => Ok(package),
         Err(InputError::NotAPackage) => Err(ToolError::NotAPackage),
+        Err(InputError::NotAWorkbookFile(fault)) => Err(ToolError::NotAWorkbookFile(fault)),
         Err(InputError::OutOfMemory) => Err(ToolError::OutOfMemory),
     }
 }

@@ -1,6 +1,5 @@
 ghost use Rattle.std.specs.Prelude.{◌<◌};
 
-use crate::input::INPUT_LIMIT;
 use crate::program::{answer, ending};
 use crate::sink::MemorySink;
 use crate::source::MemorySource;
@@ -11,6 +10,7 @@ use std::test::Fail;
 use test_tables::{assert_text, cases, cut};
 use xlsx_commands::ToolError;
 use xlsx_error::XlsxError;
+use zip_archive::ArchiveFault;
 
 /// The front of the types of relationships.
 const TYPES: &str = "http://schemas.openxmlformats.org/officeDocument/2006/relationships";
@@ -169,6 +169,10 @@ cells S
 = 5 not a package
 
 cells S
+= PK
+= 13 not a workbook file: no record of the end of an archive
+
+cells S
 = {"version":3,"parts":[]}
 = 5 not a package
 
@@ -223,6 +227,12 @@ fn each_refusal_has_its_cause(rt: HostRuntime) -> Result<(), Fail> {
     }
     let told = run_on(alloc, "cells S", b"\xff", EASY)?;
     assert_text(&told, "5 not a package", "no UTF-8")?;
+    let told = run_on(alloc, "cells S", b"\xd0\xcf\x11\xe0\xa1\xb1\x1a\xe1", EASY)?;
+    assert_text(
+        &told,
+        "14 not a workbook file: a compound file, as of .xls or encrypted ones",
+        "the mark of a compound file",
+    )?;
     Ok(())
 }
 
@@ -338,8 +348,8 @@ fn an_input_past_the_limit_is_too_large(rt: HostRuntime) -> Result<(), Fail> {
         ..EASY
     };
     for (length, wanted) in [
-        (INPUT_LIMIT, "5 not a package"),
-        (INPUT_LIMIT + 1, "4 input too large"),
+        (67_108_864, "5 not a package"),
+        (67_108_865, "4 input too large"),
     ] {
         let input = vec![in alloc; b' '; length]?;
         let told = run_on(alloc, "cells S", &input, setting)?;
@@ -350,7 +360,10 @@ fn an_input_past_the_limit_is_too_large(rt: HostRuntime) -> Result<(), Fail> {
 
 /// The status and the text of each refusal.
 const STATUSES: &str =
-    "2 usage; 3 read fault; 4 input too large; 5 not a package; 6 Relationship not found; \
+    "2 usage; 3 read fault; 4 input too large; 4 file too large; 5 not a package; \
+    13 not a workbook file: no record of the end of an archive; \
+    14 not a workbook file: a compound file, as of .xls or encrypted ones; \
+    13 not a workbook file: no header in the directory at byte 32; 6 Relationship not found; \
     7 write fault; 8 out of memory; 10 box too large; ";
 
 #[test]
@@ -360,7 +373,11 @@ fn refusals_have_statuses_and_texts(rt: HostRuntime) -> Result<(), Fail> {
         ToolError::Usage,
         ToolError::ReadFault,
         ToolError::InputTooLarge,
+        ToolError::FileTooLarge,
         ToolError::NotAPackage,
+        ToolError::NotAWorkbookFile(ArchiveFault::NoArchive),
+        ToolError::NotAWorkbookFile(ArchiveFault::Compound),
+        ToolError::NotAWorkbookFile(ArchiveFault::Damaged(32)),
         ToolError::Workbook(XlsxError::RelationshipNotFound),
         ToolError::WriteFault,
         ToolError::OutOfMemory,

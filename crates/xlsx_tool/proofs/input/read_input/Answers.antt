@@ -1,6 +1,6 @@
 use Rattle.std.proofs.Common.{length, refl, rules}
 use Rattle.std.proofs.lemmas.Result.{err_from_is_err_and}
-use Rattle.xlsx_tool.proofs.InputLemmas.{reads_on, reads_all, reads_too_many, piece_fails}
+use Rattle.xlsx_tool.proofs.InputLemmas.{limits, past_the_limit, reads_on, reads_all, piece_fails}
 use Rattle.xlsx_tool.proofs.InputLemmas.{goes_on, ends, piece_keeps}
 use Rattle.xlsx_tool.proofs.input.read_input.Goals as goal
 
@@ -10,8 +10,10 @@ pieces-init g c = (
     fits = search rules;
     is_told = refl;
     faults = refl;
+    most = (limits c.new-bytes.result.items).1;
     whole = λ told. search rules;
   },
+  search rules,
   search rules,
 )
 
@@ -38,12 +40,13 @@ pieces-preserved g c =
     let room = length c.read_piece.new.piece in
     let read = c.in_ok-read_piece in
     let piece = c.pieces.piece in (
-      reads_on room _ _ _ _ _ (search rules) c.pieces.invariant.0
+      reads_on room _ _ _ _ _ (search rules) (search rules) c.pieces.invariant.0
           (goes_on room _ _ _ _ read.field-0 c.if-not-branch.false read.ensures.ok),
       piece_keeps _ piece.items piece.len piece.ok.0 c.pieces.invariant.1,
+      search rules,
     )
 
 pub returns-clause-err : goal.returns-clause-err
 returns-clause-err g c =
-    let invariant = c.pieces.invariant.0 in
-    (invariant.faults, λ told. reads_too_many _ _ _ (search rules) invariant told)
+    past_the_limit c.pieces.bytes.items _ _ c.past_limit.result (search rules) (search rules)
+    c.pieces.invariant.0
