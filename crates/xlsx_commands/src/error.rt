@@ -83,7 +83,10 @@ impl fmt::Display for ToolError {
                 f.write_str("not a workbook file: a compound file, as of .xls or encrypted ones")
             }
             ToolError::NotAWorkbookFile(ArchiveFault::Damaged(at)) => {
-                write!(f, "not a workbook file: no header in the directory at byte {at}")
+                write!(
+                    f,
+                    "not a workbook file: no header in the directory at byte {at}"
+                )
             }
             ToolError::Workbook(error) => write!(f, "{error}"),
             ToolError::WriteFault => f.write_str("write fault"),

@@ -10,8 +10,8 @@ ghost use Rattle.zip_reads_back.specs.ReadArchive.{ArePartNames, no_file};
 
 /// What is written of files is an archive that has an entry for each file, with its name, in their
 /// order (`entries`); each holds the file's bytes (`bytes`), and where no two names are one, the
-/// entry of a name is that of its file (`parts`). `write_archive` says of all that it writes that it
-/// is writable and plain; no more is asked than that bytes are bytes.
+/// entry of a name is that of its file (`parts`). `write_archive` says of all that it writes that
+/// it is writable and plain; no more is asked than that bytes are bytes.
 pub fn written_archives_read_back()
     ensures entries { (files : List File) → IsWritable files → IsPlain files → AreBytes files →
         archive_of (written files) ≡ Ok (archive_of_files files) }
