@@ -39,6 +39,14 @@ date_unit letter =
 abbrev pub passed_unit : ℕ → TimeUnit
 passed_unit letter = if letter == 104 then Hour else (if letter == 109 then Minute else Second)
 
+-- a time that has passed, by a content that is its letter once or repeated
+abbrev pub passed_piece : List ℕ → Option CodePiece
+passed_piece [] = None
+passed_piece (b ∷ bs) =
+    if is_elapsed (b ∷ bs)
+    then Some (piece.Passed (passed_unit (to_ascii_lowercase b)) (length bs + 1))
+    else None
+
 -- a condition that compares with the number of a text
 abbrev pub condition_with : Comparison → Option (ℤ × ℤ) → CodePiece
 condition_with comparison None = piece.Unknown
@@ -113,12 +121,19 @@ currency_pieces text =
     literal_pieces (before_first (λ c. c == 45) text)
     ++ language_pieces (after_first (λ c. c == 45) text)
 
+-- what a group in brackets is that is no time, by its content
+abbrev pub untimed_pieces : List ℕ → List CodePiece
+untimed_pieces [] = piece.Unknown ∷ []
+untimed_pieces (b ∷ bs) =
+    if b == 36 then currency_pieces bs
+    else (if (b == 60) || ((b == 61) || (b == 62)) then condition_of_group b bs ∷ []
+    else color_pieces (b ∷ bs))
+
+-- a time that has passed, or what another group is
+abbrev pub passed_or_untimed : Option CodePiece → List ℕ → List CodePiece
+passed_or_untimed (Some passed) content = passed ∷ []
+passed_or_untimed None content = untimed_pieces content
+
 -- what a group in brackets is, by its content
 abbrev pub group_pieces : List ℕ → List CodePiece
-group_pieces [] = piece.Unknown ∷ []
-group_pieces (b ∷ bs) =
-    if is_elapsed (b ∷ bs)
-    then piece.Passed (passed_unit (to_ascii_lowercase b)) (length bs + 1) ∷ []
-    else (if b == 36 then currency_pieces bs
-    else (if (b == 60) || ((b == 61) || (b == 62)) then condition_of_group b bs ∷ []
-    else color_pieces (b ∷ bs)))
+group_pieces content = passed_or_untimed (passed_piece content) content
