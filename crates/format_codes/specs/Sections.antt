@@ -19,7 +19,7 @@ size_behind bs = prefix_len (λ c. nat_lt 127 c && nat_lt c 192) bs
 -- how many bytes the character has that begins a text of UTF-8
 abbrev pub character_size : List ℕ → ℕ
 character_size [] = 0
-character_size (b ∷ bs) = size_behind bs + 1
+character_size (b ∷ bs) = suc (size_behind bs)
 
 -- the character that begins a text as it stands for itself, if the text isn't empty
 abbrev pub first_character : List ℕ → List CodePiece

@@ -1,9 +1,11 @@
 //! Number format codes, cut into sections of pieces.
 #![tactic(auto)]
 
+mod group;
 mod kind;
 mod piece;
 mod shown_format;
+mod text;
 
 pub use kind::SectionKind;
 pub use piece::{CodePiece, Comparison, Condition, Filler, HalfDay, TimeUnit};
