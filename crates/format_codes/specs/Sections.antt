@@ -1,5 +1,5 @@
 -- A number format code, cut into sections of pieces (ECMA-376 part 1, sections 18.8.30 and 18.8.31).
-use Rattle.std.specs.Prelude.{ℕ, zero, suc, ◌+◌, ◌==◌, ◌&&◌, ◌||◌, nat_lt}
+use Rattle.std.specs.Prelude.{ℕ, ◌≡◌, drop, zero, suc, ◌+◌, ◌==◌, ◌&&◌, ◌||◌, nat_lt}
 use Rattle.std.specs.Prelude.{if◌then◌else◌, List, [], ◌∷◌, ◌++◌, length, take, codes}
 use Rattle.std.specs.Prelude.{slice_index, Option, Some, None}
 use Rattle.std.specs.Char.{to_ascii_lowercase, is_ascii_digit}
@@ -51,6 +51,19 @@ group_in_front bs =
     }
     else one piece.Unknown (length bs)
 
+-- what is found is what was found and such pieces, and the rest is what stands behind them, where
+-- they are those in front of this text
+pub record IsCut (front : PiecesInFront) (text : List ℕ) (old new : List CodePiece)
+    (rest : List ℕ) : Type 0 where
+  pub found : new ≡ old ++ front.pieces
+  pub left : rest ≡ drop front.size text
+
+-- a piece stands in front of this text, and the rest behind it
+pub record IsPieceCut (front : PiecesInFront) (text : List ℕ) (first : CodePiece)
+    (rest : List ℕ) : Type 0 where
+  pub found : front.pieces ≡ first ∷ []
+  pub left : rest ≡ drop front.size text
+
 -- the piece of a sign that stands alone
 abbrev pub sign_piece : ℕ → Option CodePiece
 sign_piece b =
@@ -70,30 +83,40 @@ sign_piece b =
 abbrev pub run_behind : ℕ → List ℕ → ℕ
 run_behind letter bs = prefix_len (λ c. to_ascii_lowercase c == letter) bs
 
--- a part of a date that a small letter begins, a letter that isn't supported, or a character that
--- stands for itself
-abbrev pub unit_or_other : Option TimeUnit → ℕ → ℕ → List ℕ → PiecesInFront
-unit_or_other (Some unit) letter b bs =
-    one (piece.TimePart unit (run_behind letter bs + 1)) (run_behind letter bs)
-unit_or_other None letter b bs =
+-- a part of a date, a letter that isn't supported, or a character that stands for itself
+abbrev pub unit_in_front : Option TimeUnit → ℕ → List ℕ → PiecesInFront
+unit_in_front (Some unit) b bs =
+    let run = run_behind (to_ascii_lowercase b) bs in
+    one (piece.TimePart unit (run + 1)) run
+unit_in_front None b bs =
+    let letter = to_ascii_lowercase b in
     if (letter == 98) || ((letter == 101) || (letter == 103)) then one piece.Unknown 0
     else one (piece.Literal b) 0
 
--- a letter, by the small one, or another character that stands for itself
-abbrev pub letter_in_front : ℕ → ℕ → List ℕ → PiecesInFront
-letter_in_front letter b bs =
-    if (letter == 101) && ((slice_index bs 0 == 43) || (slice_index bs 0 == 45))
-    then one (piece.Exponent b (slice_index bs 0 == 43)) 1
-    else (if begins (codes "general") (b ∷ bs) then one piece.General 6
-    else (if begins (codes "am/pm") (b ∷ bs) then one (piece.HalfDay Words) 4
+-- what begins with a letter in either case that begins no word
+abbrev pub unit_or_other : ℕ → List ℕ → PiecesInFront
+unit_or_other b bs = unit_in_front (date_unit (to_ascii_lowercase b)) b bs
+
+-- a half of a day, or what else begins with a letter
+abbrev pub half_day_or_other : ℕ → List ℕ → PiecesInFront
+half_day_or_other b bs =
+    if begins (codes "am/pm") (b ∷ bs) then one (piece.HalfDay Words) 4
     else (if begins (codes "a/p") (b ∷ bs)
     then one (piece.HalfDay (Letters b (slice_index bs 1))) 2
-    else unit_or_other (date_unit letter) letter b bs)))
+    else unit_or_other b bs)
+
+-- a letter in either case, or another character that stands for itself
+abbrev pub letter_in_front : ℕ → List ℕ → PiecesInFront
+letter_in_front b bs =
+    if (to_ascii_lowercase b == 101) && ((slice_index bs 0 == 43) || (slice_index bs 0 == 45))
+    then one (piece.Exponent b (slice_index bs 0 == 43)) 1
+    else (if begins (codes "general") (b ∷ bs) then one piece.General 6
+    else half_day_or_other b bs)
 
 -- a sign that stands alone, or a letter or another character
 abbrev pub sign_or_letter : Option CodePiece → ℕ → List ℕ → PiecesInFront
 sign_or_letter (Some sign) b bs = one sign 0
-sign_or_letter None b bs = letter_in_front (to_ascii_lowercase b) b bs
+sign_or_letter None b bs = letter_in_front b bs
 
 -- The pieces that stand first. `\` takes the next character, `"` all to the next `"`; `_` is a space
 -- in place of one as wide as the next character, and `*`, which fills a cell with it, shows nothing.

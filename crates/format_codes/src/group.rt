@@ -12,7 +12,7 @@ ghost use Rattle.format_codes.specs.Groups.{language_pieces, currency_pieces, co
 ghost use Rattle.format_codes.specs.Groups.{untimed_pieces, group_pieces, foreign_unless};
 
 use crate::piece::{CodePiece, Comparison, Condition, TimeUnit};
-use crate::text::{begins, behind_ascii, behind_word, is_word};
+use crate::text::{around_first, begins, behind_ascii, behind_word, is_word};
 use decimals::Decimal;
 use std::alloc::AllocError;
 
@@ -201,7 +201,7 @@ fn push_language(found: &mut Vec<CodePiece>, tag: &[u8]) -> Result<(), AllocErro
 fn push_currency(found: &mut Vec<CodePiece>, text: &str) -> Result<(), AllocError>
     ensures { IfOk result (λ _. found.new.items ≡ found.old.items ++ currency_pieces text.now) }
 {
-    let (currency, tag) = text.split_once('-').unwrap_or((text, ""));
+    let (currency, tag) = around_first(text, '-');
     push_literal(found, currency)?;
     push_language(found, tag.as_bytes())
 }

@@ -1,6 +1,7 @@
 //! Words of a text, and the text behind its characters.
 ghost use Rattle.std.specs.Prelude.{◌≡◌, ◌+◌, ◌<◌, ◌≤◌, length, take, drop, slice_index};
-ghost use Rattle.std.specs.Prelude.{MatchOption, false, true};
+ghost use Rattle.std.specs.Prelude.{MatchOption, false, true, ◌==◌};
+ghost use Rattle.std.specs.List.{before_first, after_first};
 ghost use Rattle.std.specs.Str.{IsAscii, str_eq_ignore_ascii_case};
 ghost use Rattle.format_codes.specs.Groups.{begins};
 ghost use Rattle.format_codes.specs.Sections.{size_behind, character_size};
@@ -70,4 +71,17 @@ pub fn behind_word<'a>(text: &'a str, word: &[u8]) -> Option<&'a str>
         return None;
     }
     Some(behind_ascii(text, word.len() - 1))
+}
+
+/// What stands before the first such ASCII character, and what behind it; all and nothing where
+/// there is none.
+pub fn around_first(text: &str, sign: char) -> (&str, &str)
+    requires { sign < 128 }
+    ensures before { result.0.now ≡ before_first (λ b. b == sign) text.now }
+    ensures behind { result.1.now ≡ after_first (λ b. b == sign) text.now }
+{
+    match text.split_once(sign) {
+        Some(parts) => parts,
+        None => (text, ""),
+    }
 }
