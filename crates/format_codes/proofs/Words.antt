@@ -1,6 +1,6 @@
 -- Words in either case, and where they end.
-use Rattle.std.proofs.Common.{◌≡◌, ◌<◌, ◌≤◌, ◌+◌, ◌-◌, ℕ, Bool, true, false, List, refl, sym, ◌↔◌, IsTrue}
-use Rattle.std.proofs.Common.{rules, length-take, get_or-take, length, take, map, ap, ◌∙◌, arith, get_or, min}
+use Rattle.std.proofs.Common.{◌≡◌, ◌<◌, ◌≤◌, ◌-◌, ℕ, Bool, true, false, List, refl, sym, ◌↔◌, IsTrue}
+use Rattle.std.proofs.Common.{rules, length-take, get_or-take, length, take, map, ap, ◌∙◌, arith, get_or}
 use Rattle.std.specs.Char.{to_ascii_lowercase}
 use Rattle.std.specs.Str.{bytes_eq, IsAscii}
 use Rattle.std.proofs.lemmas.Slice.Eq.{bytes_eq-Decides}

@@ -1,9 +1,10 @@
 -- The conditions of sections, and which numbers meet them. A number is a pair: a whole number, and
 -- the power of ten that it is taken times.
-use Rattle.std.specs.Prelude.{ℕ, ◌^◌, ◌&&◌, ◌||◌, not, Bool, false, List, [], ◌∷◌, Option, Some, None}
+use Rattle.std.specs.Prelude.{ℕ, ◌^◌, not, Bool, false, List, [], ◌∷◌, Option, Some, None}
 use Rattle.std.specs.Prelude.{ℤ, pos, negsuc, ◌-ℤ◌, ◌*ℤ◌}
 use Rattle.std.specs.Int.{is_negative, is_positive}
-use Rattle.std.specs.Ordering.{Ordering, int_cmp, is_eq, is_ge, is_gt, is_le, is_lt, is_ne}
+use Rattle.std.specs.declared.cmp.Ordering.{Ordering}
+use Rattle.std.specs.Ordering.{int_cmp, is_eq, is_ge, is_gt, is_le, is_lt, is_ne}
 use Rattle.format_codes.specs.declared.piece.CodePiece.{CodePiece}
 use Rattle.format_codes.specs.declared.piece.Comparison.{Comparison}
 use Rattle.format_codes.specs.declared.piece.Comparison.TheVariants as compares
