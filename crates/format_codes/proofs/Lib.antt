@@ -2,3 +2,4 @@ pub mod Words
 pub mod Boundaries
 pub mod Literals
 pub mod CodesCut
+pub mod TimesTold

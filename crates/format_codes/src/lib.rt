@@ -7,6 +7,7 @@ mod kind;
 mod piece;
 mod shown_format;
 mod text;
+mod timing;
 
 pub use kind::SectionKind;
 pub use piece::{CodePiece, Comparison, Condition, Filler, HalfDay, TimeUnit};
