@@ -1,6 +1,7 @@
 //! Number format codes, cut into sections of pieces.
 #![tactic(auto)]
 
+mod condition;
 mod cutting;
 mod group;
 mod kind;
