@@ -3,3 +3,5 @@ pub mod Boundaries
 pub mod Literals
 pub mod CodesCut
 pub mod TimesTold
+pub mod Orders
+pub mod Divided

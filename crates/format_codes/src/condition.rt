@@ -1,7 +1,9 @@
 //! Conditions of sections, and which numbers meet them.
 ghost use Rattle.std.specs.Prelude.{◌≡◌, ◌*◌, ◌^◌, ◌-ℤ◌};
+ghost use Rattle.std.specs.Int.{is_negative};
 ghost use Rattle.std.specs.Ordering.{nat_cmp};
 ghost use Rattle.format_codes.specs.Conditions.{condition_in, positive_part, number_cmp, holds_by};
+ghost use Rattle.format_codes.specs.Conditions.{signed_cmp};
 ghost use Rattle.format_codes.specs.Conditions.{meets, takes, holds_below_0, leaves_sign_out};
 
 use crate::piece::{CodePiece, Comparison, Condition};
@@ -33,16 +35,46 @@ fn scaled_cmp(size: u128, zeros: usize, other: u128) -> Ordering
 }
 
 /// How a size times ten to a power stands to another one, both over the lesser of their powers.
+#[tactic(auto, using(crate::proofs::Orders::reversed))]
 fn size_cmp(size: u128, power: i32, other: u128, other_power: i32) -> Ordering
     ensures { result ≡ nat_cmp (size * 10 ^ positive_part (power -ℤ other_power))
         (other * 10 ^ positive_part (other_power -ℤ power)) }
 {
-    let above = i64::from(power) - i64::from(other_power);
-    if above >= 0 {
-        scaled_cmp(size, above as usize, other)
+    if power >= other_power {
+        let zeros = i64::from(power) - i64::from(other_power);
+        scaled_cmp(size, zeros as usize, other)
     } else {
-        scaled_cmp(other, -above as usize, size).reverse()
+        let zeros = i64::from(other_power) - i64::from(power);
+        scaled_cmp(other, zeros as usize, size).reverse()
     }
+}
+
+/// How two numbers stand, by which of them are below 0 and how their sizes stand.
+fn signed_cmp(is_below: bool, is_other_below: bool, by_size: Ordering) -> Ordering
+    ensures { result ≡ signed_cmp is_below is_other_below by_size }
+{
+    match (is_below, is_other_below) {
+        (true, true) => by_size.reverse(),
+        (true, false) => Ordering::Less,
+        (false, true) => Ordering::Greater,
+        (false, false) => by_size,
+    }
+}
+
+/// Whether a number is below 0.
+fn is_below_0(number: i128) -> bool
+    ensures { result ≡ is_negative number }
+{
+    number < 0
+}
+
+/// How a whole number times ten to a power stands to another one.
+#[tactic(auto, using(crate::proofs::Orders::by_signs))]
+fn whole_cmp(whole: i128, power: i32, other: i128, other_power: i32) -> Ordering
+    ensures { result ≡ number_cmp (whole, power) (other, other_power) }
+{
+    let by_size = size_cmp(whole.unsigned_abs(), power, other.unsigned_abs(), other_power);
+    signed_cmp(is_below_0(whole), is_below_0(other), by_size)
 }
 
 /// How a number stands to another; each is a whole number, and the power of ten that it is taken
@@ -50,13 +82,7 @@ fn size_cmp(size: u128, power: i32, other: u128, other_power: i32) -> Ordering
 fn number_cmp(number: (i128, i32), other: (i128, i32)) -> Ordering
     ensures { result ≡ number_cmp number other }
 {
-    let by_size = size_cmp(number.0.unsigned_abs(), number.1, other.0.unsigned_abs(), other.1);
-    match (number.0 < 0, other.0 < 0) {
-        (true, true) => by_size.reverse(),
-        (true, false) => Ordering::Less,
-        (false, true) => Ordering::Greater,
-        (false, false) => by_size,
-    }
+    whole_cmp(number.0, number.1, other.0, other.1)
 }
 
 /// Whether a comparison holds of two numbers, by how the first stands to the second.

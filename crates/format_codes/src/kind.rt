@@ -29,7 +29,7 @@ pub enum SectionKind {
 }
 
 /// A kind, where a section is sound.
-fn kind_if(sound: bool, kind: SectionKind) -> Option<SectionKind>
+pub fn kind_if(sound: bool, kind: SectionKind) -> Option<SectionKind>
     ensures { result ≡ kind_if sound kind }
 {
     if sound { Some(kind) } else { None }
