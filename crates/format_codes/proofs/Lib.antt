@@ -5,3 +5,5 @@ pub mod CodesCut
 pub mod TimesTold
 pub mod Orders
 pub mod Divided
+pub mod TextsTaken
+pub mod NumbersKept
