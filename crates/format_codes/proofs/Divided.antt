@@ -1,12 +1,11 @@
 -- Pieces that are divided from the left.
-use Rattle.std.proofs.Common.{◌≡◌, ◌<◌, ◌≤◌, ◌++◌, ◌+◌, ℕ, suc, Bool, true, false, cond, List, [], ◌∷◌, length, take}
-use Rattle.std.proofs.Common.{drop, refl, sym, ap, ◌∙◌, arith, rules, map, append_assoc}
+use Rattle.std.proofs.Common.{◌≡◌, ◌++◌, ◌+◌, ℕ, suc, Bool, true, false, cond, List, [], ◌∷◌, length, take}
+use Rattle.std.proofs.Common.{drop, refl, sym, ap, ◌∙◌, arith, map, append_assoc}
 use Rattle.std.specs.Global.{Vec}
 use Rattle.std.specs.List.{onto_first, slice_split, position_or_len}
 use Rattle.std.specs.Prelude.{not}
 use Rattle.std.proofs.lemmas.List.{map-append}
 use Rattle.format_codes.specs.declared.piece.CodePiece.{CodePiece}
-use Rattle.format_codes.specs.declared.piece.CodePiece.TheVariants as piece
 use Rattle.format_codes.specs.Pieces.{is_divider}
 
 -- the section in front, and the others
@@ -25,12 +24,12 @@ longer first section (sign ∷ others) = refl
 by_first : (divides : Bool) (first : CodePiece) (others : List CodePiece) →
     slice_split is_divider others
     ≡ front_and_others (take (position_or_len is_divider others) others)
-        (drop (position_or_len is_divider others) others) →
+    (drop (position_or_len is_divider others) others) →
     cond divides ([] ∷ slice_split is_divider others)
-        (onto_first first (slice_split is_divider others))
+    (onto_first first (slice_split is_divider others))
     ≡ front_and_others
-        (take (cond (not divides) (1 + position_or_len is_divider others) 0) (first ∷ others))
-        (drop (cond (not divides) (1 + position_or_len is_divider others) 0) (first ∷ others))
+    (take (cond (not divides) (1 + position_or_len is_divider others) 0) (first ∷ others))
+    (drop (cond (not divides) (1 + position_or_len is_divider others) 0) (first ∷ others))
 by_first true first others told = refl
 by_first false first others told =
     let place = position_or_len is_divider others in
@@ -43,7 +42,7 @@ by_first false first others told =
 divided_at : (pieces : List CodePiece) →
     slice_split is_divider pieces
     ≡ front_and_others (take (position_or_len is_divider pieces) pieces)
-        (drop (position_or_len is_divider pieces) pieces)
+    (drop (position_or_len is_divider pieces) pieces)
 divided_at [] = refl
 divided_at (first ∷ others) = by_first (is_divider first) first others (divided_at others)
 
@@ -95,9 +94,9 @@ pub all_divided : (old new : List (Vec CodePiece)) (section : Vec CodePiece)
     map (λ s. s.items) new ≡ map (λ s. s.items) old ++ slice_split is_divider pieces
 all_divided old new section pieces behind size pushed place front back none =
     let at_place : section.items ≡ take (position_or_len is_divider pieces) pieces =
-        front ∙ ap (λ n. take n pieces) place in
+    front ∙ ap (λ n. take n pieces) place in
     let left : drop (position_or_len is_divider pieces) pieces ≡ [] =
-        ap (λ n. drop n pieces) (sym place) ∙ (sym back ∙ empty behind none) in
+    ap (λ n. drop n pieces) (sym place) ∙ (sym back ∙ empty behind none) in
     ap (map (λ s. s.items)) pushed
     ∙ (map-append (λ s. s.items) old (section ∷ [])
     ∙ ap (λ xs. map (λ s. s.items) old ++ xs)

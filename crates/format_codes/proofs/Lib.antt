@@ -7,3 +7,4 @@ pub mod Orders
 pub mod Divided
 pub mod TextsTaken
 pub mod NumbersKept
+pub mod FormatsCut

@@ -4,12 +4,10 @@ use Rattle.std.proofs.Common.{get_or, refl, sym, ap, ◌∙◌, arith, rules, Op
 use Rattle.std.specs.Prelude.{is_some}
 use Rattle.std.specs.Global.{Vec}
 use Rattle.std.specs.List.{list_all}
-use Rattle.std.specs.Option.{option_map}
 use Rattle.format_codes.specs.declared.kind.SectionKind.{SectionKind}
 use Rattle.format_codes.specs.declared.piece.CodePiece.{CodePiece}
-use Rattle.format_codes.specs.declared.shown_format.NumberSection.{NumberSection}
 use Rattle.format_codes.specs.Kinds.{kind_of}
-use Rattle.format_codes.specs.ShownFormats.{kept_of_kind, kept_section, section_kept}
+use Rattle.format_codes.specs.ShownFormats.{kept_of_kind, kept_section}
 
 -- nothing is kept of a section without a kind alone
 no_kind : (found : Option SectionKind) (section : List CodePiece) →
@@ -30,7 +28,7 @@ pub one_fails : (sections : List (Vec CodePiece)) (i : ℕ) (section : Vec CodeP
 one_fails [] i section within at none = absurd (omega (arith, within))
 one_fails (first ∷ others) zero section within at none =
     let fails : is_some (kind_of first.items) ≡ false =
-        ap (λ s. is_some (kind_of s.items)) (sym at) ∙ no_kind (kind_of section.items) section.items none in
+    ap (λ s. is_some (kind_of s.items)) (sym at) ∙ no_kind (kind_of section.items) section.items none in
     ap (λ b. b && list_all (λ s. is_some (kind_of s)) (map (λ s. s.items) others)) fails
 one_fails (first ∷ others) (suc i) section within at none =
     ap (λ b. is_some (kind_of first.items) && b)

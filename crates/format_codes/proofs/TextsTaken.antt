@@ -1,13 +1,13 @@
 -- The section of texts, behind those of numbers.
-use Rattle.std.proofs.Common.{◌≡◌, ◌<◌, ◌≤◌, ◌++◌, ◌+◌, ◌-◌, ℕ, Bool, true, false, cond, List, [], ◌∷◌, length, take}
-use Rattle.std.proofs.Common.{refl, sym, ap, ◌∙◌, arith, rules, map, Option, Some, None, length-append}
+use Rattle.std.proofs.Common.{◌≡◌, ◌++◌, ℕ, Bool, true, false, cond, List, [], ◌∷◌, length}
+use Rattle.std.proofs.Common.{refl, sym, ap, ◌∙◌, arith, rules, map, Option, Some, None}
 use Rattle.std.specs.Prelude.{MatchOption, is_some}
 use Rattle.std.specs.List.{last_or}
 use Rattle.std.specs.Global.{Vec}
 use Rattle.std.specs.Option.{option_map, option_to_list}
 use Rattle.std.proofs.lemmas.List.{map-append, length-map}
 use Rattle.format_codes.specs.declared.piece.CodePiece.{CodePiece}
-use Rattle.format_codes.specs.Choosing.{is_for_texts, number_sections, text_section, text_section_of}
+use Rattle.format_codes.specs.Choosing.{is_for_texts, text_section, text_section_of}
 
 -- the last of some sections
 last_of : (other : Option (List CodePiece)) (front : List (List CodePiece)) (last : List CodePiece) →
@@ -34,9 +34,9 @@ pub texts_last : (front all : List (Vec CodePiece)) (last : Vec CodePiece) (n : 
     result ≡ is_some (text_section (map (λ s. s.items) all))
 texts_last front all last n result told size tests =
     let seen : map (λ s. s.items) all ≡ map (λ s. s.items) front ++ last.items ∷ [] =
-        ap (map (λ s. s.items)) told ∙ map-append (λ s. s.items) front (last ∷ []) in
+    ap (map (λ s. s.items)) told ∙ map-append (λ s. s.items) front (last ∷ []) in
     let count : n ≡ length (map (λ s. s.items) all) =
-        size ∙ sym (length-map all (λ s. s.items)) in
+    size ∙ sym (length-map all (λ s. s.items)) in
     tests
     ∙ (ap (λ k. is_for_texts k last.items) count
     ∙ (some_if (is_for_texts (length (map (λ s. s.items) all)) last.items) last.items
@@ -57,7 +57,7 @@ texts_taken [] new None told empty some = refl
 texts_taken (first ∷ others) new None told empty some = absurd (omega (arith, empty refl))
 texts_taken old new (Some last) told empty some =
     let seen : map (λ s. s.items) old ≡ map (λ s. s.items) new ++ last.items ∷ [] =
-        ap (map (λ s. s.items)) told ∙ map-append (λ s. s.items) new (last ∷ []) in
+    ap (map (λ s. s.items)) told ∙ map-append (λ s. s.items) new (last ∷ []) in
     let texts = texts_told _ _ _ seen in
     chosen_if _ last.items (ap is_some (sym texts) ∙ some) ∙ sym texts
 

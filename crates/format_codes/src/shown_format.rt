@@ -58,6 +58,13 @@ pub struct ChosenSection<'a> {
     pub is_unsigned: bool,
 }
 
+/// A number as a whole number, and the power of ten that it is taken times.
+fn parts_of(number: Decimal) -> (i128, i32)
+    ensures { result ≡ number_of number }
+{
+    (number.mantissa(), number.exponent())
+}
+
 /// The same pieces, kept in memory of their own.
 fn copy_of(alloc: Global, pieces: &[CodePiece]) -> Result<Vec<CodePiece>, AllocError>
     ensures { IfOk result (λ copy. copy.items ≡ pieces.now) }
@@ -117,7 +124,10 @@ fn section_size(pieces: &[CodePiece]) -> usize
     ensures value { result ≡ position_or_len is_divider pieces.now }
     ensures bound { result ≤ length pieces.now }
 {
-    pieces.iter().take_while(|piece| !piece.is_divider()).count()
+    pieces
+        .iter()
+        .take_while(|piece| !piece.is_divider())
+        .count()
 }
 
 /// The sections of pieces, which `;` divides.
@@ -190,7 +200,10 @@ fn has_no_text(section: &[CodePiece]) -> bool
 fn shown_texts(section: &[CodePiece]) -> usize
     ensures { result ≡ count_by shows_text section.now }
 {
-    section.iter().filter(|piece| piece.is_text_place() || piece.is_general()).count()
+    section
+        .iter()
+        .filter(|piece| piece.is_text_place() || piece.is_general())
+        .count()
 }
 
 /// Whether a section of texts is supported, if there is one.
@@ -295,9 +308,9 @@ impl FormatSections {
         match self.numbers.as_slice() {
             [] => None,
             [only] => only.if_taken(number, true, false),
-            [first, second] => first
-                .if_taken(number, number.0 >= 0, false)
-                .or_else(|| second.if_taken(number, true, first.condition.is_none())),
+            [first, second] => first.if_taken(number, number.0 >= 0, false).or_else(
+                || second.if_taken(number, true, first.condition.is_none()),
+            ),
             [first, second, third, ..] => first
                 .if_taken(number, number.0 > 0, false)
                 .or_else(|| second.if_taken(number, number.0 < 0, true))
@@ -306,9 +319,23 @@ impl FormatSections {
     }
 }
 
+impl FormatSections {
+    /// The section that shows texts.
+    fn text_section(&self) -> Option<&[CodePiece]>
+        ensures { option_map (λ pieces. pieces.now) result
+            ≡ option_map (λ pieces. pieces.items) self.now.texts }
+    {
+        match &self.texts {
+            Some(pieces) => Some(pieces),
+            None => None,
+        }
+    }
+}
+
 impl ShownFormat {
     /// Cuts a code once. A code that isn't supported, as one of more than 1,024 bytes, is kept as
     /// such, and no memory is asked for one that is longer.
+    #[tactic(auto, using(crate::proofs::FormatsCut::too_long, crate::proofs::FormatsCut::short_enough))]
     pub fn parse(alloc: Global, code: &str) -> Result<ShownFormat, AllocError>
         ensures { IfOk result (λ format. IsFormatOf code.now format) }
     {
@@ -329,24 +356,26 @@ impl ShownFormat {
     }
 
     /// The section that shows a number, if the code is supported and one takes the number.
+    #[tactic(auto, using(crate::proofs::FormatsCut::number_told, crate::proofs::FormatsCut::no_number_told))]
     pub fn section_for(&self, number: Decimal) -> Option<ChosenSection<'_>>
         ensures { (code : List ℕ) → IsFormatOf code self.now
             → option_map shown_by result ≡ number_section code (number_of number) }
     {
         match &self.sections {
-            Some(sections) => sections.section_for((number.mantissa(), number.exponent())),
+            Some(sections) => sections.section_for(parts_of(number)),
             None => None,
         }
     }
 
     /// The section that shows texts, if the code is supported and has one.
+    #[tactic(auto, using(crate::proofs::FormatsCut::texts_told, crate::proofs::FormatsCut::no_texts_told))]
     pub fn text_section(&self) -> Option<&[CodePiece]>
         ensures { (code : List ℕ) → IsFormatOf code self.now
             → option_map (λ pieces. pieces.now) result ≡ text_section_in code }
     {
         match &self.sections {
-            Some(FormatSections { texts: Some(pieces), .. }) => Some(pieces),
-            _ => None,
+            Some(sections) => sections.text_section(),
+            None => None,
         }
     }
 }
