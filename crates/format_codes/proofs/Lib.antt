@@ -8,3 +8,4 @@ pub mod Divided
 pub mod TextsTaken
 pub mod NumbersKept
 pub mod FormatsCut
+pub mod WithoutTexts

@@ -31,11 +31,13 @@ mod condition;
 mod cutting;
 mod group;
 mod kind;
+mod laws;
 mod piece;
 mod shown_format;
 mod text;
 mod timing;
 
 pub use kind::{SectionKind, denominator_in, is_fixed};
+pub use laws::texts_want_a_section;
 pub use piece::{CodePiece, Comparison, Condition, Filler, HalfDay, TimeUnit};
 pub use shown_format::{ChosenSection, ShownFormat};
