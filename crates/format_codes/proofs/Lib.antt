@@ -1,0 +1,11 @@
+pub mod Words
+pub mod Boundaries
+pub mod Literals
+pub mod CodesCut
+pub mod TimesTold
+pub mod Orders
+pub mod Divided
+pub mod TextsTaken
+pub mod NumbersKept
+pub mod Kept
+pub mod WithoutTexts
