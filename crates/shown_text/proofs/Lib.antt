@@ -1,0 +1,2 @@
+pub mod SizeSteps
+pub mod Zeros

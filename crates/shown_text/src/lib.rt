@@ -1,0 +1,10 @@
+//! The text that a spreadsheet program shows of a value under the code of its number format
+//! (ECMA-376 part 1, sections 18.8.30 and 18.8.31).
+//!
+//! Rooms: `sizes` (a number by its fifteen digits), `general` (numbers under General).
+#![tactic(auto)]
+
+mod general;
+mod sizes;
+
+pub use general::push_general;
