@@ -1,0 +1,66 @@
+-- The conditions of sections, and which numbers meet them. A number is a pair: a whole number, and
+-- the power of ten that it is taken times.
+use Rattle.std.specs.Prelude.{ℕ, ◌^◌, ◌&&◌, ◌||◌, not, Bool, false, List, [], ◌∷◌, Option, Some, None}
+use Rattle.std.specs.Prelude.{ℤ, pos, negsuc, ◌-ℤ◌, ◌*ℤ◌}
+use Rattle.std.specs.Int.{is_negative, is_positive}
+use Rattle.format_codes.specs.declared.piece.CodePiece.{CodePiece}
+use Rattle.format_codes.specs.declared.piece.Comparison.{Comparison}
+use Rattle.format_codes.specs.declared.piece.Comparison.TheVariants as compares
+use Rattle.format_codes.specs.declared.piece.Condition.{Condition}
+use Rattle.format_codes.specs.Pieces.{as_condition}
+
+-- the first of two conditions
+abbrev pub first_condition : Option Condition → Option Condition → Option Condition
+first_condition None other = other
+first_condition (Some found) other = Some found
+
+-- the condition of a section: its first one
+abbrev pub condition_in : List CodePiece → Option Condition
+condition_in [] = None
+condition_in (first ∷ others) = first_condition (as_condition first) (condition_in others)
+
+-- a whole number, and 0 in place of one below 0
+abbrev pub positive_part : ℤ → ℕ
+positive_part (pos n) = n
+positive_part (negsuc n) = 0
+
+-- a number over the lesser of two powers of ten
+abbrev pub over_lesser : ℤ × ℤ → ℤ × ℤ → ℤ
+over_lesser number other = number.0 *ℤ pos (10 ^ positive_part (number.1 -ℤ other.1))
+
+-- how far a number lies above another, over the lesser of their powers of ten
+abbrev pub gap : ℤ × ℤ → ℤ × ℤ → ℤ
+gap number other = over_lesser number other -ℤ over_lesser other number
+
+-- a comparison holds of two numbers, by how far the first lies above the second
+abbrev pub holds_by : Comparison → ℤ → Bool
+holds_by compares.Below d = is_negative d
+holds_by compares.UpTo d = not (is_positive d)
+holds_by compares.Above d = is_positive d
+holds_by compares.From d = not (is_negative d)
+holds_by compares.Equal d = not (is_negative d) && not (is_positive d)
+holds_by compares.Unequal d = is_negative d || is_positive d
+
+-- a number meets a condition
+abbrev pub meets : ℤ × ℤ → Condition → Bool
+meets number condition = holds_by condition.comparison (gap number condition.number)
+
+-- a section takes a number: by its condition, or else as its place says
+abbrev pub takes : ℤ × ℤ → Bool → Option Condition → Bool
+takes number else_takes None = else_takes
+takes number else_takes (Some condition) = meets number condition
+
+-- a comparison with such a number holds of numbers below 0 alone
+abbrev pub holds_below_0 : Comparison → ℤ → Bool
+holds_below_0 compares.Below n = not (is_positive n)
+holds_below_0 compares.UpTo n = is_negative n
+holds_below_0 compares.Above n = false
+holds_below_0 compares.From n = false
+holds_below_0 compares.Equal n = is_negative n
+holds_below_0 compares.Unequal n = false
+
+-- A section leaves the sign out: its condition holds of numbers below 0 alone, or its place says so.
+abbrev pub leaves_sign_out : Bool → Option Condition → Bool
+leaves_sign_out else_out None = else_out
+leaves_sign_out else_out (Some condition) =
+    holds_below_0 condition.comparison condition.number.0
