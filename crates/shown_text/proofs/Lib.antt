@@ -1,2 +1,3 @@
+pub mod DigitSteps
 pub mod SizeSteps
 pub mod Zeros

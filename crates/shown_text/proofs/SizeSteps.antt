@@ -16,6 +16,7 @@ use Rattle.decimals.proofs.Rounded.{size_signed}
 use Rattle.decimals.proofs.RoundedLaws.{has_digits, nearest_zero}
 use Rattle.excel_dates.specs.Serials.{nearest_at}
 use Rattle.excel_dates.proofs.SerialSteps.{nothing_left, by_false, not_less}
+use Rattle.shown_text.specs.Digits.{digits_above_0, nearest_digits}
 use Rattle.shown_text.specs.GeneralText.{shown_digits, has_nine_places, general_places}
 use Rattle.shown_text.specs.GeneralText.{first_power, scientific, text_in_places, general_size}
 
@@ -100,3 +101,10 @@ past_limit n power places some few is over =
     ∙ (ap (text_in_places n power) is
     ∙ by_false (nat_lt (nearest_at n (power +ℤ pos places)) (10 ^ (11 + places))) _ _
     (not_less _ _ (omega (arith, limit, over)))))
+
+-- no digits are left of a number that is far below 1
+pub no_digits : (n : ℕ) (power : ℤ) → n ≤ 10 ^ 15 → power <ℤ pos 0 → 39 ≤ nat_abs power →
+    [] ≡ nearest_digits n power
+no_digits n (pos p) small below far = absurd (omega (arith, ints))
+no_digits n (negsuc p) small below far =
+    ap (λ k. digits_above_0 k 0) (nothing_left (p + 1) n (omega (arith, far)) (omega (arith, small)))

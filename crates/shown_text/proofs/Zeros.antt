@@ -112,3 +112,16 @@ pub zero_cut : (width n : ℕ) → n ≡ 0 →
 zero_cut width n is =
     ap (λ k. behind_point (without_trailing_zeros (padded width k))) is
     ∙ ap behind_point (zero_padded width)
+
+-- zeros behind digits
+pub zeros_added : (ds : List ℕ) (n : ℕ) →
+    trailing_zeros (ds ++ replicate n 48) ≡ n + trailing_zeros ds
+zeros_added ds n =
+    let zeros = replicate {A = ℕ} n 48 in
+    let whole : (trailing_zeros zeros == length (reverse zeros)) ≡ true =
+    grind (arith, nat_tests, length-reverse zeros, length-replicate {A = ℕ} n 48, all_zeros n) in
+    ap (prefix_len (λ b. b == 48)) (reverse-append ds zeros)
+    ∙ (prefix_len-append (λ b. b == 48) (reverse zeros) (reverse ds)
+    ∙ (by_true (trailing_zeros zeros == length (reverse zeros))
+    (length (reverse zeros) + trailing_zeros ds) (trailing_zeros zeros) whole
+    ∙ (omega (arith, length-reverse zeros, length-replicate {A = ℕ} n 48))))

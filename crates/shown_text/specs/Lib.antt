@@ -1,1 +1,4 @@
+pub mod Digits
 pub mod GeneralText
+pub mod GivenDigits
+pub mod NumberTexts

@@ -11,6 +11,7 @@ ghost use Rattle.shown_text.specs.GeneralText.{behind_point, exponent_text, scie
 ghost use Rattle.shown_text.specs.GeneralText.{with_places, general_places, has_nine_places};
 ghost use Rattle.shown_text.specs.GeneralText.{first_power, general_size, general_text};
 
+use crate::given_digits::without_trailing_zeros;
 use crate::sizes::{Size, digit_count, nearest_at};
 use cell_data::Decimal;
 use excel_dates::{nearest, push_padded, push_zeros};
@@ -19,20 +20,6 @@ use std::alloc::AllocError;
 
 /// How many significant digits a size has that is scientific.
 const SCIENTIFIC_DIGITS: usize = 6;
-
-/// The digits without the zeros at their end.
-fn without_trailing_zeros(digits: &str) -> &str
-    requires { IsAscii digits.now }
-    ensures { result.now ≡ without_trailing_zeros digits.now }
-{
-    let bytes = digits.as_bytes();
-    let mut len = bytes.len();
-    while len > 0 && bytes[len - 1] == b'0' {
-        len -= 1;
-    }
-    let (front, _) = digits.split_at(len);
-    front
-}
 
 /// Appends `-` where the number is below 0, and nothing elsewhere.
 pub fn push_sign(out: &mut String, is_negative: bool) -> Result<(), AllocError>

@@ -4,7 +4,9 @@
 //! Rooms: `sizes` (a number by its fifteen digits), `general` (numbers under General).
 #![tactic(auto)]
 
+mod digits;
 mod general;
+mod given_digits;
 mod sizes;
 
 pub use general::push_general;

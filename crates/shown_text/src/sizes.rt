@@ -3,6 +3,7 @@ ghost use Rattle.std.specs.Prelude.{◌≡◌, ◌+◌, ◌^◌, ◌<◌, ◌≤
 ghost use Rattle.decimals.specs.Decimal.{number_of};
 ghost use Rattle.decimals.specs.Rounding.{digit_count};
 ghost use Rattle.excel_dates.specs.Serials.{nearest_at};
+ghost use Rattle.shown_text.specs.Digits.{digits_above_0, nearest_digits};
 ghost use Rattle.shown_text.specs.GeneralText.{shown_digits, first_power};
 
 use cell_data::Decimal;
@@ -46,6 +47,26 @@ pub fn nearest_at(number: u128, power: i64) -> Option<u128>
         Some(nearest(number, places as u32))
     } else {
         Some(0)
+    }
+}
+
+/// The whole number that is nearest to a size times ten to a power, halves upward, without the zeros
+/// behind it, and how many these are.
+pub fn nearest_whole(number: u128, power: i64) -> (u128, usize)
+    requires few { number ≤ 10 ^ 15 }
+    requires near { nat_abs power < 2 ^ 62 }
+    ensures value { digits_above_0 result.0 result.1 ≡ nearest_digits number power }
+    ensures few { result.1 < 2 ^ 62 }
+    ensures small { result.0 ≤ 10 ^ 15 }
+{
+    let places = power.unsigned_abs();
+    if power >= 0 {
+        return (number, places as usize);
+    }
+    if places < 39 {
+        (nearest(number, places as u32), 0)
+    } else {
+        (0, 0)
     }
 }
 

@@ -1,6 +1,6 @@
 use Rattle.std.proofs.Common.{◌≡◌, ◌+◌, ◌≤◌, ◌==◌, length, take}
 use Rattle.std.specs.List.{suffix_len}
-use Rattle.shown_text.proofs.general.without_trailing_zeros.Given as goal
+use Rattle.shown_text.proofs.given_digits.without_trailing_zeros.Given as goal
 
 abbrev pub invariant-loop-len : goal.invariant-loop-len
 invariant-loop-len l = record {
