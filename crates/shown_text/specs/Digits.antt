@@ -1,8 +1,8 @@
 -- Digits in the places that a section has for them.
 use Rattle.std.specs.Prelude.{ℕ, ◌+◌, ◌-◌, ◌%◌, ◌==◌, ◌&&◌, ◌||◌, nat_lt, nat_le, min, Bool, not}
-use Rattle.std.specs.Prelude.{false, if◌then◌else◌, List, [], ◌∷◌, ◌++◌, length, drop, take, zero, suc}
-use Rattle.std.specs.Prelude.{replicate, slice_index, Option, Some, None, unwrap_or, count_by, ℤ, pos}
-use Rattle.std.specs.Prelude.{negsuc, option_to_list}
+use Rattle.std.specs.Prelude.{false, if◌then◌else◌, List, [], ◌∷◌, ◌++◌, length, drop, take, zero}
+use Rattle.std.specs.Prelude.{suc, replicate, slice_index, Option, Some, None, unwrap_or, count_by}
+use Rattle.std.specs.Prelude.{ℤ, pos, negsuc, option_to_list}
 use Rattle.std.specs.Fmt.{decimal}
 use Rattle.std.specs.List.{flat_map, before_first, after_first, after_last, position_or_len}
 use Rattle.std.specs.List.{suffix_len}
@@ -29,8 +29,8 @@ digit_at digits place =
     if nat_lt place (length digits)
     then Some (slice_index digits (length digits - (place + 1))) else None
 
--- The character that a place shows: its digit. Where it has none, `0` shows a zero, and so does each
--- place behind a `0`, which forces it; `?` shows a space, and `#` nothing.
+-- The character that a place shows: its digit. Where it has none, `0` shows a zero, and so does
+-- each place behind a `0`, which forces it; `?` shows a space, and `#` nothing.
 abbrev pub place_character : Filler → Bool → Option ℕ → Option ℕ
 place_character filler forced (Some digit) = Some digit
 place_character Zero forced None = Some 48

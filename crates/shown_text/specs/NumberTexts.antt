@@ -1,12 +1,11 @@
--- Sections of numbers, and those of numbers with a power of ten. A size is a whole number of at most
--- 15 digits times ten to a power.
-use Rattle.std.specs.Prelude.{ℕ, ◌+◌, ◌*◌, ◌/◌, ◌^◌, ◌==◌, nat_le, max, Bool, false}
-use Rattle.std.specs.Prelude.{if◌then◌else◌, List, [], ◌∷◌, ◌++◌, drop, ℤ, pos, negsuc, ◌+ℤ◌, ◌-ℤ◌}
-use Rattle.std.specs.Prelude.{neg_ℤ, nat_abs, count_by}
+-- Sections of numbers, and those of numbers with a power of ten. A size is a whole number of at
+-- most 15 digits times ten to a power.
+use Rattle.std.specs.Prelude.{ℕ, ◌+◌, ◌*◌, ◌/◌, ◌==◌, nat_lt, max, Bool, false, encode_utf8}
+use Rattle.std.specs.Prelude.{if◌then◌else◌, List, [], ◌∷◌, ◌++◌, drop, length, ℤ, pos, negsuc}
+use Rattle.std.specs.Prelude.{◌+ℤ◌, ◌-ℤ◌, neg_ℤ, nat_abs, count_by}
 use Rattle.std.specs.Fmt.{decimal}
 use Rattle.std.specs.Int.{is_negative}
 use Rattle.std.specs.List.{before_first, after_last, position_or_len}
-use Rattle.excel_dates.specs.Serials.{nearest_at}
 use Rattle.format_codes.specs.declared.piece.CodePiece.{CodePiece}
 use Rattle.format_codes.specs.declared.piece.CodePiece.TheVariants as piece
 use Rattle.format_codes.specs.Pieces.{has, is_comma, is_digit, is_exponent, is_percent}
@@ -29,11 +28,14 @@ thousands section =
 abbrev pub scale : List CodePiece → ℤ
 scale section = pos (2 * count_by is_percent section) -ℤ pos (3 * thousands section)
 
+-- the power of ten of a size in a section of numbers, with the places behind the point
+abbrev pub number_power : List CodePiece → ℤ → ℤ
+number_power section power = (power +ℤ scale section) +ℤ pos (fraction_count section)
+
 -- a size in a section of numbers: the nearest number of its places
 unfoldable pub number_text : List CodePiece → ℕ → ℤ → List ℕ
 number_text section n power =
-    laid_out false
-    (nearest_digits n ((power +ℤ scale section) +ℤ pos (fraction_count section))) section
+    laid_out false (nearest_digits n (number_power section power)) section
 
 -- the greatest multiple of `step` that is no greater
 abbrev pub whole_steps : ℕ → ℤ → ℤ
@@ -51,8 +53,8 @@ power_over front power over = (power -ℤ over) +ℤ pos (fraction_count front)
 -- a size over this power of ten has more digits than there are places
 abbrev pub overflows : List CodePiece → ℕ → ℤ → ℤ → Bool
 overflows front n power over =
-    nat_le (10 ^ (front_places front + fraction_count front))
-    (nearest_at n (power_over front power over))
+    nat_lt (front_places front + fraction_count front)
+    (length (nearest_digits n (power_over front power over)))
 
 -- the power of ten that is shown: a multiple of the places before the point, and the next one where
 -- the number over it would be rounded up to a digit more than these have
@@ -68,7 +70,8 @@ power_sign plus power = if is_negative power then 45 ∷ [] else (if plus then 4
 -- the letter of a power, its sign and its digits in the places behind
 abbrev pub power_digits : CodePiece → List CodePiece → ℤ → List ℕ
 power_digits (piece.Exponent letter plus) behind power =
-    letter ∷ with_digits false false (power_sign plus power) (decimal (nat_abs power)) behind
+    encode_utf8 letter
+    ++ with_digits false false (power_sign plus power) (decimal (nat_abs power)) behind
 power_digits other behind power = []
 
 -- the first of some pieces is the letter of a power
@@ -81,10 +84,18 @@ abbrev pub power_front : List CodePiece → ℕ → ℤ → ℤ → List ℕ
 power_front front n power over =
     laid_out (n == 0) (nearest_digits n (power_over front power over)) front
 
--- a size in a section with a power of ten; that of 0 is 0
+-- the power of ten over which a size is shown; that of 0 is 0
+abbrev pub power_in : List CodePiece → ℕ → ℤ → ℤ
+power_in front n power = if n == 0 then pos 0 else shown_power front n power
+
+-- a size in what stands before the letter of a power, and its power in what stands from there on
+abbrev pub power_parts : List CodePiece → List CodePiece → ℕ → ℤ → List ℕ
+power_parts front behind n power =
+    power_front front n power (power_in front n power)
+    ++ power_behind behind (power_in front n power)
+
+-- a size in a section with a power of ten
 unfoldable pub power_text : List CodePiece → ℕ → ℤ → List ℕ
 power_text section n power =
-    let front = before_first is_exponent section in
-    let over = if n == 0 then pos 0 else shown_power front n power in
-    power_front front n power over
-    ++ power_behind (drop (position_or_len is_exponent section) section) over
+    power_parts (before_first is_exponent section)
+    (drop (position_or_len is_exponent section) section) n power

@@ -3,13 +3,15 @@
 ghost use Rattle.std.specs.Prelude.{◌≡◌, ◌-◌, ◌<◌, ◌≤◌, ◌++◌, length, take};
 ghost use Rattle.std.specs.Prelude.{string_bytes, OnOk, OnErr, IfSome};
 ghost use Rattle.escaped_text.specs.Escaped.{Extends};
-ghost use Rattle.format_codes.specs.Pieces.{has, is_digit, is_comma, is_zero, own_text};
+ghost use Rattle.std.specs.List.{after_last, position_or_len};
+ghost use Rattle.format_codes.specs.Pieces.{has, is_digit, is_point, is_zero, own_text};
 ghost use Rattle.shown_text.specs.Digits.{place_character};
 ghost use Rattle.shown_text.specs.Digits.{separator, placed_text, surplus, among_places};
 ghost use Rattle.shown_text.specs.Digits.{piece_in_place, places_behind, in_places, place_count};
 ghost use Rattle.shown_text.specs.Digits.{first_place, last_place, is_grouped, own_texts};
 ghost use Rattle.shown_text.specs.Digits.{with_digits, hidden_places, fraction_character};
-ghost use Rattle.shown_text.specs.Digits.{fraction_piece, fraction_places, laid_out};
+ghost use Rattle.shown_text.specs.Digits.{fraction_piece, fraction_places, before_point};
+ghost use Rattle.shown_text.specs.Digits.{after_point, whole_text, behind_text, laid_out};
 ghost use Rattle.shown_text.specs.GivenDigits.{digits_in};
 
 use crate::given_digits::Digits;
@@ -230,4 +232,180 @@ pub fn push_with_digits(
     out.push_str(front)?;
     push_surplus(out, grouped, digits, places)?;
     push_in_places(out, grouped, digits, forced, places, from)
+}
+
+/// How many places stand behind the last `0`.
+fn unforced_places(pieces: &[CodePiece]) -> usize
+    ensures { result ≡ place_count (after_last is_zero pieces.now) }
+{
+    let mut last = pieces.len();
+    while last > 0 && !pieces[last - 1].is_zero() {
+        last -= 1;
+    }
+    let (_, behind) = pieces.split_at(last);
+    place_count(behind)
+}
+
+/// How many places behind the point, from the last one, show no digit.
+fn hidden_places(digits: &Digits, pieces: &[CodePiece]) -> usize
+    ensures { result ≡ hidden_places (digits_in digits.now) pieces.now }
+{
+    let unforced = unforced_places(pieces);
+    if digits.len() == 0 {
+        return unforced;
+    }
+    digits.trailing_zeros().min(unforced)
+}
+
+/// The character of a place behind the point, which has so many places behind it.
+fn fraction_character(filler: Filler, digits: &Digits, hidden: usize, place: usize) -> Option<u8>
+    ensures value { result ≡ fraction_character filler (digits_in digits.now) hidden place }
+    ensures ascii { IfSome result (λ c. c < 128) }
+{
+    if place < hidden {
+        return place_character(filler, false, None);
+    }
+    Some(digits.at(place).unwrap_or(b'0'))
+}
+
+/// Appends a piece behind the point with the digit of its place.
+fn push_fraction_piece(
+    out: &mut String,
+    digits: &Digits,
+    hidden: usize,
+    place: usize,
+    piece: CodePiece,
+) -> Result<(), AllocError>
+    ensures ok { OnOk result (string_bytes out.new ≡ string_bytes out.old
+        ++ fraction_piece (digits_in digits.now) hidden place piece) }
+    ensures err { OnErr result (Extends (string_bytes out.old) (string_bytes out.new)) }
+{
+    match piece {
+        CodePiece::Digit(filler) => {
+            match fraction_character(filler, digits, hidden, place) {
+                Some(character) => out.push(char::from(character)),
+                None => Ok(()),
+            }
+        }
+        other => push_among_places(out, other),
+    }
+}
+
+/// Appends the pieces behind the point with digits in their places, which are so many.
+fn push_fraction_places(
+    out: &mut String,
+    digits: &Digits,
+    hidden: usize,
+    places: usize,
+    pieces: &[CodePiece],
+) -> Result<(), AllocError>
+    ensures ok { OnOk result (string_bytes out.new ≡ string_bytes out.old
+        ++ fraction_places (digits_in digits.now) hidden places pieces.now) }
+    ensures err { OnErr result (Extends (string_bytes out.old) (string_bytes out.new)) }
+{
+    let mut left = places;
+    for piece in pieces {
+        push_fraction_piece(out, digits, hidden, left.saturating_sub(1), *piece)?;
+        left = places_behind(left, *piece);
+    }
+    Ok(())
+}
+
+/// How many pieces stand before the point.
+fn point_place(section: &[CodePiece]) -> usize
+    ensures value { result ≡ position_or_len is_point section.now }
+    ensures within { result ≤ length section.now }
+{
+    let mut place = 0;
+    while place < section.len() && !section[place].is_point() {
+        place += 1;
+    }
+    place
+}
+
+/// The pieces before the point.
+pub fn before_point(section: &[CodePiece]) -> &[CodePiece]
+    ensures { result.now ≡ before_point section.now }
+{
+    let (before, _) = section.split_at(point_place(section));
+    before
+}
+
+/// The pieces behind the point, if there is one.
+pub fn after_point(section: &[CodePiece]) -> &[CodePiece]
+    ensures { result.now ≡ after_point section.now }
+{
+    let (_, from) = section.split_at(point_place(section));
+    let (_, after) = from.split_at(from.len().min(1));
+    after
+}
+
+/// Whether there is a point.
+fn has_point(section: &[CodePiece]) -> bool
+    ensures { result ≡ has is_point section.now }
+{
+    section.iter().any(|piece| piece.is_point())
+}
+
+/// Appends the pieces before the point.
+fn push_whole(
+    out: &mut String,
+    shows_digits: bool,
+    forced: bool,
+    digits: &Digits,
+    before: &[CodePiece],
+) -> Result<(), AllocError>
+    ensures ok { OnOk result (string_bytes out.new ≡ string_bytes out.old
+        ++ whole_text shows_digits forced (digits_in digits.now) before.now) }
+    ensures err { OnErr result (Extends (string_bytes out.old) (string_bytes out.new)) }
+{
+    if has_places(before) {
+        return push_with_digits(out, is_grouped(before), forced, "", digits, before);
+    }
+    push_own_texts(out, before)?;
+    if shows_digits {
+        digits.push_to(out)?;
+    }
+    Ok(())
+}
+
+/// Appends the pieces behind the point.
+fn push_behind(
+    out: &mut String,
+    shows_digits: bool,
+    digits: &Digits,
+    after: &[CodePiece],
+) -> Result<(), AllocError>
+    ensures ok { OnOk result (string_bytes out.new ≡ string_bytes out.old
+        ++ behind_text shows_digits (digits_in digits.now) after.now) }
+    ensures err { OnErr result (Extends (string_bytes out.old) (string_bytes out.new)) }
+{
+    if !shows_digits {
+        return push_own_texts(out, after);
+    }
+    push_fraction_places(out, digits, hidden_places(digits, after), place_count(after), after)
+}
+
+/// Appends pieces, and a point among them, with the digits of a whole number in their places, the
+/// last ones behind the point. `forced` has each place before the point show a zero at least.
+pub fn push_laid_out(
+    out: &mut String,
+    forced: bool,
+    digits: &Digits,
+    section: &[CodePiece],
+) -> Result<(), AllocError>
+    ensures ok { OnOk result (string_bytes out.new ≡ string_bytes out.old
+        ++ laid_out forced (digits_in digits.now) section.now) }
+    ensures err { OnErr result (Extends (string_bytes out.old) (string_bytes out.new)) }
+{
+    let after = after_point(section);
+    let whole = digits.without_last(place_count(after));
+    let shows_digits = has_places(section);
+    let shows_point = has_point(section);
+    push_whole(out, shows_point && shows_digits, forced, &whole, before_point(section))?;
+    if shows_point {
+        out.push_str(".")?;
+        push_behind(out, shows_digits, digits, after)?;
+    }
+    Ok(())
 }

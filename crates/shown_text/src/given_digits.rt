@@ -3,6 +3,9 @@ ghost use Rattle.std.specs.Prelude.{◌≡◌, ◌<◌, ◌≤◌, ◌^◌, leng
 ghost use Rattle.std.specs.Str.{IsAscii};
 ghost use Rattle.decimals.specs.Decimals.{without_trailing_zeros};
 
+use excel_dates::push_zeros;
+use std::alloc::AllocError;
+
 /// Digits, of which the last are zeros that are only counted.
 #[derive(Clone, Copy)]
 pub struct Digits<'a> {
@@ -27,6 +30,8 @@ pub fn without_trailing_zeros(digits: &str) -> &str
 }
 
 impl Digits<'_> {
+    ghost use Rattle.std.specs.Prelude.{◌-◌, ◌++◌, take, string_bytes, OnOk, OnErr};
+    ghost use Rattle.escaped_text.specs.Escaped.{Extends};
     ghost use Rattle.decimals.specs.Decimals.{trailing_zeros};
     ghost use Rattle.shown_text.specs.Digits.{digit_at};
     ghost use Rattle.shown_text.specs.GivenDigits.{digits_in};
@@ -58,5 +63,31 @@ impl Digits<'_> {
         ensures { result ≡ trailing_zeros (digits_in self.now) }
     {
         self.zeros + (self.text.len() - without_trailing_zeros(self.text).len())
+    }
+
+    /// The digits in front of the last `places` ones.
+    pub fn without_last(&self, places: usize) -> Digits<'_>
+        ensures { digits_in result
+            ≡ take (length (digits_in self.now) - places) (digits_in self.now) }
+    {
+        if places <= self.zeros {
+            return Digits {
+                text: self.text,
+                zeros: self.zeros - places,
+            };
+        }
+        let left = self.text.len().saturating_sub(places - self.zeros);
+        let (text, _) = self.text.split_at(left);
+        Digits { text, zeros: 0 }
+    }
+
+    /// Appends the digits.
+    pub fn push_to(&self, out: &mut String) -> Result<(), AllocError>
+        ensures ok { OnOk result
+            (string_bytes out.new ≡ string_bytes out.old ++ digits_in self.now) }
+        ensures err { OnErr result (Extends (string_bytes out.old) (string_bytes out.new)) }
+    {
+        out.push_str(self.text)?;
+        push_zeros(out, self.zeros)
     }
 }

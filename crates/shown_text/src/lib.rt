@@ -7,6 +7,7 @@
 mod digits;
 mod general;
 mod given_digits;
+mod numbers;
 mod sizes;
 
 pub use general::push_general;

@@ -1,5 +1,5 @@
 //! A number without its sign, by fifteen significant digits.
-ghost use Rattle.std.specs.Prelude.{◌≡◌, ◌+◌, ◌^◌, ◌<◌, ◌≤◌, nat_abs, SomeIff};
+ghost use Rattle.std.specs.Prelude.{◌≡◌, ◌+◌, ◌^◌, ◌<◌, ◌≤◌, length, nat_abs, SomeIff};
 ghost use Rattle.decimals.specs.Decimal.{number_of};
 ghost use Rattle.decimals.specs.Rounding.{digit_count};
 ghost use Rattle.excel_dates.specs.Serials.{nearest_at};
@@ -70,6 +70,16 @@ pub fn nearest_whole(number: u128, power: i64) -> (u128, usize)
     }
 }
 
+/// How many digits the whole number has that is nearest to a size times ten to a power; 0 has none.
+pub fn nearest_len(number: u128, power: i64) -> usize
+    requires few { number ≤ 10 ^ 15 }
+    requires near { nat_abs power < 2 ^ 62 }
+    ensures { result ≡ length (nearest_digits number power) }
+{
+    let (whole, zeros) = nearest_whole(number, power);
+    if whole == 0 { 0 } else { digit_count(whole) + zeros }
+}
+
 impl Size {
     /// The nearest number of fifteen digits, halves away from 0, without its sign.
     pub fn of(number: &Decimal) -> Size
@@ -87,6 +97,7 @@ impl Size {
     /// The power of ten of the first digit.
     pub fn first_power(&self) -> i64
         ensures value { result ≡ first_power self.now.number self.now.power }
+        ensures near { nat_abs result < 2 ^ 33 }
     {
         let digits = digit_count(self.number);
         self.power + digits as i64 - 1
