@@ -1,8 +1,10 @@
 -- The conditions of sections, and which numbers meet them. A number is a pair: a whole number, and
 -- the power of ten that it is taken times.
-use Rattle.std.specs.Prelude.{ℕ, ◌^◌, ◌&&◌, ◌||◌, not, Bool, false, List, [], ◌∷◌, Option, Some, None}
+use Rattle.std.specs.Prelude.{ℕ, ◌^◌, not, Bool, false, List, [], ◌∷◌, Option, Some, None}
 use Rattle.std.specs.Prelude.{ℤ, pos, negsuc, ◌-ℤ◌, ◌*ℤ◌}
 use Rattle.std.specs.Int.{is_negative, is_positive}
+use Rattle.std.specs.declared.cmp.Ordering.{Ordering}
+use Rattle.std.specs.Ordering.{int_cmp, is_eq, is_ge, is_gt, is_le, is_lt, is_ne}
 use Rattle.format_codes.specs.declared.piece.CodePiece.{CodePiece}
 use Rattle.format_codes.specs.declared.piece.Comparison.{Comparison}
 use Rattle.format_codes.specs.declared.piece.Comparison.TheVariants as compares
@@ -28,22 +30,22 @@ positive_part (negsuc n) = 0
 abbrev pub over_lesser : ℤ × ℤ → ℤ × ℤ → ℤ
 over_lesser number other = number.0 *ℤ pos (10 ^ positive_part (number.1 -ℤ other.1))
 
--- how far a number lies above another, over the lesser of their powers of ten
-abbrev pub gap : ℤ × ℤ → ℤ × ℤ → ℤ
-gap number other = over_lesser number other -ℤ over_lesser other number
+-- how a number stands to another, both over the lesser of their powers of ten
+abbrev pub number_cmp : ℤ × ℤ → ℤ × ℤ → Ordering
+number_cmp number other = int_cmp (over_lesser number other) (over_lesser other number)
 
--- a comparison holds of two numbers, by how far the first lies above the second
-abbrev pub holds_by : Comparison → ℤ → Bool
-holds_by compares.Below d = is_negative d
-holds_by compares.UpTo d = not (is_positive d)
-holds_by compares.Above d = is_positive d
-holds_by compares.From d = not (is_negative d)
-holds_by compares.Equal d = not (is_negative d) && not (is_positive d)
-holds_by compares.Unequal d = is_negative d || is_positive d
+-- a comparison holds of two numbers, by how the first stands to the second
+abbrev pub holds_by : Comparison → Ordering → Bool
+holds_by compares.Below order = is_lt order
+holds_by compares.UpTo order = is_le order
+holds_by compares.Above order = is_gt order
+holds_by compares.From order = is_ge order
+holds_by compares.Equal order = is_eq order
+holds_by compares.Unequal order = is_ne order
 
 -- a number meets a condition
 abbrev pub meets : ℤ × ℤ → Condition → Bool
-meets number condition = holds_by condition.comparison (gap number condition.number)
+meets number condition = holds_by condition.comparison (number_cmp number condition.number)
 
 -- a section takes a number: by its condition, or else as its place says
 abbrev pub takes : ℤ × ℤ → Bool → Option Condition → Bool

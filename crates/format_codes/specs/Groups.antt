@@ -3,11 +3,11 @@
 use Rattle.std.specs.Prelude.{ℕ, ◌+◌, ◌-◌, ◌==◌, ◌&&◌, ◌||◌, nat_lt, Bool}
 use Rattle.std.specs.Prelude.{if◌then◌else◌, List, [], ◌∷◌, ◌++◌, length, take, drop, codes, map}
 use Rattle.std.specs.Prelude.{slice_index, Option, Some, None, ℤ}
-use Rattle.std.specs.Char.{to_ascii_lowercase}
-use Rattle.std.specs.List.{list_any, before_first, after_first}
-use Rattle.std.specs.Str.{bytes_eq, chars, str_to_ascii_lowercase, trim, all_ascii_digits}
+use Rattle.std.specs.Char.{is_ascii_digit, to_ascii_lowercase}
+use Rattle.std.specs.Option.{option_map}
+use Rattle.std.specs.List.{list_all, list_any, before_first, after_first}
+use Rattle.std.specs.Str.{bytes_eq, chars, str_eq_ignore_ascii_case, trim}
 use Rattle.decimals.specs.Decimals.{decimal_of}
-use Rattle.cell_data.specs.NumberFormat.{is_elapsed}
 use Rattle.format_codes.specs.declared.piece.CodePiece.{CodePiece}
 use Rattle.format_codes.specs.declared.piece.CodePiece.TheVariants as piece
 use Rattle.format_codes.specs.declared.piece.Comparison.{Comparison}
@@ -17,9 +17,9 @@ use Rattle.format_codes.specs.declared.piece.TimeUnit.{TimeUnit}
 use Rattle.format_codes.specs.declared.piece.TimeUnit.TheVariants.{Year, Month, Day, Hour, Minute}
 use Rattle.format_codes.specs.declared.piece.TimeUnit.TheVariants.{Second}
 
--- a text in small letters begins with a word in small letters
+-- a text begins with a word, in either case
 abbrev pub begins : List ℕ → List ℕ → Bool
-begins word text = bytes_eq (str_to_ascii_lowercase (take (length word) text)) word
+begins word text = str_eq_ignore_ascii_case (take (length word) text) word
 
 -- a text that stands for itself: its characters, or one piece where it has none
 abbrev pub literal_pieces : List ℕ → List CodePiece
@@ -36,8 +36,23 @@ date_unit letter =
     else (if letter == 115 then Some Second else None))))
 
 -- the unit of the small letter of a time that has passed; `m` is a minute
-abbrev pub passed_unit : ℕ → TimeUnit
-passed_unit letter = if letter == 104 then Hour else (if letter == 109 then Minute else Second)
+abbrev pub passed_unit : ℕ → Option TimeUnit
+passed_unit letter =
+    if letter == 104 then Some Hour
+    else (if letter == 109 then Some Minute
+    else (if letter == 115 then Some Second else None))
+
+-- each byte is this small letter, in either case
+abbrev pub all_are : ℕ → List ℕ → Bool
+all_are letter text = list_all (λ c. to_ascii_lowercase c == letter) text
+
+-- a time that has passed, by a content that is its letter once or repeated, in either case
+abbrev pub passed_piece : List ℕ → Option CodePiece
+passed_piece [] = None
+passed_piece (b ∷ bs) =
+    if all_are (to_ascii_lowercase b) bs
+    then option_map (λ unit. piece.Passed unit (length bs + 1)) (passed_unit (to_ascii_lowercase b))
+    else None
 
 -- a condition that compares with the number of a text
 abbrev pub condition_with : Comparison → Option (ℤ × ℤ) → CodePiece
@@ -49,15 +64,25 @@ condition_with comparison (Some number) =
 abbrev pub condition_by : Comparison → List ℕ → CodePiece
 condition_by comparison text = condition_with comparison (decimal_of (trim text))
 
--- the condition in brackets that these two bytes begin, the second one and others behind it
+-- how a condition compares that these two bytes begin
+abbrev pub comparison_in_front : ℕ → ℕ → Comparison
+comparison_in_front b c =
+    if b == 60 then (if c == 61 then UpTo else (if c == 62 then Unequal else Below))
+    else (if b == 62 then (if c == 61 then From else Above)
+    else Equal)
+
+-- how many bytes behind the first one tell how a condition compares
+abbrev pub size_of_comparison : Comparison → ℕ
+size_of_comparison UpTo = 1
+size_of_comparison From = 1
+size_of_comparison Unequal = 1
+size_of_comparison other = 0
+
+-- the condition in brackets that this byte begins, by what stands behind it
 abbrev pub condition_of_group : ℕ → List ℕ → CodePiece
 condition_of_group b bs =
-    if (b == 60) && (slice_index bs 0 == 61) then condition_by UpTo (drop 1 bs)
-    else (if (b == 62) && (slice_index bs 0 == 61) then condition_by From (drop 1 bs)
-    else (if (b == 60) && (slice_index bs 0 == 62) then condition_by Unequal (drop 1 bs)
-    else (if b == 60 then condition_by Below bs
-    else (if b == 62 then condition_by Above bs
-    else condition_by Equal bs))))
+    let comparison = comparison_in_front b (slice_index bs 0) in
+    condition_by comparison (drop (size_of_comparison comparison) bs)
 
 -- the colors that have names
 abbrev pub color_names : List (List ℕ)
@@ -65,15 +90,21 @@ color_names =
     codes "black" ∷ codes "blue" ∷ codes "cyan" ∷ codes "green" ∷ codes "magenta" ∷ codes "red"
     ∷ codes "white" ∷ codes "yellow" ∷ []
 
+-- the name of a color, in either case
+abbrev pub is_color_name : List ℕ → Bool
+is_color_name text = list_any (λ name. str_eq_ignore_ascii_case text name) color_names
+
 -- the digits behind the word Color
 abbrev pub is_color_number : List ℕ → Bool
-is_color_number text = nat_lt 0 (length text) && all_ascii_digits text
+is_color_number text = nat_lt 0 (length text) && list_all is_ascii_digit text
+
+-- the word Color and the number of a color
+abbrev pub is_numbered_color : List ℕ → Bool
+is_numbered_color text = begins (codes "color") text && is_color_number (trim (drop 5 text))
 
 -- a color: its name, or its number behind the word Color
 abbrev pub is_color : List ℕ → Bool
-is_color text =
-    list_any (λ name. bytes_eq (str_to_ascii_lowercase text) name) color_names
-    || (begins (codes "color") text && is_color_number (trim (drop 5 text)))
+is_color text = is_color_name text || is_numbered_color text
 
 -- a color, which shows nothing, or what isn't supported
 abbrev pub color_pieces : List ℕ → List CodePiece
@@ -89,7 +120,7 @@ is_usual front =
 abbrev pub is_english_number : List ℕ → Bool
 is_english_number tag =
     (length tag == 0) || (bytes_eq (drop (length tag - 2) tag) (codes "09")
-    || list_any (λ known. bytes_eq (str_to_ascii_lowercase tag) known)
+    || list_any (λ known. str_eq_ignore_ascii_case tag known)
     (codes "f800" ∷ codes "f400" ∷ []))
 
 -- a language by its name that is English, or the system's for a date or a time
@@ -113,12 +144,19 @@ currency_pieces text =
     literal_pieces (before_first (λ c. c == 45) text)
     ++ language_pieces (after_first (λ c. c == 45) text)
 
+-- what a group in brackets is that is no time, by its content
+abbrev pub untimed_pieces : List ℕ → List CodePiece
+untimed_pieces [] = piece.Unknown ∷ []
+untimed_pieces (b ∷ bs) =
+    if b == 36 then currency_pieces bs
+    else (if (b == 60) || ((b == 61) || (b == 62)) then condition_of_group b bs ∷ []
+    else color_pieces (b ∷ bs))
+
+-- a time that has passed, or what another group is
+abbrev pub passed_or_untimed : Option CodePiece → List ℕ → List CodePiece
+passed_or_untimed (Some passed) content = passed ∷ []
+passed_or_untimed None content = untimed_pieces content
+
 -- what a group in brackets is, by its content
 abbrev pub group_pieces : List ℕ → List CodePiece
-group_pieces [] = piece.Unknown ∷ []
-group_pieces (b ∷ bs) =
-    if is_elapsed (b ∷ bs)
-    then piece.Passed (passed_unit (to_ascii_lowercase b)) (length bs + 1) ∷ []
-    else (if b == 36 then currency_pieces bs
-    else (if (b == 60) || ((b == 61) || (b == 62)) then condition_of_group b bs ∷ []
-    else color_pieces (b ∷ bs)))
+group_pieces content = passed_or_untimed (passed_piece content) content

@@ -98,13 +98,18 @@ is_fraction section =
 abbrev pub is_no_number : CodePiece → Bool
 is_no_number p = is_unknown p || is_text_place p
 
+-- what a section is without a part of a date: a power, a fraction, or a number
+abbrev pub undated_kind : List CodePiece → Option SectionKind
+undated_kind section =
+    if has is_exponent section then kind_if (is_power_sound section) kind.Power
+    else (if is_fraction section then kind_if (is_fraction_sound section) kind.Fraction
+    else Some kind.Number)
+
 -- what a section is that shows a number, if it is supported
-abbrev pub kind_of : List CodePiece → Option SectionKind
+unfoldable pub kind_of : List CodePiece → Option SectionKind
 kind_of section =
     if has is_no_number section then None
     else (if has is_general section then kind_if (is_general_sound section) kind.General
     else (if has is_time section
     then kind_if (is_date_sound (timed_pieces section)) kind.Date
-    else (if has is_exponent section then kind_if (is_power_sound section) kind.Power
-    else (if is_fraction section then kind_if (is_fraction_sound section) kind.Fraction
-    else Some kind.Number))))
+    else undated_kind section))

@@ -23,17 +23,6 @@ is_second other = false
 abbrev pub zeros_in_front : List CodePiece → ℕ
 zeros_in_front pieces = prefix_len is_zero pieces
 
--- Behind seconds a point and zeros are digits of a second. `skip` pieces in front are passed over,
--- and `behind` says that seconds stand before these pieces.
-abbrev pub with_second_digits : ℕ → Bool → List CodePiece → List CodePiece
-with_second_digits skip behind [] = []
-with_second_digits (suc skip) behind (first ∷ others) = with_second_digits skip false others
-with_second_digits zero behind (first ∷ others) =
-    if behind && (is_point first && nat_lt 0 (zeros_in_front others))
-    then piece.SecondDigits (zeros_in_front others)
-        ∷ with_second_digits (zeros_in_front others) false others
-    else first ∷ with_second_digits zero (is_second (unit_of first)) others
-
 -- the first of two units
 abbrev pub first_unit : Option TimeUnit → Option TimeUnit → Option TimeUnit
 first_unit (Some unit) other = Some unit
@@ -46,7 +35,7 @@ next_unit (first ∷ others) = first_unit (unit_of first) (next_unit others)
 
 -- `m` and `mm` are minutes behind hours, before seconds, and where a time that has passed is shown
 abbrev pub is_minutes : Bool → Option TimeUnit → List CodePiece → Bool
-is_minutes all last behind = all || (is_hour last || is_second (next_unit behind))
+is_minutes passes last behind = passes || (is_hour last || is_second (next_unit behind))
 
 -- a month of one or two letters is minutes, where this holds
 abbrev pub minutes_if : Bool → CodePiece → CodePiece
@@ -54,17 +43,46 @@ minutes_if holds (piece.TimePart Month count) =
     if holds && nat_lt count 3 then piece.TimePart Minute count else piece.TimePart Month count
 minutes_if holds other = other
 
--- the pieces with their minutes; `last` is the unit of the part before them
-abbrev pub with_minutes : Bool → Option TimeUnit → List CodePiece → List CodePiece
-with_minutes all last [] = []
-with_minutes all last (first ∷ others) =
-    minutes_if (is_minutes all last others) first
-    ∷ with_minutes all (first_unit (unit_of first) last) others
+-- where a piece stands in a section of dates: whether the section shows a time that has passed, the
+-- unit of the last part of a date before the piece, and whether seconds stand right before it
+pub record TimePlace : Type 0 where
+  pub passes : Bool
+  pub last : Option TimeUnit
+  pub behind_seconds : Bool
+
+-- the place behind a piece
+abbrev pub place_behind : TimePlace → CodePiece → TimePlace
+place_behind place p = record {
+  passes = place.passes;
+  last = first_unit (unit_of p) place.last;
+  behind_seconds = is_second (unit_of p);
+}
+
+-- how many digits of a second are told here: the zeros behind a point that stands behind seconds
+abbrev pub digits_told : TimePlace → CodePiece → List CodePiece → ℕ
+digits_told place p behind =
+    if place.behind_seconds && is_point p then zeros_in_front behind else 0
+
+-- The pieces from a place on, with their minutes and their digits of seconds; `skip` pieces in front
+-- are passed over.
+abbrev pub timed_from : TimePlace → ℕ → List CodePiece → List CodePiece
+timed_from place skip [] = []
+timed_from place (suc skip) (first ∷ others) = timed_from place skip others
+timed_from place zero (first ∷ others) =
+    if nat_lt 0 (digits_told place first others)
+    then piece.SecondDigits (digits_told place first others)
+        ∷ timed_from (place_behind place first) (digits_told place first others) others
+    else minutes_if (is_minutes place.passes place.last others) first
+        ∷ timed_from (place_behind place first) zero others
+
+-- the place in front of a section
+abbrev pub first_place : List CodePiece → TimePlace
+first_place section =
+    record { passes = has is_passed section; last = None; behind_seconds = false }
 
 -- a section with its minutes and its digits of seconds
-abbrev pub timed_pieces : List CodePiece → List CodePiece
-timed_pieces section =
-    with_minutes (has is_passed section) None (with_second_digits zero false section)
+unfoldable pub timed_pieces : List CodePiece → List CodePiece
+timed_pieces section = timed_from (first_place section) zero section
 
 -- how many digits of a second a piece shows
 abbrev pub digits_of : CodePiece → ℕ

@@ -1,9 +1,12 @@
 //! Number format codes, cut into sections of pieces.
 #![tactic(auto)]
 
+mod cutting;
+mod group;
 mod kind;
 mod piece;
 mod shown_format;
+mod text;
 
 pub use kind::SectionKind;
 pub use piece::{CodePiece, Comparison, Condition, Filler, HalfDay, TimeUnit};

@@ -1,0 +1,4 @@
+pub mod Words
+pub mod Boundaries
+pub mod Literals
+pub mod CodesCut
