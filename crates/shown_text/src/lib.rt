@@ -5,6 +5,7 @@
 #![tactic(auto)]
 
 mod digits;
+mod date_texts;
 mod general;
 mod given_digits;
 mod numbers;
