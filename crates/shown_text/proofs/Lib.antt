@@ -1,3 +1,4 @@
 pub mod DigitSteps
+pub mod FractionSteps
 pub mod SizeSteps
 pub mod Zeros

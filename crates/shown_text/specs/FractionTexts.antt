@@ -10,22 +10,12 @@ use Rattle.format_codes.specs.declared.piece.CodePiece.TheVariants as piece
 use Rattle.format_codes.specs.declared.piece.Filler.TheVariants.{Nothing, Space}
 use Rattle.format_codes.specs.Kinds.{from_denominator, is_denominator, is_fixed}
 use Rattle.format_codes.specs.Pieces.{has, is_digit, is_slash, is_zero}
+use Rattle.shown_text.specs.declared.fractions.Fraction.{Fraction}
+use Rattle.shown_text.specs.FractionPlaces.{is_space_place, is_empty_place, width, spaces}
+use Rattle.shown_text.specs.FractionPlaces.{texts_between, denominator_text}
+use Rattle.shown_text.specs.FractionArithmetic.{nearest_over, distance, fixed_denominator}
+use Rattle.shown_text.specs.FractionArithmetic.{most_denominator}
 use Rattle.shown_text.specs.Digits.{place_count, with_digits, is_grouped, among_places, last_place}
-
--- a place `?`
-abbrev pub is_space_place : CodePiece → Bool
-is_space_place (piece.Digit Space) = true
-is_space_place other = false
-
--- a place `#`
-abbrev pub is_empty_place : CodePiece → Bool
-is_empty_place (piece.Digit Nothing) = true
-is_empty_place other = false
-
--- a fraction
-pub record Fraction : Type 0 where
-  pub over : ℕ
-  pub under : ℕ
 
 -- the pieces of a section of fractions: the places of a whole number with what stands between them
 -- and the places of the numerator; those; what stands on either side of the slash; the denominator;
@@ -71,36 +61,15 @@ abbrev pub fraction_parts : List CodePiece → FractionParts
 fraction_parts section =
     parts_around (before_first is_slash section) (after_first is_slash section)
 
--- the value of a digit of a denominator that is given
-abbrev pub figure_value : CodePiece → ℕ
-figure_value (piece.Figure c) = c - 48
-figure_value other = 0
-
--- the number that is given as the denominator, by its four digits at most
-abbrev pub fixed_denominator : List CodePiece → ℕ
-fixed_denominator under = fold (λ n p. n * 10 + figure_value p) 0 (take 4 under)
-
--- the greatest denominator that has so many places, four at most
-abbrev pub most_denominator : List CodePiece → ℕ
-most_denominator under = 10 ^ min 4 (length under) - 1
-
--- the numerator of the fraction of this denominator that is nearest to n / unit, the greater of two
--- that are as near
-abbrev pub nearest_over : ℕ → ℕ → ℕ → ℕ
-nearest_over n unit under = (2 * n * under + unit) / (2 * unit)
-
 -- the fraction of this denominator that is nearest to n / unit
 abbrev pub fraction_over : ℕ → ℕ → ℕ → Fraction
 fraction_over n unit under = record { over = nearest_over n unit under; under = under }
 
--- how far a fraction is from n / unit, over its denominator and the unit
-abbrev pub distance : ℕ → ℕ → Fraction → ℕ
-distance n unit f = (n * f.under - f.over * unit) + (f.over * unit - n * f.under)
-
 -- the nearer of two fractions, and the first where they are as near
 abbrev pub nearer : ℕ → ℕ → Fraction → Fraction → Fraction
 nearer n unit f g =
-    if nat_lt (distance n unit g * f.under) (distance n unit f * g.under) then g else f
+    if nat_lt (distance n unit g.over g.under * f.under) (distance n unit f.over f.under * g.under)
+    then g else f
 
 -- the nearest fraction to n / unit with a denominator up to `most`, of those that are as near the
 -- one with the least denominator
@@ -119,41 +88,15 @@ found_fraction under n unit =
 abbrev pub whole_digits : ℕ → ℕ → List ℕ
 whole_digits n zeros = if n == 0 then 48 ∷ [] else decimal n ++ replicate zeros 48
 
--- a piece that is as wide as a character
-abbrev pub has_width : CodePiece → Bool
-has_width (piece.Literal c) = true
-has_width (piece.Figure c) = true
-has_width (piece.Digit filler) = true
-has_width piece.Point = true
-has_width piece.Percent = true
-has_width piece.Slash = true
-has_width other = false
-
--- how many characters wide pieces are
-abbrev pub width : List CodePiece → ℕ
-width pieces = count_by has_width pieces
-
--- so many spaces
-abbrev pub spaces : ℕ → List ℕ
-spaces count = replicate count 32
-
--- the texts of pieces between places
-abbrev pub texts_between : List CodePiece → List ℕ
-texts_between pieces = flat_map among_places pieces
-
--- the text of a denominator: places are filled behind its digits, unless one of them is `0`
-abbrev pub denominator_text : List CodePiece → ℕ → List ℕ
-denominator_text under d =
-    if is_fixed under then decimal d
-    else (if has is_zero under then with_digits false false [] (decimal d) under
-    else decimal d ++ spaces (count_by is_space_place under - length (decimal d)))
+-- the slash with what stands on either side of it
+abbrev pub slash_text : FractionParts → List ℕ
+slash_text parts = texts_between parts.before ++ 47 ∷ texts_between parts.behind
 
 -- numerator, slash and denominator
 abbrev pub slashed : FractionParts → List ℕ → ℕ → List ℕ
 slashed parts over under =
     with_digits false false [] over parts.over
-    ++ (texts_between parts.before ++ (47 ∷ texts_between parts.behind
-    ++ denominator_text parts.under under))
+    ++ (slash_text parts ++ denominator_text parts.under under)
 
 -- a place is `?`: of the whole number, of the numerator, or of a denominator that isn't given
 abbrev pub has_space_place : FractionParts → Bool
@@ -161,15 +104,21 @@ has_space_place parts =
     has is_space_place parts.whole || (has is_space_place parts.over
     || (not (is_fixed parts.under) && has is_space_place parts.under))
 
--- how wide a fraction is, with what stands before it
-abbrev pub fraction_width : FractionParts → ℕ
-fraction_width parts =
-    width parts.between + (width parts.over + (width parts.before + (1 + (width parts.behind
-    + width parts.under))))
+-- as many spaces as pieces are wide
+abbrev pub gap_of : List CodePiece → List ℕ
+gap_of pieces = spaces (width pieces)
+
+-- the spaces in place of what stands before a slash
+abbrev pub front_gap : FractionParts → List ℕ
+front_gap parts = gap_of parts.between ++ (gap_of parts.over ++ gap_of parts.before)
+
+-- the spaces in place of a slash and what stands behind it
+abbrev pub back_gap : FractionParts → List ℕ
+back_gap parts = 32 ∷ (gap_of parts.behind ++ gap_of parts.under)
 
 -- the spaces in place of a fraction of 0, where a place is `?`
 abbrev pub no_fraction : FractionParts → List ℕ
-no_fraction parts = if has_space_place parts then spaces (fraction_width parts) else []
+no_fraction parts = if has_space_place parts then front_gap parts ++ back_gap parts else []
 
 -- the places of a whole number with its digits
 abbrev pub whole_text : FractionParts → List ℕ → List ℕ
@@ -196,17 +145,21 @@ in_place_of_whole parts =
 
 -- a whole number, by its digits, with what stands behind it
 abbrev pub whole_front : FractionParts → List ℕ → Bool → ℕ → List ℕ
-whole_front parts digits is_zero over =
-    if is_zero && is_whole_gone parts over then in_place_of_whole parts
+whole_front parts digits is_zero_whole over =
+    if is_zero_whole && is_whole_gone parts over then in_place_of_whole parts
     else whole_text parts digits ++ texts_between parts.between
+
+-- a whole number, by its digits, and a fraction
+abbrev pub mixed_digits : FractionParts → List ℕ → Bool → Fraction → List ℕ
+mixed_digits parts digits is_zero_whole f =
+    if (f.over == 0) && not (has is_zero parts.over)
+    then whole_text parts digits ++ no_fraction parts
+    else whole_front parts digits is_zero_whole f.over
+        ++ slashed parts (decimal f.over) f.under
 
 -- a whole number with so many zeros behind it, and a fraction
 abbrev pub mixed : FractionParts → ℕ → ℕ → Fraction → List ℕ
-mixed parts whole zeros f =
-    if (f.over == 0) && not (has is_zero parts.over)
-    then whole_text parts (whole_digits whole zeros) ++ no_fraction parts
-    else whole_front parts (whole_digits whole zeros) (whole == 0) f.over
-        ++ slashed parts (decimal f.over) f.under
+mixed parts whole zeros f = mixed_digits parts (whole_digits whole zeros) (whole == 0) f
 
 -- the fraction of a whole number
 abbrev pub empty_fraction : List CodePiece → Fraction
@@ -236,10 +189,12 @@ unparted parts n zeros =
         ++ slashed parts (whole_digits (n * (empty_fraction parts.under).under) zeros)
         (empty_fraction parts.under).under
 
--- a size in the parts of a section
+-- A size in the parts of a section. One with more than thirty places is so far below 1 that no
+-- fraction is nearer than 0.
 abbrev pub parts_text : FractionParts → ℕ → ℤ → List ℕ
 parts_text parts n (pos zeros) = unparted parts n zeros
-parts_text parts n (negsuc places) = parted parts n (10 ^ (places + 1))
+parts_text parts n (negsuc places) =
+    if nat_lt places 30 then parted parts n (10 ^ (places + 1)) else unparted parts 0 0
 
 -- a size in a section of fractions
 unfoldable pub fraction_text : List CodePiece → ℕ → ℤ → List ℕ

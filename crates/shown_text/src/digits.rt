@@ -206,7 +206,7 @@ pub fn last_place(pieces: &[CodePiece]) -> usize
 }
 
 /// Whether thousands are grouped.
-fn is_grouped(pieces: &[CodePiece]) -> bool
+pub fn is_grouped(pieces: &[CodePiece]) -> bool
     ensures { result ≡ is_grouped pieces.now }
 {
     let (up_to_last, _) = pieces.split_at(last_place(pieces));

@@ -6,6 +6,9 @@
 
 mod digits;
 mod date_texts;
+mod fraction_parts;
+mod fraction_texts;
+mod fractions;
 mod general;
 mod given_digits;
 mod numbers;
