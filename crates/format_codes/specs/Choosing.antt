@@ -15,11 +15,14 @@ use Rattle.format_codes.specs.TimedPieces.{timed_pieces}
 use Rattle.format_codes.specs.Kinds.{is_digit_or_exponent, kind_of}
 use Rattle.format_codes.specs.Conditions.{condition_in, leaves_sign_out, takes}
 
--- the last section, if it is that of texts: the fourth one, or one with `@`
+-- the last of so many sections is that of texts: it is the fourth one, or has `@`
+abbrev pub is_for_texts : ℕ → List CodePiece → Bool
+is_for_texts count section = (count == 4) || has is_text_place section
+
+-- the last section, if it is that of texts
 abbrev pub text_section_of : ℕ → Option (List CodePiece) → Option (List CodePiece)
 text_section_of count None = None
-text_section_of count (Some section) =
-    if (count == 4) || has is_text_place section then Some section else None
+text_section_of count (Some section) = if is_for_texts count section then Some section else None
 
 -- the section of texts
 abbrev pub text_section : List (List CodePiece) → Option (List CodePiece)
@@ -39,10 +42,14 @@ abbrev pub shows_text : CodePiece → Bool
 shows_text p = is_text_place p || is_general p
 
 -- a section of texts has nothing else, and shows a text four times at most
+abbrev pub is_sound_for_texts : List CodePiece → Bool
+is_sound_for_texts section =
+    not (has is_no_text section) && nat_lt (count_by shows_text section) 5
+
+-- the section of texts is sound, if there is one
 abbrev pub is_text_sound : Option (List CodePiece) → Bool
 is_text_sound None = true
-is_text_sound (Some section) =
-    not (has is_no_text section) && nat_lt (count_by shows_text section) 5
+is_text_sound (Some section) = is_sound_for_texts section
 
 -- sections are supported: they are four at most, and each is of a kind
 abbrev pub are_supported : List (List CodePiece) → Bool
@@ -60,16 +67,15 @@ pub record ShownSection : Type 0 where
   pub pieces : List CodePiece
   pub unsigned : Bool
 
--- the pieces that a section of a kind shows: those of a date tell minutes from months
-abbrev pub shown_pieces : Option SectionKind → List CodePiece → List CodePiece
-shown_pieces (Some kind.Date) section = timed_pieces section
-shown_pieces other section = section
+-- the pieces that a section shows: those of a date tell minutes from months
+abbrev pub shown_pieces : List CodePiece → List CodePiece
+shown_pieces section = if has is_time section then timed_pieces section else section
 
 -- a section that shows a number, if it is supported
 abbrev pub shown_of_kind : Option SectionKind → List CodePiece → Bool → Option ShownSection
-shown_of_kind found section unsigned =
-    option_map
-    (λ k. record { kind = k; pieces = shown_pieces found section; unsigned = unsigned }) found
+shown_of_kind None section unsigned = None
+shown_of_kind (Some found) section unsigned =
+    Some (record { kind = found; pieces = shown_pieces section; unsigned = unsigned })
 
 -- a section of a place
 abbrev pub chosen : Bool → List CodePiece → Option ShownSection

@@ -1,10 +1,11 @@
 -- The conditions of sections, and which numbers meet them. A number is a pair: a whole number, and
 -- the power of ten that it is taken times.
-use Rattle.std.specs.Prelude.{ℕ, ◌^◌, not, Bool, false, List, [], ◌∷◌, Option, Some, None}
+use Rattle.std.specs.Prelude.{ℕ, ◌^◌, not, Bool, true, false, List, [], ◌∷◌, Option, Some, None}
 use Rattle.std.specs.Prelude.{ℤ, pos, negsuc, ◌-ℤ◌, ◌*ℤ◌}
 use Rattle.std.specs.Int.{is_negative, is_positive}
 use Rattle.std.specs.declared.cmp.Ordering.{Ordering}
-use Rattle.std.specs.Ordering.{int_cmp, is_eq, is_ge, is_gt, is_le, is_lt, is_ne}
+use Rattle.std.specs.Ordering.{int_cmp, is_eq, is_ge, is_gt, is_le, is_lt, is_ne, ordering_reverse}
+use Rattle.std.specs.declared.cmp.Ordering.TheVariants.{Less, Greater}
 use Rattle.format_codes.specs.declared.piece.CodePiece.{CodePiece}
 use Rattle.format_codes.specs.declared.piece.Comparison.{Comparison}
 use Rattle.format_codes.specs.declared.piece.Comparison.TheVariants as compares
@@ -33,6 +34,13 @@ over_lesser number other = number.0 *ℤ pos (10 ^ positive_part (number.1 -ℤ 
 -- how a number stands to another, both over the lesser of their powers of ten
 abbrev pub number_cmp : ℤ × ℤ → ℤ × ℤ → Ordering
 number_cmp number other = int_cmp (over_lesser number other) (over_lesser other number)
+
+-- how two numbers stand, by which of them are below 0 and how their sizes stand
+abbrev pub signed_cmp : Bool → Bool → Ordering → Ordering
+signed_cmp true true by_size = ordering_reverse by_size
+signed_cmp true false by_size = Less
+signed_cmp false true by_size = Greater
+signed_cmp false false by_size = by_size
 
 -- a comparison holds of two numbers, by how the first stands to the second
 abbrev pub holds_by : Comparison → Ordering → Bool

@@ -148,7 +148,11 @@ pieces code = pieces_behind 0 code
 unfoldable pub sections : List ℕ → List (List CodePiece)
 sections code = slice_split is_divider (pieces code)
 
--- the sections by which a code shows values: an empty code shows them as General
+-- the pieces by which a code shows values: an empty code shows them as General
+abbrev pub shown_by_code : List ℕ → List CodePiece
+shown_by_code [] = piece.General ∷ []
+shown_by_code (b ∷ bs) = pieces (b ∷ bs)
+
+-- the sections by which a code shows values
 abbrev pub shown_sections : List ℕ → List (List CodePiece)
-shown_sections [] = (piece.General ∷ []) ∷ []
-shown_sections (b ∷ bs) = sections (b ∷ bs)
+shown_sections code = slice_split is_divider (shown_by_code code)

@@ -1,6 +1,7 @@
 -- What is kept of a code that is cut once.
-use Rattle.std.specs.Prelude.{ℕ, ◌≡◌, if◌then◌else◌, List, Option, Some, None, map}
+use Rattle.std.specs.Prelude.{ℕ, ◌≡◌, true, false, is_some, if◌then◌else◌, List, Option, Some, None, map}
 use Rattle.std.specs.Option.{option_map}
+use Rattle.std.specs.List.{list_all}
 use Rattle.format_codes.specs.declared.kind.SectionKind.{SectionKind}
 use Rattle.format_codes.specs.declared.piece.CodePiece.{CodePiece}
 use Rattle.format_codes.specs.declared.piece.Condition.{Condition}
@@ -8,7 +9,7 @@ use Rattle.format_codes.specs.declared.shown_format.ChosenSection.{ChosenSection
 use Rattle.format_codes.specs.declared.shown_format.FormatSections.{FormatSections}
 use Rattle.format_codes.specs.declared.shown_format.NumberSection.{NumberSection}
 use Rattle.format_codes.specs.declared.shown_format.ShownFormat.{ShownFormat}
-use Rattle.format_codes.specs.Choosing.{ShownSection, is_supported, number_sections, shown_pieces}
+use Rattle.format_codes.specs.Choosing.{are_supported, ShownSection, is_supported, number_sections, shown_pieces}
 use Rattle.format_codes.specs.Choosing.{text_section}
 use Rattle.format_codes.specs.Conditions.{condition_in}
 use Rattle.format_codes.specs.Kinds.{kind_of}
@@ -16,29 +17,34 @@ use Rattle.format_codes.specs.Sections.{shown_sections}
 
 -- what is kept of a section that shows numbers: what it is, its pieces, and its condition
 pub record KeptSection : Type 0 where
-  pub kind : Option SectionKind
+  pub kind : SectionKind
   pub pieces : List CodePiece
   pub condition : Option Condition
 
--- what is to be kept of a section
-abbrev pub kept_section : List CodePiece → KeptSection
-kept_section section = record {
-  kind = kind_of section;
-  pieces = shown_pieces (kind_of section) section;
+-- what is to be kept of a section of a kind
+abbrev pub kept_of_kind : Option SectionKind → List CodePiece → Option KeptSection
+kept_of_kind None section = None
+kept_of_kind (Some kind) section = Some (record {
+  kind = kind;
+  pieces = shown_pieces section;
   condition = condition_in section;
-}
+})
+
+-- what is to be kept of a section, if it is supported
+abbrev pub kept_section : List CodePiece → Option KeptSection
+kept_section section = kept_of_kind (kind_of section) section
 
 -- what a section keeps
 abbrev pub section_kept : NumberSection → KeptSection
 section_kept section = record {
-  kind = Some section.kind;
+  kind = section.kind;
   pieces = section.pieces.items;
   condition = section.condition;
 }
 
 -- what is kept of the sections of a code: those of numbers, and that of texts
 pub record KeptSections : Type 0 where
-  pub numbers : List KeptSection
+  pub numbers : List (Option KeptSection)
   pub texts : Option (List CodePiece)
 
 -- what is to be kept of sections
@@ -48,18 +54,31 @@ kept_sections all = record {
   texts = text_section all;
 }
 
+-- what is to be kept of sections, if they are supported
+abbrev pub kept_if_supported : List (List CodePiece) → Option KeptSections
+kept_if_supported all = if are_supported all then Some (kept_sections all) else None
+
 -- what sections keep
 abbrev pub sections_kept : FormatSections → KeptSections
 sections_kept sections = record {
-  numbers = map section_kept sections.numbers.items;
+  numbers = map (λ s. Some (section_kept s)) sections.numbers.items;
   texts = option_map (λ pieces. pieces.items) sections.texts;
 }
 
+-- all sections of numbers are kept, or one of them isn't supported
+abbrev pub KeepsNumbers : Option (List NumberSection) → List (List CodePiece) → Type 0
+KeepsNumbers None sections = list_all (λ section. is_some (kind_of section)) sections ≡ false
+KeepsNumbers (Some kept) sections =
+    (map (λ s. Some (section_kept s)) kept ≡ map kept_section sections)
+    × (list_all (λ section. is_some (kind_of section)) sections ≡ true)
+
+-- what a code keeps, if it is supported
+abbrev pub kept_of_code : List ℕ → Option KeptSections
+kept_of_code code = if is_supported code then Some (kept_sections (shown_sections code)) else None
+
 -- A format is that of a code: it keeps the sections of one that is supported, and else none.
 abbrev pub IsFormatOf : List ℕ → ShownFormat → Type 0
-IsFormatOf code format =
-    option_map sections_kept format.sections
-    ≡ (if is_supported code then Some (kept_sections (shown_sections code)) else None)
+IsFormatOf code format = option_map sections_kept format.sections ≡ kept_of_code code
 
 -- the section that was chosen to show a number
 abbrev pub shown_by : ChosenSection → ShownSection

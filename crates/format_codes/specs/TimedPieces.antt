@@ -7,6 +7,7 @@ use Rattle.format_codes.specs.declared.piece.CodePiece.TheVariants as piece
 use Rattle.format_codes.specs.declared.piece.TimeUnit.{TimeUnit}
 use Rattle.format_codes.specs.declared.piece.TimeUnit.TheVariants.{Month, Hour, Minute}
 use Rattle.format_codes.specs.declared.piece.TimeUnit.TheVariants.{Second}
+use Rattle.format_codes.specs.declared.timing.TimePlace.{TimePlace}
 use Rattle.format_codes.specs.Pieces.{has, is_passed, is_point, is_zero, unit_of}
 
 -- a unit is that of hours
@@ -43,13 +44,6 @@ minutes_if holds (piece.TimePart Month count) =
     if holds && nat_lt count 3 then piece.TimePart Minute count else piece.TimePart Month count
 minutes_if holds other = other
 
--- where a piece stands in a section of dates: whether the section shows a time that has passed, the
--- unit of the last part of a date before the piece, and whether seconds stand right before it
-pub record TimePlace : Type 0 where
-  pub passes : Bool
-  pub last : Option TimeUnit
-  pub behind_seconds : Bool
-
 -- the place behind a piece
 abbrev pub place_behind : TimePlace → CodePiece → TimePlace
 place_behind place p = record {
@@ -63,17 +57,20 @@ abbrev pub digits_told : TimePlace → CodePiece → List CodePiece → ℕ
 digits_told place p behind =
     if place.behind_seconds && is_point p then zeros_in_front behind else 0
 
+-- a piece where so many digits of a second are told: these, or the piece with its minutes
+abbrev pub told_piece : TimePlace → ℕ → CodePiece → List CodePiece → CodePiece
+told_piece place digits p behind =
+    if nat_lt 0 digits then piece.SecondDigits digits
+    else minutes_if (is_minutes place.passes place.last behind) p
+
 -- The pieces from a place on, with their minutes and their digits of seconds; `skip` pieces in front
 -- are passed over.
 abbrev pub timed_from : TimePlace → ℕ → List CodePiece → List CodePiece
 timed_from place skip [] = []
 timed_from place (suc skip) (first ∷ others) = timed_from place skip others
 timed_from place zero (first ∷ others) =
-    if nat_lt 0 (digits_told place first others)
-    then piece.SecondDigits (digits_told place first others)
-        ∷ timed_from (place_behind place first) (digits_told place first others) others
-    else minutes_if (is_minutes place.passes place.last others) first
-        ∷ timed_from (place_behind place first) zero others
+    let digits = digits_told place first others in
+    told_piece place digits first others ∷ timed_from (place_behind place first) digits others
 
 -- the place in front of a section
 abbrev pub first_place : List CodePiece → TimePlace

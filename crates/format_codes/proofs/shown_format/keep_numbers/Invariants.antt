@@ -1,0 +1,14 @@
+use Rattle.std.proofs.Common.{◌≡◌, map, take, true}
+use Rattle.std.specs.List.{list_all}
+use Rattle.std.specs.Prelude.{Some, is_some}
+use Rattle.format_codes.specs.Kinds.{kind_of}
+use Rattle.format_codes.specs.ShownFormats.{kept_section, section_kept}
+use Rattle.format_codes.proofs.shown_format.keep_numbers.Given as goal
+
+abbrev pub invariant-loop-section : goal.invariant-loop-section
+invariant-loop-section l = record {
+  kept : map (λ s. Some (section_kept s)) l.kept.items
+      ≡ map kept_section (map (λ s. s.now) (take l.section-index l.sections));
+  kinds : list_all (λ section. is_some (kind_of section))
+      (map (λ s. s.now) (take l.section-index l.sections)) ≡ true;
+}
