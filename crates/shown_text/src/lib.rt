@@ -12,6 +12,7 @@ mod fractions;
 mod general;
 mod given_digits;
 mod numbers;
+mod sections;
 mod sizes;
 
 pub use general::push_general;
