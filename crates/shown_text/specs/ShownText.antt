@@ -1,7 +1,8 @@
 -- The text that a spreadsheet program shows of a value, in the language en-US and in a column of
 -- any width.
 use Rattle.std.specs.Prelude.{ℕ, ◌==◌, ◌&&◌, ◌||◌, ◌^◌, nat_le, not, Bool, true, false}
-use Rattle.std.specs.Prelude.{if◌then◌else◌, List, [], ◌++◌, length, codes, Option, Some, None, ℤ, pos, nat_abs}
+use Rattle.std.specs.Prelude.{if◌then◌else◌, List, [], ◌++◌, length, codes, Option, Some, None}
+use Rattle.std.specs.Prelude.{ℤ, pos, nat_abs}
 use Rattle.std.specs.Fmt.{sign_text, signed_decimal}
 use Rattle.std.specs.Int.{is_negative}
 use Rattle.std.specs.List.{flat_map}

@@ -13,6 +13,8 @@ mod general;
 mod given_digits;
 mod numbers;
 mod sections;
+mod shown;
 mod sizes;
 
 pub use general::push_general;
+pub use shown::push_shown;
