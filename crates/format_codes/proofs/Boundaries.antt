@@ -18,9 +18,11 @@ size_bound bs = prefix_len-le-length _ bs
 -- a text may be cut behind the character that begins it
 pub behind_character : (text : List ℕ) → IsCharBoundary text (character_size text)
 behind_character [] = search rules
-behind_character (b ∷ bs) =
-    (omega (arith, size_bound bs), λ inside above.
-    leads (get_or bs (size_behind bs) 0) (prefix_len_stops (λ c. nat_lt 127 c && nat_lt c 192) bs 0 (omega (arith, inside))) above)
+behind_character (b ∷ bs) = (
+  omega (arith, size_bound bs),
+  λ inside above.
+      leads (get_or bs (size_behind bs) 0) (prefix_len_stops (λ c. nat_lt 127 c && nat_lt c 192) bs 0 (omega (arith, inside))) above,
+)
 
 -- a byte that is an ASCII letter in small is ASCII
 ascii_letter : (b letter : ℕ) → (to_ascii_lowercase b == letter) ≡ true → letter < 128 → b < 128
@@ -31,6 +33,6 @@ pub run_ends : (letter run : ℕ) (bs : List ℕ) → letter < 128 → run ≡ r
     (run ≡ 0 → ⊥) → get_or bs (run - 1) 0 < 128
 run_ends letter run bs ascii told some =
     let same : (to_ascii_lowercase (get_or bs (run - 1) 0) == letter) ≡ true =
-        prefix_len_passes (λ c. to_ascii_lowercase c == letter) bs (run - 1) 0
-        (omega (arith, told, some)) in
+    prefix_len_passes (λ c. to_ascii_lowercase c == letter) bs (run - 1) 0
+    (omega (arith, told, some)) in
     ascii_letter _ letter same ascii

@@ -1,12 +1,11 @@
 -- Pieces that are divided from the left.
-use Rattle.std.proofs.Common.{◌≡◌, ◌<◌, ◌≤◌, ◌++◌, ◌+◌, ℕ, suc, Bool, true, false, cond, List, [], ◌∷◌, length, take}
-use Rattle.std.proofs.Common.{drop, refl, sym, ap, ◌∙◌, arith, rules, map, append_assoc}
-use Rattle.std.specs.Borrow.{Bor}
+use Rattle.std.proofs.Common.{◌≡◌, ◌++◌, ◌+◌, ℕ, suc, Bool, true, false, cond, List, [], ◌∷◌, length, take}
+use Rattle.std.proofs.Common.{drop, refl, sym, ap, ◌∙◌, arith, map, append_assoc}
+use Rattle.std.specs.Global.{Vec}
 use Rattle.std.specs.List.{onto_first, slice_split, position_or_len}
 use Rattle.std.specs.Prelude.{not}
 use Rattle.std.proofs.lemmas.List.{map-append}
 use Rattle.format_codes.specs.declared.piece.CodePiece.{CodePiece}
-use Rattle.format_codes.specs.declared.piece.CodePiece.TheVariants as piece
 use Rattle.format_codes.specs.Pieces.{is_divider}
 
 -- the section in front, and the others
@@ -25,12 +24,12 @@ longer first section (sign ∷ others) = refl
 by_first : (divides : Bool) (first : CodePiece) (others : List CodePiece) →
     slice_split is_divider others
     ≡ front_and_others (take (position_or_len is_divider others) others)
-        (drop (position_or_len is_divider others) others) →
+    (drop (position_or_len is_divider others) others) →
     cond divides ([] ∷ slice_split is_divider others)
-        (onto_first first (slice_split is_divider others))
+    (onto_first first (slice_split is_divider others))
     ≡ front_and_others
-        (take (cond (not divides) (1 + position_or_len is_divider others) 0) (first ∷ others))
-        (drop (cond (not divides) (1 + position_or_len is_divider others) 0) (first ∷ others))
+    (take (cond (not divides) (1 + position_or_len is_divider others) 0) (first ∷ others))
+    (drop (cond (not divides) (1 + position_or_len is_divider others) 0) (first ∷ others))
 by_first true first others told = refl
 by_first false first others told =
     let place = position_or_len is_divider others in
@@ -43,7 +42,7 @@ by_first false first others told =
 divided_at : (pieces : List CodePiece) →
     slice_split is_divider pieces
     ≡ front_and_others (take (position_or_len is_divider pieces) pieces)
-        (drop (position_or_len is_divider pieces) pieces)
+    (drop (position_or_len is_divider pieces) pieces)
 divided_at [] = refl
 divided_at (first ∷ others) = by_first (is_divider first) first others (divided_at others)
 
@@ -68,19 +67,19 @@ section_left pieces section front none =
     ∙ ap (front_and_others section) none)
 
 -- one more section in front of what is left
-pub one_more : (old : List (Bor (List CodePiece))) (new : List (Bor (List CodePiece)))
-    (section : Bor (List CodePiece)) (pieces others : List CodePiece) (sign : CodePiece) →
-    new ≡ old ++ section ∷ [] → section.now ≡ take (position_or_len is_divider pieces) pieces →
+pub one_more : (old new : List (Vec CodePiece)) (section : Vec CodePiece)
+    (pieces others : List CodePiece) (sign : CodePiece) →
+    new ≡ old ++ section ∷ [] → section.items ≡ take (position_or_len is_divider pieces) pieces →
     drop (position_or_len is_divider pieces) pieces ≡ sign ∷ others →
-    map (λ s. s.now) new ++ slice_split is_divider others
-    ≡ map (λ s. s.now) old ++ slice_split is_divider pieces
+    map (λ s. s.items) new ++ slice_split is_divider others
+    ≡ map (λ s. s.items) old ++ slice_split is_divider pieces
 one_more old new section pieces others sign pushed front behind =
-    ap (λ xs. map (λ s. s.now) xs ++ slice_split is_divider others) pushed
+    ap (λ xs. map (λ s. s.items) xs ++ slice_split is_divider others) pushed
     ∙ (ap (λ xs. xs ++ slice_split is_divider others)
-    (map-append (λ s. s.now) old (section ∷ []))
-    ∙ (append_assoc (map (λ s. s.now) old) (section.now ∷ []) (slice_split is_divider others)
-    ∙ ap (λ xs. map (λ s. s.now) old ++ xs)
-    (sym (section_taken pieces section.now others sign front behind))))
+    (map-append (λ s. s.items) old (section ∷ []))
+    ∙ (append_assoc (map (λ s. s.items) old) (section.items ∷ []) (slice_split is_divider others)
+    ∙ ap (λ xs. map (λ s. s.items) old ++ xs)
+    (sym (section_taken pieces section.items others sign front behind))))
 
 -- a list of no length is empty
 empty : (pieces : List CodePiece) → length pieces ≡ 0 → pieces ≡ []
@@ -88,16 +87,17 @@ empty [] none = refl
 empty (first ∷ others) none = absurd (omega (arith, none))
 
 -- the last section in place of what is left
-pub all_divided : (old : List (Bor (List CodePiece))) (new : List (Bor (List CodePiece)))
-    (section : Bor (List CodePiece)) (pieces behind : List CodePiece) (size : ℕ) →
+pub all_divided : (old new : List (Vec CodePiece)) (section : Vec CodePiece)
+    (pieces behind : List CodePiece) (size : ℕ) →
     new ≡ old ++ section ∷ [] → size ≡ position_or_len is_divider pieces →
-    section.now ≡ take size pieces → behind ≡ drop size pieces → length behind ≡ 0 →
-    map (λ s. s.now) new ≡ map (λ s. s.now) old ++ slice_split is_divider pieces
+    section.items ≡ take size pieces → behind ≡ drop size pieces → length behind ≡ 0 →
+    map (λ s. s.items) new ≡ map (λ s. s.items) old ++ slice_split is_divider pieces
 all_divided old new section pieces behind size pushed place front back none =
-    let at_place : section.now ≡ take (position_or_len is_divider pieces) pieces =
-        front ∙ ap (λ n. take n pieces) place in
+    let at_place : section.items ≡ take (position_or_len is_divider pieces) pieces =
+    front ∙ ap (λ n. take n pieces) place in
     let left : drop (position_or_len is_divider pieces) pieces ≡ [] =
-        ap (λ n. drop n pieces) (sym place) ∙ (sym back ∙ empty behind none) in
-    ap (map (λ s. s.now)) pushed
-    ∙ (map-append (λ s. s.now) old (section ∷ [])
-    ∙ ap (λ xs. map (λ s. s.now) old ++ xs) (sym (section_left pieces section.now at_place left)))
+    ap (λ n. drop n pieces) (sym place) ∙ (sym back ∙ empty behind none) in
+    ap (map (λ s. s.items)) pushed
+    ∙ (map-append (λ s. s.items) old (section ∷ [])
+    ∙ ap (λ xs. map (λ s. s.items) old ++ xs)
+    (sym (section_left pieces section.items at_place left)))

@@ -5,3 +5,6 @@ pub mod CodesCut
 pub mod TimesTold
 pub mod Orders
 pub mod Divided
+pub mod TextsTaken
+pub mod NumbersKept
+pub mod FormatsCut

@@ -25,7 +25,6 @@ none_left found all [] empty same =
     ∙ (ap (λ xs. found ++ map piece.Literal xs) (sym chars-nil) ∙ same)
 none_left found all (b ∷ bs) empty same = absurd (omega (arith, empty))
 
-
 -- a text that isn't empty stands for its characters
 pub literals_of_some : (found : List CodePiece) (text : List ℕ) → (length text == 0) ≡ false →
     found ++ map piece.Literal (chars text) ≡ found ++ literal_pieces text

@@ -30,17 +30,17 @@ pub word_ends : (word text : List ℕ) → IsAscii word → 0 < length word → 
     (length word ≤ length text) × (get_or text (length word - 1) 0 < 128)
 word_ends word text ascii some holds =
     let same : map to_ascii_lowercase (take (length word) text) ≡ map to_ascii_lowercase word =
-        (bytes_eq-Decides _ _).0 holds in
+    (bytes_eq-Decides _ _).0 holds in
     let long : length word ≤ length text =
-        omega (arith, length-take (length word) text, length-map (take (length word) text) to_ascii_lowercase, length-map word to_ascii_lowercase, ap length same) in
+    omega (arith, length-take (length word) text, length-map (take (length word) text) to_ascii_lowercase, length-map word to_ascii_lowercase, ap length same) in
     let last = length word - 1 in
     let front = take (length word) text in
     let within : last < length front =
-        omega (arith, long, length-take (length word) text) in
+    omega (arith, long, length-take (length word) text) in
     let cased : to_ascii_lowercase (get_or text last 0) ≡ to_ascii_lowercase (get_or word last 0) =
-        ap to_ascii_lowercase
-        (sym (get_or-take (length word) text last 0 (omega (arith, some))))
-        ∙ (sym (get_or-map to_ascii_lowercase front last 0 0 within)
-        ∙ (ap (λ bytes. get_or bytes last 0) same
-        ∙ get_or-map to_ascii_lowercase word last 0 0 (omega (arith, some)))) in
+    ap to_ascii_lowercase
+    (sym (get_or-take (length word) text last 0 (omega (arith, some))))
+    ∙ (sym (get_or-map to_ascii_lowercase front last 0 0 within)
+    ∙ (ap (λ bytes. get_or bytes last 0) same
+    ∙ get_or-map to_ascii_lowercase word last 0 0 (omega (arith, some)))) in
     (long, ascii_in_either_case _ _ cased (ascii last))

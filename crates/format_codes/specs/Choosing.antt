@@ -4,9 +4,7 @@ use Rattle.std.specs.Prelude.{if◌then◌else◌, List, [], ◌∷◌, length, 
 use Rattle.std.specs.Prelude.{is_some, is_none, ℤ, count_by}
 use Rattle.std.specs.Int.{is_negative, is_positive}
 use Rattle.std.specs.List.{list_all, last_or}
-use Rattle.std.specs.Option.{option_map}
 use Rattle.format_codes.specs.declared.kind.SectionKind.{SectionKind}
-use Rattle.format_codes.specs.declared.kind.SectionKind.TheVariants as kind
 use Rattle.format_codes.specs.declared.piece.CodePiece.{CodePiece}
 use Rattle.format_codes.specs.Pieces.{has, is_condition, is_general, is_text_place, is_time}
 use Rattle.format_codes.specs.Pieces.{is_unknown}

@@ -1,5 +1,6 @@
 -- What is kept of a code that is cut once.
-use Rattle.std.specs.Prelude.{ℕ, ◌≡◌, true, false, is_some, if◌then◌else◌, List, Option, Some, None, map}
+use Rattle.std.specs.Prelude.{ℕ, ◌≡◌, Bool, true, false, [], ◌∷◌, ℤ, not, is_none, is_some, if◌then◌else◌, List, Option, Some, None, map}
+use Rattle.std.specs.Int.{is_negative, is_positive}
 use Rattle.std.specs.Option.{option_map}
 use Rattle.std.specs.List.{list_all}
 use Rattle.format_codes.specs.declared.kind.SectionKind.{SectionKind}
@@ -11,7 +12,7 @@ use Rattle.format_codes.specs.declared.shown_format.NumberSection.{NumberSection
 use Rattle.format_codes.specs.declared.shown_format.ShownFormat.{ShownFormat}
 use Rattle.format_codes.specs.Choosing.{are_supported, ShownSection, is_supported, number_sections, shown_pieces}
 use Rattle.format_codes.specs.Choosing.{text_section}
-use Rattle.format_codes.specs.Conditions.{condition_in}
+use Rattle.format_codes.specs.Conditions.{condition_in, leaves_sign_out, takes}
 use Rattle.format_codes.specs.Kinds.{kind_of}
 use Rattle.format_codes.specs.Sections.{shown_sections}
 
@@ -87,3 +88,31 @@ shown_by chosen = record {
   pieces = chosen.pieces.now;
   unsigned = chosen.is_unsigned;
 }
+
+-- a section that is kept, as it shows a number
+abbrev pub shown_by_kept : Bool → KeptSection → Option ShownSection
+shown_by_kept unsigned kept =
+    Some (record { kind = kept.kind; pieces = kept.pieces; unsigned = unsigned })
+
+-- a section that is kept, if it takes a number
+abbrev pub kept_if_taken : ℤ × ℤ → Bool → Bool → KeptSection → Option ShownSection
+kept_if_taken number else_takes else_out kept =
+    if takes number else_takes kept.condition
+    then shown_by_kept (leaves_sign_out else_out kept.condition) kept
+    else None
+
+-- the first of two sections
+abbrev pub first_section : Option ShownSection → Option ShownSection → Option ShownSection
+first_section (Some section) other = Some section
+first_section None other = other
+
+-- the section among those that are kept that shows a number
+abbrev pub kept_section_for : ℤ × ℤ → List KeptSection → Option ShownSection
+kept_section_for number [] = None
+kept_section_for number (a ∷ []) = kept_if_taken number true false a
+kept_section_for number (a ∷ b ∷ []) =
+    first_section (kept_if_taken number (not (is_negative number.0)) false a)
+    (kept_if_taken number true (is_none a.condition) b)
+kept_section_for number (a ∷ b ∷ c ∷ others) =
+    first_section (kept_if_taken number (is_positive number.0) false a)
+    (first_section (kept_if_taken number (is_negative number.0) true b) (shown_by_kept false c))

@@ -73,7 +73,12 @@ fn is_below_0(number: i128) -> bool
 fn whole_cmp(whole: i128, power: i32, other: i128, other_power: i32) -> Ordering
     ensures { result ≡ number_cmp (whole, power) (other, other_power) }
 {
-    let by_size = size_cmp(whole.unsigned_abs(), power, other.unsigned_abs(), other_power);
+    let by_size = size_cmp(
+        whole.unsigned_abs(),
+        power,
+        other.unsigned_abs(),
+        other_power,
+    );
     signed_cmp(is_below_0(whole), is_below_0(other), by_size)
 }
 
@@ -104,9 +109,7 @@ pub fn takes(number: (i128, i32), else_takes: bool, condition: Option<Condition>
     ensures { result ≡ takes number else_takes condition }
 {
     match condition {
-        Some(condition) => {
-            holds_by(condition.comparison, number_cmp(number, condition.number))
-        }
+        Some(condition) => { holds_by(condition.comparison, number_cmp(number, condition.number)) }
         None => else_takes,
     }
 }

@@ -13,10 +13,7 @@ use crate::text::{around_first, behind_ascii, behind_word, split_character};
 use std::alloc::{AllocError, Global};
 
 /// Pushes the character in front as it stands for itself, and answers what stands behind it.
-fn push_character<'a>(
-    found: &mut Vec<CodePiece>,
-    text: &'a str,
-) -> Result<&'a str, AllocError>
+fn push_character<'a>(found: &mut Vec<CodePiece>, text: &'a str) -> Result<&'a str, AllocError>
     ensures { IfOk result (λ rest. IsCut
         (record { pieces = first_character text.now; size = character_size text.now })
         text.now found.old.items found.new.items rest.now) }
@@ -87,7 +84,10 @@ fn run_behind(letter: u8, behind: &[u8]) -> usize
     ensures value { result ≡ run_behind letter behind.now }
     ensures bound { result ≤ length behind.now }
 {
-    behind.iter().take_while(|b| b.to_ascii_lowercase() == letter).count()
+    behind
+        .iter()
+        .take_while(|b| b.to_ascii_lowercase() == letter)
+        .count()
 }
 
 /// What stands behind a run of this small letter in either case, and how long the run is.
@@ -132,7 +132,10 @@ fn half_day_or_other<'a>(first: u8, code: &'a str, behind: &'a str) -> (CodePiec
     }
     if let Some(rest) = behind_word(code, b"a/p") {
         let evening = char::from(code.as_bytes()[2]);
-        return (CodePiece::HalfDay(HalfDay::Letters(char::from(first), evening)), rest);
+        return (
+            CodePiece::HalfDay(HalfDay::Letters(char::from(first), evening)),
+            rest,
+        );
     }
     unit_or_other(first, behind)
 }

@@ -46,14 +46,18 @@ fn has_digit(pieces: &[CodePiece]) -> bool
 pub fn has_digit_or_exponent(pieces: &[CodePiece]) -> bool
     ensures { result ≡ has is_digit_or_exponent pieces.now }
 {
-    pieces.iter().any(|piece| piece.is_digit() || piece.is_exponent())
+    pieces
+        .iter()
+        .any(|piece| piece.is_digit() || piece.is_exponent())
 }
 
 /// Whether a section has what no section of numbers has.
 pub fn has_no_number(section: &[CodePiece]) -> bool
     ensures { result ≡ has is_no_number section.now }
 {
-    section.iter().any(|piece| piece.is_unknown() || piece.is_text_place())
+    section
+        .iter()
+        .any(|piece| piece.is_unknown() || piece.is_text_place())
 }
 
 /// Whether the word General stands in a section.
@@ -74,9 +78,7 @@ pub fn has_time(section: &[CodePiece]) -> bool
 fn has_not_general(section: &[CodePiece]) -> bool
     ensures { result ≡ has is_not_general section.now }
 {
-    section
-        .iter()
-        .any(|p| p.is_digit() || p.is_exponent() || p.is_percent() || p.is_time())
+    section.iter().any(|p| p.is_digit() || p.is_exponent() || p.is_percent() || p.is_time())
 }
 
 /// How often the word General stands in a section.
@@ -123,7 +125,10 @@ fn has_name(timed: &[CodePiece]) -> bool
 fn second_digits_count(timed: &[CodePiece]) -> usize
     ensures { result ≡ count_by is_second_digits timed.now }
 {
-    timed.iter().filter(|piece| piece.is_second_digits()).count()
+    timed
+        .iter()
+        .filter(|piece| piece.is_second_digits())
+        .count()
 }
 
 /// Whether pieces of a date that tell minutes from months have no places of digits but those of
@@ -182,7 +187,9 @@ fn has_point(pieces: &[CodePiece]) -> bool
 fn has_point_or_percent(section: &[CodePiece]) -> bool
     ensures { result ≡ has is_point_or_percent section.now }
 {
-    section.iter().any(|piece| piece.is_point() || piece.is_percent())
+    section
+        .iter()
+        .any(|piece| piece.is_point() || piece.is_percent())
 }
 
 /// How many pieces stand before the first `E`, or all.
@@ -190,7 +197,10 @@ fn exponent_place(section: &[CodePiece]) -> usize
     ensures value { result ≡ position_or_len is_exponent section.now }
     ensures bound { result ≤ length section.now }
 {
-    section.iter().take_while(|piece| !piece.is_exponent()).count()
+    section
+        .iter()
+        .take_while(|piece| !piece.is_exponent())
+        .count()
 }
 
 /// How often an `E` stands in a section.
@@ -216,10 +226,7 @@ fn is_power_sound(section: &[CodePiece]) -> bool
     ensures { result ≡ is_power_sound section.now }
 {
     let (front, behind) = around(section, exponent_place(section));
-    exponent_count(section) == 1
-        && has_digit(front)
-        && has_digit(behind)
-        && !has_point(behind)
+    exponent_count(section) == 1 && has_digit(front) && has_digit(behind) && !has_point(behind)
 }
 
 /// How many pieces stand before the first `/`, or all.
@@ -256,7 +263,10 @@ fn denominator_place(behind: &[CodePiece]) -> usize
     ensures value { result ≡ prefix_len (λ p. not (is_denominator p)) behind.now }
     ensures bound { result ≤ length behind.now }
 {
-    behind.iter().take_while(|piece| !is_denominator(**piece)).count()
+    behind
+        .iter()
+        .take_while(|piece| !is_denominator(**piece))
+        .count()
 }
 
 /// How many pieces in front are those of a denominator.
@@ -264,7 +274,10 @@ fn denominator_size(pieces: &[CodePiece]) -> usize
     ensures value { result ≡ prefix_len is_denominator pieces.now }
     ensures bound { result ≤ length pieces.now }
 {
-    pieces.iter().take_while(|piece| is_denominator(**piece)).count()
+    pieces
+        .iter()
+        .take_while(|piece| is_denominator(**piece))
+        .count()
 }
 
 /// The denominator of a section of fractions.
@@ -291,7 +304,9 @@ pub fn is_fixed(denominator: &[CodePiece]) -> bool
 fn all_figures(denominator: &[CodePiece]) -> bool
     ensures { result ≡ list_all (λ p. is_figure p || is_zero p) denominator.now }
 {
-    denominator.iter().all(|piece| piece.is_figure() || piece.is_zero())
+    denominator
+        .iter()
+        .all(|piece| piece.is_figure() || piece.is_zero())
 }
 
 /// Whether each piece is a place of a digit.

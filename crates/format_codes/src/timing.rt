@@ -136,4 +136,3 @@ pub fn timed_pieces(alloc: Global, section: &[CodePiece]) -> Result<Vec<CodePiec
     }
     Ok(timed)
 }
-

@@ -8,7 +8,7 @@ use Rattle.format_codes.proofs.shown_format.keep_numbers.Given as goal
 abbrev pub invariant-loop-section : goal.invariant-loop-section
 invariant-loop-section l = record {
   kept : map (λ s. Some (section_kept s)) l.kept.items
-      ≡ map kept_section (map (λ s. s.now) (take l.section-index l.sections));
+      ≡ map kept_section (map (λ s. s.items) (take l.section-index l.sections));
   kinds : list_all (λ section. is_some (kind_of section))
-      (map (λ s. s.now) (take l.section-index l.sections)) ≡ true;
+      (map (λ s. s.items) (take l.section-index l.sections)) ≡ true;
 }
