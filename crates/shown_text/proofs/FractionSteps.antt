@@ -26,7 +26,8 @@ best_step n unit most under f within =
     let left : most - under ≡ most + 1 - (under + 1) = omega (arith, within) in
     ap (λ k. fold (λ g d. nearer n unit g (fraction_over n unit d)) f (range_with_len under k)) more
     ∙ ap
-    (λ k. fold (λ g d. nearer n unit g (fraction_over n unit d)) next (range_with_len (under + 1) k))
+    (λ k. fold (λ g d. nearer n unit g (fraction_over n unit d)) next
+    (range_with_len (under + 1) k))
     left
 
 -- a unit of thirty places at most

@@ -88,7 +88,8 @@ past_nine n (negsuc p) behind some small far is =
 
 -- a limit of eleven digits before the point and nine behind it
 pub limit_small : (places : ℕ) → places ≤ 9 → 10 ^ (11 + places) ≤ 10 ^ 20
-limit_small places few = pow-le-pow_right (omega arith) (let h : 11 + places ≤ 20 = omega arith in h)
+limit_small places few =
+    let within : 11 + places ≤ 20 = omega arith in pow-le-pow_right (omega arith) within
 
 -- a size that is too great for its places
 pub past_limit : (n : ℕ) (power : ℤ) (places : ℕ) → (n ≡ 0 → ⊥) → places ≤ 9 →
@@ -107,4 +108,5 @@ pub no_digits : (n : ℕ) (power : ℤ) → n ≤ 10 ^ 15 → power <ℤ pos 0 �
     [] ≡ nearest_digits n power
 no_digits n (pos p) small below far = absurd (omega (arith, ints))
 no_digits n (negsuc p) small below far =
-    ap (λ k. digits_above_0 k 0) (nothing_left (p + 1) n (omega (arith, far)) (omega (arith, small)))
+    ap (λ k. digits_above_0 k 0)
+    (nothing_left (p + 1) n (omega (arith, far)) (omega (arith, small)))

@@ -1,13 +1,11 @@
 -- Sections of fractions, such as `# ?/?` and `# ??/16`.
 use Rattle.std.specs.Prelude.{ℕ, ◌+◌, ◌-◌, ◌*◌, ◌/◌, ◌%◌, ◌^◌, ◌==◌, ◌&&◌, ◌||◌, nat_lt, not}
-use Rattle.std.specs.Prelude.{Bool, true, false, if◌then◌else◌, List, [], ◌∷◌, ◌++◌, length, take}
-use Rattle.std.specs.Prelude.{drop, min, replicate, ℤ, pos, negsuc, count_by}
+use Rattle.std.specs.Prelude.{Bool, false, if◌then◌else◌, List, [], ◌∷◌, ◌++◌, length, take}
+use Rattle.std.specs.Prelude.{drop, replicate, ℤ, pos, negsuc}
 use Rattle.std.specs.Fmt.{decimal}
-use Rattle.std.specs.List.{flat_map, prefix_len, suffix_len, before_first}
+use Rattle.std.specs.List.{prefix_len, suffix_len, before_first}
 use Rattle.std.specs.List.{after_first, after_last, take_while, fold, range_with_len}
 use Rattle.format_codes.specs.declared.piece.CodePiece.{CodePiece}
-use Rattle.format_codes.specs.declared.piece.CodePiece.TheVariants as piece
-use Rattle.format_codes.specs.declared.piece.Filler.TheVariants.{Nothing, Space}
 use Rattle.format_codes.specs.Kinds.{from_denominator, is_denominator, is_fixed}
 use Rattle.format_codes.specs.Pieces.{has, is_digit, is_slash, is_zero}
 use Rattle.shown_text.specs.declared.fractions.Fraction.{Fraction}
@@ -15,7 +13,7 @@ use Rattle.shown_text.specs.FractionPlaces.{is_space_place, is_empty_place, widt
 use Rattle.shown_text.specs.FractionPlaces.{texts_between, denominator_text}
 use Rattle.shown_text.specs.FractionArithmetic.{nearest_over, distance, fixed_denominator}
 use Rattle.shown_text.specs.FractionArithmetic.{most_denominator}
-use Rattle.shown_text.specs.Digits.{place_count, with_digits, is_grouped, among_places, last_place}
+use Rattle.shown_text.specs.Digits.{place_count, with_digits, is_grouped, last_place}
 
 -- the pieces of a section of fractions: the places of a whole number with what stands between them
 -- and the places of the numerator; those; what stands on either side of the slash; the denominator;
@@ -155,7 +153,7 @@ mixed_digits parts digits is_zero_whole f =
     if (f.over == 0) && not (has is_zero parts.over)
     then whole_text parts digits ++ no_fraction parts
     else whole_front parts digits is_zero_whole f.over
-        ++ slashed parts (decimal f.over) f.under
+    ++ slashed parts (decimal f.over) f.under
 
 -- a whole number with so many zeros behind it, and a fraction
 abbrev pub mixed : FractionParts → ℕ → ℕ → Fraction → List ℕ
@@ -178,16 +176,16 @@ parted parts n unit =
     if has is_digit parts.whole
     then carried parts (n / unit) (found_fraction parts.under (n % unit) unit)
     else texts_between parts.between
-        ++ slashed parts (decimal (found_fraction parts.under n unit).over)
-        (found_fraction parts.under n unit).under
+    ++ slashed parts (decimal (found_fraction parts.under n unit).over)
+    (found_fraction parts.under n unit).under
 
 -- a whole number with so many zeros behind it in the parts of a section
 abbrev pub unparted : FractionParts → ℕ → ℕ → List ℕ
 unparted parts n zeros =
     if has is_digit parts.whole then mixed parts n zeros (empty_fraction parts.under)
     else texts_between parts.between
-        ++ slashed parts (whole_digits (n * (empty_fraction parts.under).under) zeros)
-        (empty_fraction parts.under).under
+    ++ slashed parts (whole_digits (n * (empty_fraction parts.under).under) zeros)
+    (empty_fraction parts.under).under
 
 -- A size in the parts of a section. One with more than thirty places is so far below 1 that no
 -- fraction is nearer than 0.

@@ -64,7 +64,7 @@ abbrev pub sized_text : ShownSection → ℤ × ℤ → List ℕ
 sized_text section exact =
     if is_sized section (shown_digits exact).1
     then signed_text section (is_negative exact.0) (nat_abs (shown_digits exact).0)
-        (shown_digits exact).1
+    (shown_digits exact).1
     else general_text exact
 
 -- a number in a section: the exact days of a date, and fifteen digits of what is none

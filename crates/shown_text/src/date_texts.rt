@@ -83,7 +83,10 @@ fn is_clock(piece: CodePiece) -> bool
 fn is_date_part(piece: CodePiece) -> bool
     ensures { result ≡ is_date_part piece }
 {
-    matches!(piece.unit(), Some(TimeUnit::Year) | Some(TimeUnit::Month) | Some(TimeUnit::Day))
+    matches!(
+        piece.unit(),
+        Some(TimeUnit::Year) | Some(TimeUnit::Month) | Some(TimeUnit::Day)
+    )
 }
 
 /// How many digits of a second pieces show, of three at most.
@@ -210,7 +213,11 @@ fn push_weekday(out: &mut String, name: &str, count: usize) -> Result<(), AllocE
         (string_bytes out.new ≡ string_bytes out.old ++ weekday_text count name.now) }
     ensures err { OnErr result (Extends (string_bytes out.old) (string_bytes out.new)) }
 {
-    out.push_str(if count == 3 { first_letters(name, 3) } else { name })
+    out.push_str(if count == 3 {
+        first_letters(name, 3)
+    } else {
+        name
+    })
 }
 
 /// Appends a part of a date, and nothing where there is none.
@@ -286,12 +293,7 @@ impl ShownTime {
     }
 
     /// Appends a part of a date or of a time of day.
-    fn push_part(
-        &self,
-        out: &mut String,
-        unit: TimeUnit,
-        count: usize,
-    ) -> Result<(), AllocError>
+    fn push_part(&self, out: &mut String, unit: TimeUnit, count: usize) -> Result<(), AllocError>
         ensures ok { OnOk result
             (string_bytes out.new ≡ string_bytes out.old ++ part_text self.now unit count) }
         ensures err { OnErr result (Extends (string_bytes out.old) (string_bytes out.new)) }
@@ -301,9 +303,7 @@ impl ShownTime {
             TimeUnit::Hour | TimeUnit::Minute | TimeUnit::Second => {
                 push_count(out, self.clock_number(unit), count.min(2))
             }
-            TimeUnit::Day if count > 2 => {
-                push_weekday(out, day_name(self.is_1904, day), count)
-            }
+            TimeUnit::Day if count > 2 => { push_weekday(out, day_name(self.is_1904, day), count) }
             _ => push_date_part(out, shown_date(self.is_1904, day), unit, count),
         }
     }
@@ -364,11 +364,7 @@ fn is_unit(unit: TimeUnit, other: TimeUnit) -> bool
 
 /// Appends a point and so many digits of a second.
 #[tactic(auto, using(decimals::proofs::Rounded::unit_some))]
-fn push_second_digits(
-    out: &mut String,
-    count: usize,
-    milliseconds: u32,
-) -> Result<(), AllocError>
+fn push_second_digits(out: &mut String, count: usize, milliseconds: u32) -> Result<(), AllocError>
     ensures ok { OnOk result
         (string_bytes out.new ≡ string_bytes out.old ++ second_digits_text count milliseconds) }
     ensures err { OnErr result (Extends (string_bytes out.old) (string_bytes out.new)) }

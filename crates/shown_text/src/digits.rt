@@ -1,5 +1,5 @@
-//! Digits in the places that a section has for them. A refusal may leave a front of what is appended
-//! behind.
+//! Digits in the places that a section has for them. A refusal may leave a front of what is
+//! appended behind.
 ghost use Rattle.std.specs.Prelude.{◌≡◌, ◌-◌, ◌<◌, ◌≤◌, ◌++◌, length, take};
 ghost use Rattle.std.specs.Prelude.{string_bytes, OnOk, OnErr, IfSome};
 ghost use Rattle.escaped_text.specs.Escaped.{Extends};
@@ -164,7 +164,11 @@ fn push_in_places(
 fn places_behind(left: usize, piece: CodePiece) -> usize
     ensures { result ≡ places_behind left piece }
 {
-    if piece.is_digit() { left.saturating_sub(1) } else { left }
+    if piece.is_digit() {
+        left.saturating_sub(1)
+    } else {
+        left
+    }
 }
 
 /// How many places of digits there are.
@@ -210,7 +214,10 @@ pub fn is_grouped(pieces: &[CodePiece]) -> bool
     ensures { result ≡ is_grouped pieces.now }
 {
     let (up_to_last, _) = pieces.split_at(last_place(pieces));
-    up_to_last.iter().skip(first_place(pieces)).any(|piece| piece.is_comma())
+    up_to_last
+        .iter()
+        .skip(first_place(pieces))
+        .any(|piece| piece.is_comma())
 }
 
 /// Appends pieces with the digits of a whole number in their places, and `front` in front of these.
@@ -383,7 +390,13 @@ fn push_behind(
     if !shows_digits {
         return push_own_texts(out, after);
     }
-    push_fraction_places(out, digits, hidden_places(digits, after), place_count(after), after)
+    push_fraction_places(
+        out,
+        digits,
+        hidden_places(digits, after),
+        place_count(after),
+        after,
+    )
 }
 
 /// Appends pieces, and a point among them, with the digits of a whole number in their places, the
@@ -402,7 +415,13 @@ pub fn push_laid_out(
     let whole = digits.without_last(place_count(after));
     let shows_digits = has_places(section);
     let shows_point = has_point(section);
-    push_whole(out, shows_point && shows_digits, forced, &whole, before_point(section))?;
+    push_whole(
+        out,
+        shows_point && shows_digits,
+        forced,
+        &whole,
+        before_point(section),
+    )?;
     if shows_point {
         out.push_str(".")?;
         push_behind(out, shows_digits, digits, after)?;

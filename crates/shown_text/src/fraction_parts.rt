@@ -91,7 +91,11 @@ impl GivenParts<'_> {
     {
         let (to_last_place, before) = front.split_at(last_place(front));
         let (before_numerator, over) = to_last_place.split_at(run_place(to_last_place));
-        let whole_places = if has_places(before_numerator) { last_place(before_numerator) } else { 0 };
+        let whole_places = if has_places(before_numerator) {
+            last_place(before_numerator)
+        } else {
+            0
+        };
         let (whole, between) = before_numerator.split_at(whole_places);
         let (behind, from_denominator) = back.split_at(denominator_place(back));
         let (under, rest) = from_denominator.split_at(denominator_len(from_denominator));

@@ -158,7 +158,14 @@ fn push_in_place_of_whole(out: &mut String, parts: &GivenParts) -> Result<(), Al
     ensures err { OnErr result (Extends (string_bytes out.old) (string_bytes out.new)) }
 {
     let (places, _) = parts.whole.split_at(parts.whole.len().saturating_sub(1));
-    push_with_digits(out, false, false, "", &Digits { text: "", zeros: 0 }, places)?;
+    push_with_digits(
+        out,
+        false,
+        false,
+        "",
+        &Digits { text: "", zeros: 0 },
+        places,
+    )?;
     push_gap(out, parts)
 }
 
@@ -215,7 +222,16 @@ fn push_mixed(
     ensures err { OnErr result (Extends (string_bytes out.old) (string_bytes out.new)) }
 {
     if whole == 0 {
-        return push_mixed_digits(out, parts, &Digits { text: "0", zeros: 0 }, true, fraction);
+        return push_mixed_digits(
+            out,
+            parts,
+            &Digits {
+                text: "0",
+                zeros: 0,
+            },
+            true,
+            fraction,
+        );
     }
     let mut buffer = Buffer::new();
     let text = buffer.format(whole);
@@ -276,7 +292,15 @@ fn push_improper(
     ensures err { OnErr result (Extends (string_bytes out.old) (string_bytes out.new)) }
 {
     if number == 0 {
-        return push_slashed(out, parts, &Digits { text: "0", zeros: 0 }, under);
+        return push_slashed(
+            out,
+            parts,
+            &Digits {
+                text: "0",
+                zeros: 0,
+            },
+            under,
+        );
     }
     let mut buffer = Buffer::new();
     let text = buffer.format(number);
@@ -305,12 +329,7 @@ fn push_unparted(
 }
 
 /// Appends a size in the parts of a section.
-#[tactic(
-    auto,
-    using(decimals::proofs::Rounded::unit_some, crate::proofs::FractionSteps::unit_fits,
-        crate::proofs::FractionSteps::whole_size, crate::proofs::FractionSteps::parted_size,
-        crate::proofs::FractionSteps::tiny_size)
-)]
+#[tactic(auto, using(decimals::proofs::Rounded::unit_some, crate::proofs::FractionSteps::unit_fits, crate::proofs::FractionSteps::whole_size, crate::proofs::FractionSteps::tiny_size))]
 fn push_parts(out: &mut String, parts: &GivenParts, size: Size) -> Result<(), AllocError>
     ensures ok { OnOk result (string_bytes out.new ≡ string_bytes out.old
         ++ parts_text (parts_in parts.now) size.number size.power) }

@@ -84,7 +84,11 @@ impl Fraction {
     {
         let far = distance(number, unit, self.over, self.under);
         let other_far = distance(number, unit, other.over, other.under);
-        if other_far * self.under < far * other.under { other } else { self }
+        if other_far * self.under < far * other.under {
+            other
+        } else {
+            self
+        }
     }
 
     /// The nearest fraction with a denominator up to `most`, of those that are as near the one with
@@ -127,7 +131,11 @@ impl Fraction {
     {
         Fraction {
             over: 0,
-            under: if is_fixed(under) { fixed_denominator(under) } else { 1 },
+            under: if is_fixed(under) {
+                fixed_denominator(under)
+            } else {
+                1
+            },
         }
     }
 }
@@ -248,7 +256,10 @@ pub fn push_width(out: &mut String, pieces: &[CodePiece]) -> Result<(), AllocErr
         (string_bytes out.new ≡ string_bytes out.old ++ spaces (width pieces.now)) }
     ensures err { OnErr result (Extends (string_bytes out.old) (string_bytes out.new)) }
 {
-    push_spaces(out, pieces.iter().filter(|piece| has_width(**piece)).count())
+    push_spaces(
+        out,
+        pieces.iter().filter(|piece| has_width(**piece)).count(),
+    )
 }
 
 /// Appends the texts of pieces between places.
@@ -288,7 +299,11 @@ fn push_filled(out: &mut String, under: &[CodePiece], number: u128) -> Result<()
 }
 
 /// Appends a denominator.
-pub fn push_denominator(out: &mut String, under: &[CodePiece], number: u128) -> Result<(), AllocError>
+pub fn push_denominator(
+    out: &mut String,
+    under: &[CodePiece],
+    number: u128,
+) -> Result<(), AllocError>
     ensures ok { OnOk result (string_bytes out.new ≡ string_bytes out.old
         ++ denominator_text under.now number) }
     ensures err { OnErr result (Extends (string_bytes out.old) (string_bytes out.new)) }

@@ -39,8 +39,16 @@ fn thousands(section: &[CodePiece]) -> usize
     ensures few { result ≤ 2 ^ 33 }
 {
     let before = before_point(section);
-    let front = if has_places(before) { commas_behind(before) } else { 0 };
-    let behind = if has_places(section) { commas_behind(after_point(section)) } else { 0 };
+    let front = if has_places(before) {
+        commas_behind(before)
+    } else {
+        0
+    };
+    let behind = if has_places(section) {
+        commas_behind(after_point(section))
+    } else {
+        0
+    };
     front + behind
 }
 
@@ -106,7 +114,13 @@ pub fn push_number(out: &mut String, section: &[CodePiece], size: Size) -> Resul
         ++ number_text section.now size.number size.power) }
     ensures err { OnErr result (Extends (string_bytes out.old) (string_bytes out.new)) }
 {
-    push_nearest(out, false, size.number, number_power(section, size.power), section)
+    push_nearest(
+        out,
+        false,
+        size.number,
+        number_power(section, size.power),
+        section,
+    )
 }
 
 /// The greatest multiple of `step` that is no greater.
@@ -217,7 +231,11 @@ fn power_in(front: &[CodePiece], size: Size) -> i64
     ensures value { result ≡ power_in front.now size.number size.power }
     ensures near { nat_abs result < 2 ^ 35 }
 {
-    if size.number == 0 { 0 } else { shown_power(front, size) }
+    if size.number == 0 {
+        0
+    } else {
+        shown_power(front, size)
+    }
 }
 
 /// Appends what stands before the letter of a power, with a size over that power.

@@ -36,11 +36,7 @@ fn push_general_piece(out: &mut String, size: Size, piece: CodePiece) -> Result<
 }
 
 /// Appends a size in a section of General.
-fn push_general_pieces(
-    out: &mut String,
-    pieces: &[CodePiece],
-    size: Size,
-) -> Result<(), AllocError>
+fn push_general_pieces(out: &mut String, pieces: &[CodePiece], size: Size) -> Result<(), AllocError>
     ensures ok { OnOk result (string_bytes out.new ≡ string_bytes out.old
         ++ general_pieces pieces.now size.number size.power) }
     ensures err { OnErr result (Extends (string_bytes out.old) (string_bytes out.new)) }
@@ -100,11 +96,7 @@ fn push_signed(
 
 /// Appends a number in a section by its fifteen digits, and under General where its power is too
 /// great.
-fn push_sized(
-    out: &mut String,
-    section: &ChosenSection,
-    number: &Decimal,
-) -> Result<(), AllocError>
+fn push_sized(out: &mut String, section: &ChosenSection, number: &Decimal) -> Result<(), AllocError>
     ensures ok { OnOk result (string_bytes out.new ≡ string_bytes out.old
         ++ sized_text (shown_by section.now) (number_of number.now)) }
     ensures err { OnErr result (Extends (string_bytes out.old) (string_bytes out.new)) }

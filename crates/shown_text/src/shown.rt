@@ -123,8 +123,8 @@ fn push_text_shown(out: &mut String, format: &ShownFormat, text: &str) -> Result
 ///
 /// A number counts days from 1904 where `is_1904` says so, and a date as it says itself. Under a
 /// code that isn't supported a number is shown under General, a date as ISO 8601 has it, and a text
-/// as it is; an error is its own text under any code. A refusal may leave a front of the text behind
-/// what was there.
+/// as it is; an error is its own text under any code. A refusal may leave a front of the text
+/// behind what was there.
 #[tactic(auto, unfolding(crate::specs::ShownText::shown_text))]
 pub fn push_shown(
     out: &mut String,

@@ -50,8 +50,8 @@ pub fn nearest_at(number: u128, power: i64) -> Option<u128>
     }
 }
 
-/// The whole number that is nearest to a size times ten to a power, halves upward, without the zeros
-/// behind it, and how many these are.
+/// The whole number that is nearest to a size times ten to a power, halves upward, without the
+/// zeros behind it, and how many these are.
 pub fn nearest_whole(number: u128, power: i64) -> (u128, usize)
     requires few { number ≤ 10 ^ 15 }
     requires near { nat_abs power < 2 ^ 62 }
@@ -77,7 +77,11 @@ pub fn nearest_len(number: u128, power: i64) -> usize
     ensures { result ≡ length (nearest_digits number power) }
 {
     let (whole, zeros) = nearest_whole(number, power);
-    if whole == 0 { 0 } else { digit_count(whole) + zeros }
+    if whole == 0 {
+        0
+    } else {
+        digit_count(whole) + zeros
+    }
 }
 
 impl Size {

@@ -1,7 +1,6 @@
-use Rattle.std.proofs.Common.{rules, arith, ◌≡◌, ◌∙◌, ◌++◌, ◌-◌, ◌<◌, ap, sym, append_assoc, append-nil}
+use Rattle.std.proofs.Common.{rules, arith, ◌≡◌, ◌∙◌, ◌++◌, ◌-◌, ap, sym, append_assoc, append-nil}
 use Rattle.std.specs.Prelude.{string_bytes}
 use Rattle.std.proofs.lemmas.Grind.{common_steps}
-use Rattle.escaped_text.proofs.Extending.{Extends-trans}
 use Rattle.shown_text.specs.Digits.{surplus, placed_text, digit_at}
 use Rattle.shown_text.specs.GivenDigits.{digits_in}
 use Rattle.shown_text.proofs.DigitSteps.{surplus_step, surplus_end}

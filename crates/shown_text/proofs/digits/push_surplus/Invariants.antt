@@ -1,4 +1,4 @@
-use Rattle.std.proofs.Common.{◌≡◌, ◌++◌, ◌≤◌, length, string_bytes}
+use Rattle.std.proofs.Common.{◌≡◌, ◌++◌, length, string_bytes}
 use Rattle.escaped_text.specs.Escaped.{Extends}
 use Rattle.shown_text.specs.Digits.{surplus}
 use Rattle.shown_text.specs.GivenDigits.{digits_in}

@@ -1,4 +1,4 @@
-use Rattle.std.proofs.Common.{◌≡◌, ◌+◌, ◌-◌, ◌*◌, ◌^◌, ◌≤◌, drop}
+use Rattle.std.proofs.Common.{◌≡◌, ◌+◌, ◌*◌, ◌^◌, ◌≤◌, drop}
 use Rattle.std.specs.List.{fold}
 use Rattle.shown_text.specs.FractionArithmetic.{figure_value}
 use Rattle.shown_text.proofs.fractions.fixed_denominator.Given as goal

@@ -1,6 +1,5 @@
-use Rattle.std.proofs.Common.{◌≡◌, ◌+◌, ◌-◌, ◌*◌, ◌≤◌, ℕ}
+use Rattle.std.proofs.Common.{◌≡◌, ◌+◌, ◌-◌, ◌*◌, ◌≤◌}
 use Rattle.std.specs.List.{fold, range_with_len}
-use Rattle.shown_text.specs.declared.fractions.Fraction.{Fraction}
 use Rattle.shown_text.specs.FractionTexts.{fraction_over, nearer, nearest_fraction}
 use Rattle.shown_text.proofs.fractions.Fraction.nearest.Given as goal
 

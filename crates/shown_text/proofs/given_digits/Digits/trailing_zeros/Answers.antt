@@ -1,4 +1,4 @@
-use Rattle.std.proofs.Common.{rules, arith, ◌≡◌, ◌∙◌, ◌-◌, ◌+◌, ◌==◌, length, length-take, ap}
+use Rattle.std.proofs.Common.{arith, ◌≡◌, ◌-◌, ◌==◌, length, length-take, ap}
 use Rattle.std.proofs.lemmas.List.Sums.{suffix_len-le-length}
 use Rattle.decimals.specs.Decimals.{trailing_zeros, without_trailing_zeros}
 use Rattle.shown_text.proofs.Zeros.{zeros_added}

@@ -2,7 +2,7 @@ use Rattle.std.proofs.Common.{rules, arith, ◌≡◌, ◌∙◌, ◌-◌, ◌+�
 use Rattle.std.specs.Prelude.{nat_abs}
 use Rattle.std.specs.Int.{w64}
 use Rattle.std.proofs.lemmas.Int.{ints}
-use Rattle.decimals.specs.Rounding.{digit_count}
+use Rattle.decimals.specs.Rounding.{digit_count, nearest}
 use Rattle.shown_text.proofs.SizeSteps.{size_is, power_is, few_kept, near_power}
 use Rattle.shown_text.proofs.sizes.Size.of.Goals as goal
 
@@ -11,7 +11,8 @@ invariant_of-result-clause-few c =
     let small : c.unsigned_abs-whole.result < 2 ^ 128 = search rules in
     let is : c.saturating_sub-behind.result ≡ digit_count c.unsigned_abs-whole.result - 15 =
     search rules in
-    omega (arith, few_kept c.unsigned_abs-whole.result c.saturating_sub-behind.result small is, c.nearest.ensures)
+    let few = few_kept c.unsigned_abs-whole.result c.saturating_sub-behind.result small is in
+    omega (arith, few, c.nearest.ensures)
 
 pub invariant_of-result-clause-near : goal.invariant_of-result-clause-near
 invariant_of-result-clause-near c =
@@ -27,7 +28,8 @@ returns-clause-number c =
     let m = c.args.number.now.mantissa in
     let whole : c.unsigned_abs-whole.result ≡ nat_abs m = search rules in
     let is : c.saturating_sub-behind.result ≡ digit_count (nat_abs m) - 15 = search rules in
-    let known : c.nearest.result ≡ Rattle.decimals.specs.Rounding.nearest c.saturating_sub-behind.result (nat_abs m) = search rules in
+    let known : c.nearest.result ≡ nearest c.saturating_sub-behind.result (nat_abs m) =
+    search rules in
     known ∙ size_is m c.args.number.now.exponent c.saturating_sub-behind.result is
 
 pub returns-clause-power : goal.returns-clause-power
