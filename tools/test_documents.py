@@ -15,6 +15,7 @@ OF_TESTS = {
     "test_tables",
     "worked_checks",
     "worked_precedents",
+    "worked_shown",
     "worked_styles",
     "worked_values",
     "worked_writing",

@@ -1,5 +1,5 @@
 -- The text of a date, which is appended whole or not at all.
-use Rattle.std.proofs.Common.{◌≡◌, ℕ, ℤ, List, Bool, refl}
+use Rattle.std.proofs.Common.{◌≡◌, ℤ, Bool, refl}
 use Rattle.escaped_text.proofs.Extending.{cut_back}
 use Rattle.cell_data.specs.declared.value.ExcelDateTimeType.{ExcelDateTimeType}
 use Rattle.excel_dates.specs.IsoText.{iso_text, moment_text}

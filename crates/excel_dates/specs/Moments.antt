@@ -1,6 +1,7 @@
 -- What a serial stands for: a date with a time of day, a time of day alone, a time that has passed,
 -- or nothing that has a date.
-use Rattle.std.specs.Prelude.{ℕ, ◌^◌, ◌/◌, ◌%◌, ◌<◌, nat_lt, ◌==◌, Bool, not, ◌&&◌}
+use Rattle.std.specs.Prelude.{ℕ, ◌^◌, ◌/◌, ◌%◌, ◌<◌, nat_lt, ◌==◌, Bool, true}
+use Rattle.std.specs.Prelude.{false, not, ◌&&◌}
 use Rattle.std.specs.Prelude.{if◌then◌else◌, Option, Some, None, ℤ}
 use Rattle.cell_data.specs.declared.value.ExcelDateTimeType.{ExcelDateTimeType}
 use Rattle.cell_data.specs.declared.value.ExcelDateTimeType.TheVariants.{DateTime, TimeDelta}
@@ -28,6 +29,13 @@ moment_of days DateTime is_1904 =
 moment_of days TimeDelta is_1904 =
     if nat_lt (milliseconds_of days) (2 ^ 128)
     then moment.Passed (is_below days) (milliseconds_of days) else moment.Untold
+
+-- there is a moment
+abbrev pub is_told : Moment → Bool
+is_told (moment.Dated date time) = true
+is_told (moment.TimeOfDay time) = true
+is_told (moment.Passed is_below time) = true
+is_told moment.Untold = false
 
 -- the year, month, day, hour, minute, second and millisecond of a moment that has a date
 abbrev pub parts_of : Moment → Option (ℕ × ℕ × ℕ × ℕ × ℕ × ℕ × ℕ)

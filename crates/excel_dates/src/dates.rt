@@ -3,7 +3,7 @@ ghost use Rattle.std.specs.Prelude.{◌≡◌, ◌++◌, string_bytes, OnOk, OnE
 ghost use Rattle.decimals.specs.Decimal.{number_of};
 ghost use Rattle.cell_data.specs.declared.value.ExcelDateTimeType.TheVariants.{DateTime, TimeDelta};
 ghost use Rattle.excel_dates.specs.IsoText.{iso_text};
-ghost use Rattle.excel_dates.specs.Moments.{moment_of, parts_of};
+ghost use Rattle.excel_dates.specs.Moments.{moment_of, is_told, parts_of};
 
 use crate::moment::{Moment, moment_of};
 use crate::text::push_moment;
@@ -35,6 +35,9 @@ pub trait ExcelDates {
     /// Whether the days have passed.
     fn is_duration(&self) -> bool;
 
+    /// Whether the days stand for a date, a time of day or a time that has passed.
+    fn is_told(&self) -> bool;
+
     /// The year, month, day, hour, minute, second and millisecond.
     fn to_ymd_hms_milli(&self) -> Option<(u16, u8, u8, u8, u8, u8, u16)>;
 
@@ -56,6 +59,16 @@ impl ExcelDates for ExcelDateTime {
         ensures { IsTrue result ↔ (self.now.kind ≡ TimeDelta) }
     {
         self.kind == ExcelDateTimeType::TimeDelta
+    }
+
+    /// Whether the days stand for a date, a time of day or a time that has passed. Nothing is told
+    /// of days below 0 that haven't passed, past the year 9999, or too many for 128 bits of
+    /// milliseconds.
+    fn is_told(&self) -> bool
+        ensures { result ≡ is_told
+            (moment_of (number_of self.now.value) self.now.kind self.now.is_1904) }
+    {
+        !matches!(moment_of(self), Moment::Untold)
     }
 
     /// The year, month, day, hour, minute, second and millisecond of a date.

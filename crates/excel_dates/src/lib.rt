@@ -18,8 +18,11 @@ mod milliseconds;
 mod moment;
 mod text;
 
+pub use calendar::date_of_day;
 pub use dates::ExcelDates;
 pub use laws::{
     calendars_differ_by_1462_days, days_and_dates_agree, later_days_have_no_earlier_dates,
     later_serials_have_no_fewer_milliseconds,
 };
+pub use milliseconds::{milliseconds_of, nearest};
+pub use text::{push_padded, push_zeros};

@@ -14,7 +14,7 @@ const DAY: u128 = 86_400_000;
 const SPARE_PLACES: u32 = 20;
 
 /// The whole number that is nearest to this one over ten to the power, halves upward.
-fn nearest(number: u128, places: u32) -> u128
+pub fn nearest(number: u128, places: u32) -> u128
     requires places { places < 39 }
     requires room { number ≤ 2 ^ 127 }
     ensures { result ≡ nearest places number }
@@ -56,7 +56,7 @@ fn of_many_places(days: u128, places: u32) -> u128
 
 /// The milliseconds of so many days by their size, where they fit 128 bits. It takes no memory, and
 /// a few steps whatever the number is.
-pub fn milliseconds(days: &Decimal) -> Option<u128>
+pub fn milliseconds_of(days: &Decimal) -> Option<u128>
     ensures { SomeIff result (milliseconds_of (number_of days.now) < 2 ^ 128)
         (milliseconds_of (number_of days.now)) }
 {

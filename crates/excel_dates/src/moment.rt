@@ -5,7 +5,7 @@ ghost use Rattle.excel_dates.specs.Moments.{moment_at, moment_of, IsOfDay};
 ghost use Rattle.excel_dates.specs.Serials.{milliseconds_of, is_below};
 
 use crate::calendar::date_of_day;
-use crate::milliseconds::milliseconds;
+use crate::milliseconds::milliseconds_of;
 use cell_data::{Decimal, ExcelDateTime, ExcelDateTimeType};
 
 /// The milliseconds of a day.
@@ -58,7 +58,7 @@ pub fn moment_of(date: &ExcelDateTime) -> Moment
         ≡ moment_of (number_of date.now.value) date.now.kind date.now.is_1904 }
     ensures time { IsOfDay result }
 {
-    let Some(milliseconds) = milliseconds(&date.value) else {
+    let Some(milliseconds) = milliseconds_of(&date.value) else {
         return Moment::Untold;
     };
     let is_below = is_below(&date.value, milliseconds);

@@ -11,7 +11,8 @@ use cell_data::Decimal;
 use itoa::Buffer;
 use std::alloc::AllocError;
 
-fn push_zeros(out: &mut String, count: usize) -> Result<(), AllocError>
+/// Appends so many zeros.
+pub fn push_zeros(out: &mut String, count: usize) -> Result<(), AllocError>
     ensures ok { OnOk result (string_bytes out.new ≡ string_bytes out.old ++ replicate count 48) }
     ensures err { OnErr result (Extends (string_bytes out.old) (string_bytes out.new)) }
 {
@@ -22,7 +23,7 @@ fn push_zeros(out: &mut String, count: usize) -> Result<(), AllocError>
 }
 
 /// Appends the digits of a number, with zeros in front of them up to so many.
-fn push_padded(out: &mut String, number: u32, width: usize) -> Result<(), AllocError>
+pub fn push_padded(out: &mut String, number: u32, width: usize) -> Result<(), AllocError>
     ensures ok { OnOk result
         (string_bytes out.new ≡ string_bytes out.old ++ padded width number) }
     ensures err { OnErr result (Extends (string_bytes out.old) (string_bytes out.new)) }

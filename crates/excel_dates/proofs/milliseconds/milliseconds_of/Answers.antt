@@ -4,7 +4,7 @@ use Rattle.std.proofs.lemmas.Int.{ints}
 use Rattle.decimals.specs.Rounding.{nearest}
 use Rattle.excel_dates.specs.Serials.{day_length}
 use Rattle.excel_dates.proofs.SerialSteps.{whole_days, part_days}
-use Rattle.excel_dates.proofs.milliseconds.milliseconds.Goals as goal
+use Rattle.excel_dates.proofs.milliseconds.milliseconds_of.Goals as goal
 
 pub returns-then-power-ge0 : goal.returns-then-power-ge0
 returns-then-power-ge0 c =

@@ -1,0 +1,5 @@
+pub mod DigitSteps
+pub mod FractionSteps
+pub mod SizeSteps
+pub mod TextLaws
+pub mod Zeros

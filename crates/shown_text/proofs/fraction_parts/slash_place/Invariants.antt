@@ -1,0 +1,14 @@
+use Rattle.std.proofs.Common.{◌≡◌, ◌+◌, ◌-◌, ◌≤◌, length, drop}
+use Rattle.std.specs.List.{position_or_len}
+use Rattle.format_codes.specs.Pieces.{is_slash}
+use Rattle.shown_text.proofs.fraction_parts.slash_place.Given as goal
+
+abbrev pub invariant-loop-place : goal.invariant-loop-place
+invariant-loop-place l = record {
+  within : l.place ≤ length l.section;
+  found : l.place + position_or_len is_slash (drop l.place l.section)
+      ≡ position_or_len is_slash l.section;
+}
+
+abbrev pub decreases-loop-place : goal.decreases-loop-place
+decreases-loop-place l = length l.section - l.place

@@ -1,0 +1,10 @@
+pub mod DateTexts
+pub mod Digits
+pub mod FractionArithmetic
+pub mod FractionPlaces
+pub mod FractionTexts
+pub mod GeneralText
+pub mod GivenDigits
+pub mod GivenParts
+pub mod NumberTexts
+pub mod ShownText
