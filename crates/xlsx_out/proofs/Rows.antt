@@ -218,7 +218,8 @@ module _ (form : WrittenForm) (p : ℕ × ℕ) (v : Option CellValue) (w : Optio
   pub data_step : (row : Option ℕ) → (is_some v || is_some w) ≡ true →
       below_all position_cmp p vs ≡ true → below_all position_cmp p ws ≡ true →
       data_left form row (given p v ++ vs) (given p w ++ ws)
-      ≡ entering row p.0 ++ (given_cell form p (unwrap_or v nothing) w ++ data_left form (Some p.0) vs ws)
+      ≡ entering row p.0
+      ++ (given_cell form p (unwrap_or v nothing) w ++ data_left form (Some p.0) vs ws)
   data_step row some in_values in_forms =
       let whole = used (given p v ++ vs) ++ used (given p w ++ ws) in
       let rest = used vs ++ used ws in

@@ -48,7 +48,8 @@ module _ (form : WrittenForm) (F : Placed) where
   same_places (e ∷ some) = ap (λ es. (e.0, tt) ∷ es) (same_places some)
 
   given_of : (p : ℕ × ℕ) (found : Option (List ℕ)) →
-      given_formula p (option_map (written_formula form F p) found) ≡ optional_formula form F p found
+      given_formula p (option_map (written_formula form F p) found)
+      ≡ optional_formula form F p found
   given_of p None = refl
   given_of p (Some formula) = refl
 

@@ -37,5 +37,6 @@ returns c =
     (codes "sheetData") [] [] (data_events c.args.form values formulas) c.in_ok-open.ensures refl
     (c.in_ok-push_rows.ensures
     ∙ ap (with_events c.open.new.self)
-    ((λ i. data_left c.args.form None (meant value_of_data (cells i)) (all i)) ∙ data_same c.args.form values formulas)))
+    ((λ i. data_left c.args.form None (meant value_of_data (cells i)) (all i))
+    ∙ data_same c.args.form values formulas)))
     c.close.ensures

@@ -12,7 +12,9 @@ returns c =
     on_ok_weaker c.close.result
     (spaced_part c.args.draft.now c.begin_part.new.self c.push_to_styles.new.draft c.close.new.self
     (codes "xl/_rels/workbook.xml.rels") (codes "Relationships")
-    c.relationship_space.result.now (space_attributes c.args.form (of_packages (codes "relationships"))) (to_sheet ++ styles) c.in_ok-begin_part.ensures c.relationship_space.ensures
+    c.relationship_space.result.now
+    (space_attributes c.args.form (of_packages (codes "relationships")))
+    (to_sheet ++ styles) c.in_ok-begin_part.ensures c.relationship_space.ensures
     (joined_step c.begin_part.new.self c.push_empty.new.self c.push_to_styles.new.draft
     to_sheet styles c.in_ok-push_empty.ensures c.in_ok-push_to_styles.ensures))
     c.close.ensures

@@ -9,6 +9,7 @@ returns c =
     on_ok_weaker c.close.result
     (spaced_part c.args.draft.now c.begin_part.new.self c.push_style_inside.new.draft
     c.close.new.self (codes "xl/styles.xml") (codes "styleSheet")
-    c.sheet_space.result.now (space_attributes c.args.form of_sheets) (style_inside c.args.form) c.in_ok-begin_part.ensures c.sheet_space.ensures
+    c.sheet_space.result.now (space_attributes c.args.form of_sheets)
+    (style_inside c.args.form) c.in_ok-begin_part.ensures c.sheet_space.ensures
     c.in_ok-push_style_inside.ensures)
     c.close.ensures

@@ -13,7 +13,8 @@ returns c =
     on_ok_weaker c.close.result
     (spaced_part c.args.draft.now c.begin_part.new.self c.push_sheets.new.draft c.close.new.self
     (codes "xl/workbook.xml") (codes "workbook")
-    c.workbook_space.result.now (workbook_attributes c.args.form) (properties ++ sheets) c.in_ok-begin_part.ensures c.workbook_space.ensures
+    c.workbook_space.result.now (workbook_attributes c.args.form)
+    (properties ++ sheets) c.in_ok-begin_part.ensures c.workbook_space.ensures
     (joined_step c.begin_part.new.self c.push_properties.new.draft c.push_sheets.new.draft
     properties sheets c.in_ok-push_properties.ensures c.in_ok-push_sheets.ensures))
     c.close.ensures

@@ -5,5 +5,6 @@ use Rattle.xlsx_out.proofs.parts.push_cell_formats.Goals as goal
 pub returns : goal.returns
 returns c =
     on_ok_weaker c.push.result
-    (λ pushed. pushed ∙ (rw (c.start.ensures, c.start-2.ensures, c.start-3.ensures, c.start-4.ensures) refl))
+    (λ pushed. pushed ∙ (rw (c.start.ensures, c.start-2.ensures, c.start-3.ensures,
+    c.start-4.ensures) refl))
     c.push.ensures

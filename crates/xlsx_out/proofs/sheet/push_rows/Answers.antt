@@ -53,7 +53,8 @@ returns c =
     let row = c.positions.row in
     let none = c.in_default.ensures in
     let ended =
-    (λ i. data_left c.args.form row (meant value_of_data (none.0 i)) (none.1 i)) ∙ data_ends c.args.form row in
+    (λ i. data_left c.args.form row (meant value_of_data (none.0 i)) (none.1 i))
+    ∙ data_ends c.args.form row in
     on_ok_weaker c.leave_row.result
     (λ left. left ∙ ap (with_events draft) (sym ended) ∙ c.positions.invariant.rows)
     c.leave_row.ensures
