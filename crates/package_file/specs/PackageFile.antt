@@ -21,3 +21,7 @@ part_files parts = map part_file parts
 -- the workbook file of a package of these parts
 abbrev pub package_file : List Part → List ℕ
 package_file parts = written (part_files parts)
+
+-- the most bytes that a workbook file may have
+abbrev pub longest_file : ℕ
+longest_file = 268435456

@@ -36,4 +36,4 @@ mod writable;
 
 pub use form::WrittenForm;
 pub use package::write_package;
-pub use writable::is_writable;
+pub use writable::{has_zero_left, is_writable};

@@ -53,7 +53,8 @@ use Rattle.xlsx_out.specs.WrittenSheet.{style_events, default_type, own_type, ty
 use Rattle.xlsx_out.specs.WrittenSheet.{type_parts, sheet_events, written_parts, part}
 use Rattle.xlsx_out.specs.declared.form.WrittenForm.{WrittenForm}
 use Rattle.xlsx_out.specs.declared.form.WrittenForm.TheVariants.{PackageText, WorkbookFile}
-use Rattle.xlsx_out_as_markup.specs.WrittenPieces.{has_zero, text_has_zero, HaveNoZero, IsTextIn}
+use Rattle.xlsx_out.specs.Writable.{has_zero, text_has_zero}
+use Rattle.xlsx_out_as_markup.specs.WrittenPieces.{HaveNoZero, IsTextIn}
 use Rattle.xlsx_out_as_markup.specs.WrittenPieces.{pieces_of, IsSpelled, AreSpelled, AreCutBack}
 use Rattle.xlsx_out_as_markup.specs.WrittenPieces.{HasPartText, HaveTexts}
 use Rattle.xlsx_out_as_markup.proofs.Texts.{least_text}

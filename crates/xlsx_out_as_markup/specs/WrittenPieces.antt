@@ -16,6 +16,7 @@ use Rattle.text_package.specs.PartText.{part_markup}
 use Rattle.text_package.specs.PartSpelling.{IsPartText}
 use Rattle.written_markup.specs.WrittenText.{has_byte}
 use Rattle.xlsx_out.specs.Groups.{Placed}
+use Rattle.xlsx_out.specs.Writable.{has_zero}
 use Rattle.xlsx_out.specs.WrittenSheet.{PlacedValues}
 use Rattle.xlsx_out.specs.declared.form.WrittenForm.{WrittenForm}
 use Rattle.xlsx_out.specs.declared.form.WrittenForm.TheVariants.{PackageText, WorkbookFile}
@@ -58,17 +59,6 @@ pub record HaveTexts (form : WrittenForm) (name : List ℕ) (values : PlacedValu
   pub of_name : IsPartText name
   pub of_values : All (λ entry. HasPartText form entry.1) values
   pub of_formulas : All (λ entry. IsPartText entry.1) formulas
-
--- a text of a value has a character 0 that isn't written as an escape
-abbrev pub text_has_zero : WrittenForm → List ℕ → Bool
-text_has_zero PackageText bytes = has_byte 0 bytes
-text_has_zero WorkbookFile bytes = false
-
--- a value has such a text
-abbrev pub has_zero : WrittenForm → CellValue → Bool
-has_zero form (text bytes) = text_has_zero form bytes
-has_zero form (iso_time bytes) = has_byte 0 bytes
-has_zero form _ = false
 
 -- no text of a sheet's ranges has such a character 0; that it is UTF-8 is known of each `String`
 pub record HaveNoZero (form : WrittenForm) (values : Range Data)
