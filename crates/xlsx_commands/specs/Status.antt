@@ -8,7 +8,7 @@ use Rattle.xlsx_commands.specs.declared.error.ToolError.TheVariants.{Usage, Read
 use Rattle.xlsx_commands.specs.declared.error.ToolError.TheVariants.{InputTooLarge}
 use Rattle.xlsx_commands.specs.declared.error.ToolError.TheVariants.{NotAPackage, Workbook}
 use Rattle.xlsx_commands.specs.declared.error.ToolError.TheVariants.{WriteFault, OutOfMemory}
-use Rattle.xlsx_commands.specs.declared.error.ToolError.TheVariants.{BoxTooLarge}
+use Rattle.xlsx_commands.specs.declared.error.ToolError.TheVariants.{BoxTooLarge, Unwritable}
 use Rattle.xlsx_rows.specs.declared.error.CsvError.{CsvError}
 use Rattle.xlsx_rows.specs.declared.error.CsvError.TheVariants as rows
 
@@ -22,6 +22,7 @@ status_of (Workbook error) = 6
 status_of WriteFault = 7
 status_of OutOfMemory = 8
 status_of BoxTooLarge = 10
+status_of Unwritable = 15
 
 -- the text of an error of the program
 abbrev pub error_text : ToolError → List ℕ
@@ -33,6 +34,7 @@ error_text (Workbook error) = text_of error
 error_text WriteFault = codes "write fault"
 error_text OutOfMemory = codes "out of memory"
 error_text BoxTooLarge = codes "box too large"
+error_text Unwritable = codes "no workbook file can hold it"
 
 -- what the refusal of a workbook becomes
 abbrev pub of_workbook : XlsxError → ToolError
@@ -54,6 +56,7 @@ pub data SeenError : Type 0 where
   write_fault : SeenError
   out_of_memory : SeenError
   box_too_large : SeenError
+  unwritable : SeenError
 
 -- what is seen of an error
 abbrev pub error_seen : ToolError → SeenError
@@ -65,3 +68,4 @@ error_seen (Workbook error) = of_book (refusal_seen error)
 error_seen WriteFault = write_fault
 error_seen OutOfMemory = out_of_memory
 error_seen BoxTooLarge = box_too_large
+error_seen Unwritable = unwritable
