@@ -105,13 +105,13 @@ three_steps old first second new one two three begins goes ends =
     (joined_step first second new two three goes ends)
 
 -- a part that was begun, filled and ended
-module _ (old opened filled new : Contents) (name root : List ℕ) (inside : List Event)
-    (begun : opened ≡ closed (old.parts ++ opened_part name root ∷ []) old.taken)
+module _ (old opened filled new : Contents) (name root attributes : List ℕ) (inside : List Event)
+    (begun : opened ≡ closed (old.parts ++ opened_part name root attributes ∷ []) old.taken)
     (holds : filled ≡ with_events opened inside) where
   pub part_written : new ≡ with_events filled (end root ∷ [])
       → new ≡ closed
-      (old.parts ++ record { name = name; events = element root [] inside } ∷ []) old.taken
+      (old.parts ++ record { name = name; events = element root attributes inside } ∷ []) old.taken
   part_written ended =
-      part_step old opened new name (start (record { name = root; attributes = [] }) ∷ [])
+      part_step old opened new name (start (record { name = root; attributes = attributes }) ∷ [])
       (inside ++ end root ∷ []) begun
       (joined_step opened filled new inside (end root ∷ []) holds ended)

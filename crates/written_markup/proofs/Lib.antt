@@ -1,5 +1,6 @@
 pub mod Drafted
 pub mod TextsReadBack
+pub mod LeastEscapes
 pub mod PairsReadBack
 pub mod EventsReadBack
 pub mod Nested

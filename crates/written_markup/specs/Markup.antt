@@ -17,11 +17,11 @@ attribute name value = codes " " ++ (name ++ (codes "=\"" ++ (value ++ codes "\"
 abbrev pub words : List ℕ → List Event
 words content = leaf (text content) ∷ []
 
--- a part of this name in which an element is begun
-abbrev pub opened_part : List ℕ → List ℕ → Part
-opened_part name root = record {
+-- a part of this name in which an element with these attributes is begun
+abbrev pub opened_part : List ℕ → List ℕ → List ℕ → Part
+opened_part name root attributes = record {
   name = name;
-  events = start (record { name = root; attributes = [] }) ∷ [];
+  events = start (record { name = root; attributes = attributes }) ∷ [];
 }
 
 -- a package in memory with events behind those of its last part

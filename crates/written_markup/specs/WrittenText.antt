@@ -1,7 +1,9 @@
 -- Texts and attributes as they are written, so that they read back.
-use Rattle.std.specs.Prelude.{◌≡◌, ⊤, ℕ, ◌==◌, ◌||◌, Bool, false, if◌then◌else◌, List, [], ◌∷◌}
+use Rattle.std.specs.Prelude.{◌≡◌, ⊤, ℕ, zero, suc, ◌==◌, ◌||◌, ◌&&◌, ◌/◌, ◌%◌, not, nat_lt}
+use Rattle.std.specs.Prelude.{Bool, true, false, if◌then◌else◌, List, [], ◌∷◌}
 use Rattle.std.specs.Prelude.{◌++◌, codes, Option, Some, None, is_some}
-use Rattle.std.specs.Char.{is_ascii_whitespace}
+use Rattle.std.specs.Char.{is_ascii_whitespace, digit_value}
+use Rattle.std.specs.Fmt.{digit_glyph}
 use Rattle.std.specs.List.{flat_map, list_any}
 use Rattle.std.specs.Option.{option_map_or}
 use Rattle.attr_text.specs.Attributes.{is_equals_sign}
@@ -62,6 +64,38 @@ escaped_byte b = if b == 95 then codes "_x005F_" else b ∷ []
 -- a text as it stands where `_xHHHH_` counts
 abbrev pub underscores_escaped : List ℕ → List ℕ
 underscores_escaped bytes = flat_map escaped_byte bytes
+
+-- a byte that no text of XML has: below 32, and neither tab, LF nor CR (XML 1.0, 2.2)
+abbrev pub is_control : ℕ → Bool
+is_control b = nat_lt b 32 && not (b == 9 || (b == 10 || b == 13))
+
+-- such a byte as its escape
+abbrev pub control_escape : ℕ → List ℕ
+control_escape b =
+    codes "_x00" ++ (digit_glyph true (b / 16) ∷ digit_glyph true (b % 16) ∷ codes "_")
+
+-- so many hexadecimal digits, and behind them a byte that is written with `_` in front
+abbrev pub digits_then_mark : ℕ → List ℕ → Bool
+digits_then_mark n [] = false
+digits_then_mark zero (b ∷ bytes) = b == 95 || is_control b
+digits_then_mark (suc n) (b ∷ bytes) = nat_lt (digit_value b) 16 && digits_then_mark n bytes
+
+-- what stands behind a `_`, as it is written, makes it the first byte of an escape
+abbrev pub makes_escape : List ℕ → Bool
+makes_escape [] = false
+makes_escape (b ∷ bytes) = b == 120 && digits_then_mark 4 bytes
+
+-- a byte as it is written in front of what stands behind it: as an escape where it is one that no
+-- text of XML has, or a `_` that would be read as the first byte of an escape, and else as it is
+abbrev pub least_escaped_byte : ℕ → List ℕ → List ℕ
+least_escaped_byte b behind =
+    if is_control b then control_escape b
+    else (if b == 95 && makes_escape behind then codes "_x005F_" else b ∷ [])
+
+-- a text as it stands where `_xHHHH_` counts, with no more escapes than it needs
+abbrev pub least_escaped : List ℕ → List ℕ
+least_escaped [] = []
+least_escaped (b ∷ bytes) = least_escaped_byte b bytes ++ least_escaped bytes
 
 -- ---- texts as events
 

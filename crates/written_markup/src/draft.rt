@@ -46,23 +46,25 @@ impl Model for Draft {
 }
 
 impl Draft {
-    /// A package of one part of this name, in which an element is begun.
-    pub fn new(alloc: Global, name: &str, root: &str) -> Result<Draft, AllocError>
-        ensures { IfOk result (λ draft. draft ≡ closed (opened_part name.now root.now ∷ []) 0) }
+    /// A package of one part of this name, in which an element with these attributes is begun.
+    pub fn new(alloc: Global, name: &str, root: &str, attributes: &str) -> Result<Draft, AllocError>
+        ensures { let part = opened_part name.now root.now attributes.now in
+            IfOk result (λ draft. draft ≡ closed (part ∷ []) 0) }
     {
         let mut held = MemoryPackage::new(alloc);
         held.add_part(name)?;
-        held.push_event(start(root, ""))?;
+        held.push_event(start(root, attributes))?;
         Ok(Draft { held })
     }
 
-    /// Appends a part of this name, in which an element is begun.
-    pub fn begin_part(&mut self, name: &str, root: &str) -> Result<(), AllocError>
-        ensures { let parts = self.old.parts ++ opened_part name.now root.now ∷ [] in
+    /// Appends a part of this name, in which an element with these attributes is begun.
+    pub fn begin_part(&mut self, name: &str, root: &str, attributes: &str) -> Result<(), AllocError>
+        ensures { let parts =
+            self.old.parts ++ opened_part name.now root.now attributes.now ∷ [] in
             OnOk result (self.new ≡ closed parts self.old.taken) }
     {
         self.held.add_part(name)?;
-        self.push(&[start(root, "")])
+        self.push(&[start(root, attributes)])
     }
 
     /// Appends the events to the last part.

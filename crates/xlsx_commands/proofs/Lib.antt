@@ -1,5 +1,6 @@
 pub mod AreasInside
 pub mod CachesRead
+pub mod FilesMade
 pub mod LinksInside
 pub mod MemoryCalls
 pub mod NamedSheets

@@ -1,8 +1,9 @@
 -- The rows of the commands: what each call gives and what it is refused for.
-use Rattle.std.proofs.Common.{◌≡◌, ◌⊎◌, ℕ, List, map, refl, subst, Option, Some, None}
+use Rattle.std.proofs.Common.{◌≡◌, ◌⊎◌, ◌∙◌, ℕ, List, map, refl, sym, subst, Option, Some, None}
 use Rattle.std.specs.Prelude.{Result, Ok, Err, IfOk, IfErr}
 use Rattle.part_events.specs.Package.{Part}
 use Rattle.cell_data.specs.CellValue.{CellValue}
+use Rattle.cell_data.specs.Pairs.{value_pairs, formula_pairs}
 use Rattle.cell_styles.specs.StyleMap.{StyleMap}
 use Rattle.sheet_listing.specs.SheetListing.{listing}
 use Rattle.xlsx_error.specs.declared.error.XlsxError.{XlsxError}
@@ -19,14 +20,17 @@ use Rattle.xlsx_commands.specs.declared.asked_rows.AskedRows.{AskedRows}
 use Rattle.xlsx_commands.specs.Command.{Command, cells, sheets, names, merges, links, props, csv}
 use Rattle.xlsx_commands.specs.Command.{csv_table, tables, table, pivots, pivot, precedents}
 use Rattle.xlsx_commands.specs.Command.{dependents, check, part, upgrade, resave, sample, comments}
+use Rattle.xlsx_commands.specs.Command.{resave_file}
 use Rattle.xlsx_commands.specs.Outputs.{IsOutput, RefusedWorkbookCause, IsTooLarge, OutputCause}
-use Rattle.xlsx_commands.specs.Outputs.{HasOutput}
+use Rattle.xlsx_commands.specs.Outputs.{HasOutput, IsUnwritable}
+use Rattle.xlsx_commands.specs.ResavedFile.{fits_file}
 use Rattle.xlsx_commands.specs.PartNames.{PartPathCause}
 use Rattle.xlsx_commands.specs.PropertyLists.{text_of_name}
 use Rattle.xlsx_commands.specs.SampleLines.{sample_name}
 use Rattle.xlsx_commands.specs.SheetLists.{MergesPathCause, CommentsPathCause}
 use Rattle.xlsx_commands.specs.declared.error.ToolError.{ToolError}
 use Rattle.xlsx_commands.specs.declared.error.ToolError.TheVariants.{Workbook, BoxTooLarge}
+use Rattle.xlsx_commands.specs.declared.error.ToolError.TheVariants.{Unwritable}
 use Rattle.xlsx_commands.proofs.NamedSheets.{OpeningsNever, MergesNever, named_never, merges_never}
 use Rattle.xlsx_commands.proofs.CachesRead.{CachesNever, rows_never_refused}
 use Rattle.xlsx_commands.proofs.PartsNamed.{path_never}
@@ -228,6 +232,9 @@ workbook_never never (part name) parts output error prints cause =
 workbook_never never upgrade parts output error prints cause = absurd cause
 workbook_never never (resave name) parts output error prints cause =
     never.sheets parts name prints.values prints.formulas prints.styles error prints.reads cause
+workbook_never never (resave_file name) parts output error prints cause =
+    never.sheets parts name (value_pairs prints.values) (formula_pairs prints.formulas)
+    prints.styles error prints.reads cause
 workbook_never never (sample rows) parts output error prints cause =
     never.sheets parts sample_name prints.values prints.formulas prints.styles error prints.reads
     cause
@@ -242,6 +249,19 @@ large_never never (csv_table name options) parts output prints large =
     records_never parts name options output prints large
 large_never never _ parts output prints large = absurd large
 
+-- a sheet that a workbook file holds isn't one that none can hold
+unwritable_never :
+    AreNever → (command : Command) (parts : List Part) (output : List ℕ)
+    → IsOutput command parts output → IsUnwritable command parts → ⊥
+unfolding IsOutput IsUnwritable
+unwritable_never never (resave_file name) parts output prints none =
+    let same = never.alike parts name (value_pairs prints.values) none.values
+    (formula_pairs prints.formulas) none.formulas prints.styles none.styles prints.reads
+    none.reads in
+    let fits = sym (λ i. fits_file name (same.0 i) (same.1 i)) ∙ prints.fits in
+    let lacks = none.none in cc
+unwritable_never never _ parts output prints none = absurd none
+
 pub never_both :
     AreNever → (command : Command) (parts : List Part) (output : List ℕ) (error : ToolError)
     → IsOutput command parts output → OutputCause command parts error → ⊥
@@ -249,4 +269,6 @@ never_both never command parts output (Workbook error) prints cause =
     workbook_never never command parts output error prints cause
 never_both never command parts output BoxTooLarge prints cause =
     large_never never command parts output prints cause
+never_both never command parts output Unwritable prints cause =
+    unwritable_never never command parts output prints cause
 never_both never command parts output _ prints cause = absurd cause

@@ -6,7 +6,7 @@ use Rattle.xlsx_error.proofs.SameRefusals.{refusal_law}
 use Rattle.xlsx_commands.specs.Status.{SeenError, error_seen, of_book, usage, read_fault}
 use Rattle.xlsx_commands.specs.Status.{input_too_large, not_a_package, write_fault, out_of_memory}
 use Rattle.xlsx_commands.specs.Status.{file_too_large, not_a_workbook_file}
-use Rattle.xlsx_commands.specs.Status.{box_too_large}
+use Rattle.xlsx_commands.specs.Status.{box_too_large, unwritable}
 use Rattle.xlsx_commands.specs.contracts.error.ToolErrorPartialEq.TheImpl as error
 use Rattle.xlsx_commands.specs.declared.error.ToolError.{ToolError}
 use Rattle.xlsx_commands.specs.declared.error.ToolError.TheVariants as is
@@ -36,6 +36,7 @@ same_from (is.NotAWorkbookFile a) (is.NotAWorkbookFile b) same =
 same_from is.WriteFault is.WriteFault same = refl
 same_from is.OutOfMemory is.OutOfMemory same = refl
 same_from is.BoxTooLarge is.BoxTooLarge same = refl
+same_from is.Unwritable is.Unwritable same = refl
 same_from (is.Workbook e) (is.Workbook f) same = ap of_book ((refusal_law e f).0 same)
 same_from _ _ same = absurd (unequal same)
 
@@ -51,6 +52,7 @@ kind_of out_of_memory = 6
 kind_of box_too_large = 7
 kind_of file_too_large = 8
 kind_of (not_a_workbook_file fault) = 9
+kind_of unwritable = 10
 
 -- errors of two kinds differ
 kinds_differ : (v w : SeenError) → nat_eq (kind_of v) (kind_of w) ≡ false → v ≡ w → ⊥
@@ -69,6 +71,7 @@ same_to (is.NotAWorkbookFile a) (is.NotAWorkbookFile b) same =
 same_to is.WriteFault is.WriteFault same = refl
 same_to is.OutOfMemory is.OutOfMemory same = refl
 same_to is.BoxTooLarge is.BoxTooLarge same = refl
+same_to is.Unwritable is.Unwritable same = refl
 same_to (is.Workbook e) (is.Workbook f) same = (refusal_law e f).1 (cc)
 same_to a b same = absurd (kinds_differ (error_seen a) (error_seen b) refl same)
 

@@ -40,6 +40,7 @@ pub data Command : Type 0 where
   part : List ℕ → Command
   upgrade : Command
   resave : List ℕ → Command
+  resave_file : List ℕ → Command
   sample : ℕ → Command
 
 -- the command that was asked, by the texts of its names
@@ -63,6 +64,7 @@ command_meant (asked.Check name) = check name.now
 command_meant (asked.Part name) = part name.now
 command_meant asked.Upgrade = upgrade
 command_meant (asked.Resave name) = resave name.now
+command_meant (asked.ResaveFile name) = resave_file name.now
 command_meant (asked.Sample rows) = sample rows
 
 -- so many rows are those of a sample
@@ -109,12 +111,17 @@ named_command word name =
     else (if bytes_eq word (codes "sample") then option_map sample (rows_asked name)
     else None)))))))))))
 
+-- the workbook file of the sheet of a name, where the word behind the name asks for one
+abbrev pub resave_asked : List ℕ → List ℕ → Option Command
+resave_asked name word = if bytes_eq word (codes "--xlsx") then Some (resave_file name) else None
+
 -- a command of three
 abbrev pub placed_command : List ℕ → List ℕ → List ℕ → Option Command
 placed_command word sheet name =
     if bytes_eq word (codes "pivot") then Some (pivot sheet name)
     else (if bytes_eq word (codes "dependents")
-    then option_map (dependents sheet) (position_asked name) else None)
+    then option_map (dependents sheet) (position_asked name)
+    else (if bytes_eq word (codes "resave") then resave_asked sheet name else None))
 
 -- a command of three, by the word behind its name
 abbrev pub three_words : List ℕ → List ℕ → List (List ℕ) → Option Command
@@ -157,4 +164,5 @@ own_parts (check name) = None
 own_parts (part name) = None
 own_parts upgrade = None
 own_parts (resave name) = None
+own_parts (resave_file name) = None
 own_parts (sample rows) = Some (sample_parts rows)

@@ -16,3 +16,4 @@ pub mod Status
 pub mod TableLists
 pub mod TableRows
 pub mod TablesOpened
+pub mod ResavedFile

@@ -9,14 +9,17 @@ use Rattle.package_text.specs.WrittenPackage.{written_package}
 use Rattle.xlsx_open.specs.Opening.{OpeningCause}
 use Rattle.xlsx_core.specs.SheetReading.{ReadsAs, SheetCause}
 use Rattle.xlsx_out.specs.WrittenSheet.{written_parts}
+use Rattle.xlsx_out.specs.declared.form.WrittenForm.TheVariants.{PackageText}
 use Rattle.xlsx_commands.specs.BookLists.{AreSheetLines, AreNameLines}
 use Rattle.xlsx_commands.specs.Command.{Command, cells, sheets, names, merges, links, props, csv}
 use Rattle.xlsx_commands.specs.CacheRows.{ArePivotRows, NamedPivotCause}
 use Rattle.xlsx_commands.specs.Command.{csv_table, tables, table, pivots, pivot, precedents}
 use Rattle.xlsx_commands.specs.Command.{dependents, check, part, upgrade, resave, sample, comments}
+use Rattle.xlsx_commands.specs.Command.{resave_file}
 use Rattle.xlsx_commands.specs.FormulaLists.{ArePrecedentLines, AreDependentLines, AreCheckLines}
 use Rattle.xlsx_commands.specs.PartNames.{IsPartLine, NamedPartCause}
 use Rattle.xlsx_commands.specs.PivotLists.{ArePivotLines, ListedPivotsCause}
+use Rattle.xlsx_commands.specs.ResavedFile.{IsResavedFile, HasNoFile}
 use Rattle.xlsx_commands.specs.PropertyLists.{ArePropertyLines, ListedPropertiesCause}
 use Rattle.xlsx_commands.specs.SampleLines.{AreSampleLines, sample_name}
 use Rattle.xlsx_commands.specs.SheetLists.{AreMergeLines, NamedMergesCause, AreLinkLines}
@@ -27,7 +30,7 @@ use Rattle.xlsx_commands.specs.TableLists.{NamedTableCause}
 use Rattle.xlsx_commands.specs.TableRows.{AreTableRows, HasLargeTable}
 use Rattle.xlsx_commands.specs.declared.error.ToolError.{ToolError}
 use Rattle.xlsx_commands.specs.declared.error.ToolError.TheVariants.{Workbook, OutOfMemory}
-use Rattle.xlsx_commands.specs.declared.error.ToolError.TheVariants.{BoxTooLarge}
+use Rattle.xlsx_commands.specs.declared.error.ToolError.TheVariants.{BoxTooLarge, Unwritable}
 
 -- these are the lines of the sheet of this name, as it is read from these parts
 pub record AreLinesOf (parts : List Part) (name lines : List ℕ) : Type 0 where
@@ -48,7 +51,7 @@ pub record IsResaved (parts : List Part) (name output : List ℕ) : Type 0 where
   pub formulas : List ((ℕ × ℕ) × List ℕ)
   pub styles : StyleMap
   pub reads : ReadsAs parts name values formulas styles
-  pub saved : IsUpgrade (written_parts name values formulas) output
+  pub saved : IsUpgrade (written_parts PackageText name values formulas) output
 
 -- ---- the rows
 
@@ -73,6 +76,7 @@ IsOutput (check name) parts output = AreCheckLines parts name output
 IsOutput (part name) parts output = IsPartLine parts name output
 IsOutput upgrade parts output = IsUpgrade parts output
 IsOutput (resave name) parts output = IsResaved parts name output
+IsOutput (resave_file name) parts output = IsResavedFile parts name output
 IsOutput (sample rows) parts output = AreSampleLines rows parts output
 
 -- why its workbook refuses it
@@ -96,6 +100,7 @@ RefusedWorkbookCause (check name) parts error = SheetCause parts name error
 RefusedWorkbookCause (part name) parts error = NamedPartCause parts name error
 RefusedWorkbookCause upgrade parts error = ⊥
 RefusedWorkbookCause (resave name) parts error = SheetCause parts name error
+RefusedWorkbookCause (resave_file name) parts error = SheetCause parts name error
 RefusedWorkbookCause (sample rows) parts error = SheetCause parts sample_name error
 
 -- why it is refused because an area has too many cells
@@ -103,6 +108,11 @@ unfoldable pub IsTooLarge : Command → List Part → Type 0
 IsTooLarge (csv name asked) parts = HasLargeArea parts name asked.from_a1
 IsTooLarge (csv_table name options) parts = HasLargeTable parts name
 IsTooLarge _ parts = ⊥
+
+-- why it is refused because no workbook file can hold what is read
+unfoldable pub IsUnwritable : Command → List Part → Type 0
+IsUnwritable (resave_file name) parts = HasNoFile parts name
+IsUnwritable _ parts = ⊥
 
 -- ---- what the rows make
 
@@ -114,6 +124,7 @@ HasOutput command parts = (output : List ℕ) × IsOutput command parts output
 abbrev pub OutputCause : Command → List Part → ToolError → Type 0
 OutputCause command parts (Workbook error) = RefusedWorkbookCause command parts error
 OutputCause command parts BoxTooLarge = IsTooLarge command parts
+OutputCause command parts Unwritable = IsUnwritable command parts
 OutputCause command parts _ = ⊥
 
 -- when a command is refused; want of memory may come at any time
@@ -132,3 +143,8 @@ CallFails cause _ = ⊥
 abbrev pub RowsFail : (XlsxError → Type 0) → Type 0 → ToolError → Type 0
 RowsFail cause large BoxTooLarge = large
 RowsFail cause large error = CallFails cause error
+
+-- when a call is refused that has these causes, or for which this says that no file can be written
+abbrev pub FileFails : (XlsxError → Type 0) → Type 0 → ToolError → Type 0
+FileFails cause none Unwritable = none
+FileFails cause none error = CallFails cause error

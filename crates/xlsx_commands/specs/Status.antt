@@ -10,7 +10,7 @@ use Rattle.xlsx_commands.specs.declared.error.ToolError.TheVariants.{InputTooLar
 use Rattle.xlsx_commands.specs.declared.error.ToolError.TheVariants.{FileTooLarge, NotAPackage}
 use Rattle.xlsx_commands.specs.declared.error.ToolError.TheVariants.{NotAWorkbookFile, Workbook}
 use Rattle.xlsx_commands.specs.declared.error.ToolError.TheVariants.{WriteFault, OutOfMemory}
-use Rattle.xlsx_commands.specs.declared.error.ToolError.TheVariants.{BoxTooLarge}
+use Rattle.xlsx_commands.specs.declared.error.ToolError.TheVariants.{BoxTooLarge, Unwritable}
 use Rattle.xlsx_rows.specs.declared.error.CsvError.{CsvError}
 use Rattle.xlsx_rows.specs.declared.error.CsvError.TheVariants as rows
 use Rattle.zip_archive.specs.declared.fault.ArchiveFault.{ArchiveFault}
@@ -34,6 +34,7 @@ status_of (Workbook error) = 6
 status_of WriteFault = 7
 status_of OutOfMemory = 8
 status_of BoxTooLarge = 10
+status_of Unwritable = 15
 
 -- why the input is no workbook file. The byte is counted from 0
 abbrev pub fault_text : ArchiveFault → List ℕ
@@ -53,6 +54,7 @@ error_text (Workbook error) = text_of error
 error_text WriteFault = codes "write fault"
 error_text OutOfMemory = codes "out of memory"
 error_text BoxTooLarge = codes "box too large"
+error_text Unwritable = codes "no workbook file can hold it"
 
 -- what the refusal of a workbook becomes
 abbrev pub of_workbook : XlsxError → ToolError
@@ -76,6 +78,7 @@ pub data SeenError : Type 0 where
   write_fault : SeenError
   out_of_memory : SeenError
   box_too_large : SeenError
+  unwritable : SeenError
 
 -- what is seen of an error
 abbrev pub error_seen : ToolError → SeenError
@@ -89,3 +92,4 @@ error_seen (Workbook error) = of_book (refusal_seen error)
 error_seen WriteFault = write_fault
 error_seen OutOfMemory = out_of_memory
 error_seen BoxTooLarge = box_too_large
+error_seen Unwritable = unwritable

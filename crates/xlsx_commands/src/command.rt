@@ -3,7 +3,7 @@ ghost use Rattle.xlsx_commands.specs.Command.{texts, command_meant, bare_command
 ghost use Rattle.xlsx_commands.specs.Command.{rows_asked, sample, placed_command, command_of};
 ghost use Rattle.xlsx_commands.specs.AskedRows.{options_asked, plain_rows, table_rows_asked};
 ghost use Rattle.xlsx_commands.specs.Command.{position_asked, dependents, csv, csv_table};
-ghost use Rattle.xlsx_commands.specs.Command.{three_words, asked_command};
+ghost use Rattle.xlsx_commands.specs.Command.{three_words, asked_command, resave_asked};
 
 use crate::asked_rows::{AskedRows, rows_asked_by, table_rows_asked};
 use cell_refs::get_row_column;
@@ -55,6 +55,8 @@ pub enum Command<'a> {
     Upgrade,
     /// The package text of version 2 of a package that is written of the worksheet of this name.
     Resave(&'a str),
+    /// The workbook file that is written of the worksheet of this name.
+    ResaveFile(&'a str),
     /// What is read of a workbook with so many rows.
     Sample(u32),
 }
@@ -131,6 +133,17 @@ fn named_command<'a>(word: &str, name: &'a str) -> Option<Command<'a>>
     }
 }
 
+/// The workbook file of the worksheet of a name, where the word behind the name asks for one.
+fn resave_command<'a>(name: &'a str, word: &str) -> Option<Command<'a>>
+    ensures { option_map (λ command. command_meant command) result
+        ≡ resave_asked name.now word.now }
+{
+    match word {
+        "--xlsx" => Some(Command::ResaveFile(name)),
+        _ => None,
+    }
+}
+
 fn placed_command<'a>(word: &str, sheet: &'a str, name: &'a str) -> Option<Command<'a>>
     ensures { option_map (λ command. command_meant command) result
         ≡ placed_command word.now sheet.now name.now }
@@ -138,6 +151,7 @@ fn placed_command<'a>(word: &str, sheet: &'a str, name: &'a str) -> Option<Comma
     match word {
         "pivot" => Some(Command::Pivot(sheet, name)),
         "dependents" => dependents_command(sheet, name),
+        "resave" => resave_command(sheet, name),
         _ => None,
     }
 }

@@ -32,6 +32,8 @@ pub enum ToolError {
     OutOfMemory,
     /// The area whose rows are asked for has more than 16,777,216 cells.
     BoxTooLarge,
+    /// What is read can't be written as a workbook file.
+    Unwritable,
 }
 
 /// The status that the program ends with where its input is no workbook file.
@@ -59,6 +61,7 @@ impl ToolError {
             ToolError::WriteFault => 7,
             ToolError::OutOfMemory => 8,
             ToolError::BoxTooLarge => 10,
+            ToolError::Unwritable => 15,
         }
     }
 }
@@ -92,6 +95,7 @@ impl fmt::Display for ToolError {
             ToolError::WriteFault => f.write_str("write fault"),
             ToolError::OutOfMemory => f.write_str("out of memory"),
             ToolError::BoxTooLarge => f.write_str("box too large"),
+            ToolError::Unwritable => f.write_str("no workbook file can hold it"),
         }
     }
 }

@@ -4,8 +4,8 @@
 //! Rooms: `command` (the words that ask for a command), `asked_rows` (the words that ask more of
 //! rows), `cell_lines`, `book_lists`, `merge_lines`, `link_lines`, `comment_lines`,
 //! `property_lines`, `table_lines`, `pivot_lines`, `pivot_rows`, `sheet_rows`, `table_rows`,
-//! `formula_lines`, `part_line`, `upgraded_text`, `resaved_text` and `sample_lines` (what each
-//! command prints), `named_sheet` (what is asked of the first sheet of a name), `output` (each
+//! `formula_lines`, `part_line`, `upgraded_text`, `resaved_text`, `resaved_file` and `sample_lines`
+//! (what each command prints), `named_sheet` (what is asked of the first sheet of a name), `output` (each
 //! command's own package, where it has one, and its output), `laws`, and `error` (`ToolError`).
 //!
 //! **A command is a row of a few tables**: of the words that ask for it (`command_of`), of the
@@ -52,6 +52,7 @@ mod part_line;
 mod pivot_lines;
 mod pivot_rows;
 mod property_lines;
+mod resaved_file;
 mod resaved_text;
 mod sample_lines;
 mod sheet_rows;

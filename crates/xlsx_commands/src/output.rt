@@ -14,6 +14,7 @@ use crate::part_line::part_line;
 use crate::pivot_lines::pivot_lines;
 use crate::pivot_rows::pivot_rows;
 use crate::property_lines::property_lines;
+use crate::resaved_file::resaved_file;
 use crate::resaved_text::resaved_text;
 use crate::sample_lines::sample_lines;
 use crate::sheet_rows::sheet_rows;
@@ -50,13 +51,14 @@ pub fn own_package(alloc: Global, command: Command<'_>) -> Result<Option<InputPa
         Command::Part(_) => None,
         Command::Upgrade => None,
         Command::Resave(_) => None,
+        Command::ResaveFile(_) => None,
         Command::Sample(rows) => Some(InputPackage::in_memory(sample_package(alloc, rows)?)),
     };
     Ok(package)
 }
 
 /// The output of a command on a package, whole.
-#[tactic(auto, unfolding(crate::specs::Outputs::IsOutput, crate::specs::Outputs::RefusedWorkbookCause, crate::specs::Outputs::IsTooLarge))]
+#[tactic(auto, unfolding(crate::specs::Outputs::IsOutput, crate::specs::Outputs::RefusedWorkbookCause, crate::specs::Outputs::IsTooLarge, crate::specs::Outputs::IsUnwritable))]
 pub fn output_of(
     alloc: Global,
     command: Command<'_>,
@@ -86,6 +88,7 @@ pub fn output_of(
         Command::Part(name) => part_line(alloc, package, name),
         Command::Upgrade => upgraded_text(alloc, package),
         Command::Resave(name) => resaved_text(alloc, package, name),
+        Command::ResaveFile(name) => resaved_file(alloc, package, name),
         Command::Sample(rows) => sample_lines(alloc, package, rows),
     }
 }

@@ -8,7 +8,7 @@ use crate::laws::sheets_that_are_read_can_be_written;
 use crate::upgraded_text::text_of;
 use input_package::InputPackage;
 use std::alloc::Global;
-use xlsx_out::write_package;
+use xlsx_out::{WrittenForm, write_package};
 
 /// The text of the package that is written of what is read of the sheet of this name, in version 2,
 /// and a line feed.
@@ -18,7 +18,8 @@ pub fn resaved_text(alloc: Global, package: InputPackage, name: &str) -> Result<
 {
     sheets_that_are_read_can_be_written();
     let reading = reading_of(alloc, package, name)?;
-    let written = write_package(alloc, name, &reading.values, &reading.formulas)?;
+    let form = WrittenForm::PackageText;
+    let written = write_package(alloc, form, name, &reading.values, &reading.formulas)?;
     // What is written needs the reading no more.
     drop(reading);
     let text = text_of(alloc, &written)?;

@@ -6,3 +6,5 @@ pub mod Masters
 pub mod Places
 pub mod Rows
 pub mod WholeData
+pub mod SpacedParts
+pub mod LeastCuts

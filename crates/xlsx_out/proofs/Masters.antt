@@ -15,7 +15,7 @@ use Rattle.cell_refs.specs.declared.TheConstants.{MAX_ROWS}
 use Rattle.cell_refs.proofs.PositionOrder.{position_total, and_both, less_from}
 use Rattle.cell_data.specs.Cells.{AreInSheet}
 use Rattle.xlsx_out.specs.Groups.{Placed, is_same, group_head, group_end, group_index, is_master}
-use Rattle.xlsx_out.specs.Groups.{plain, master, derived, written_formula}
+use Rattle.xlsx_out.specs.Groups.{plain, master, derived, grouped_formula}
 use Rattle.xlsx_out.specs.Grouping.{entry_at, AreHeads, AreLastRows, form_by, masters_in}
 use Rattle.xlsx_out.specs.Writing.{PlacedForms, written_as, IsLastInSheet}
 use Rattle.xlsx_out.specs.declared.groups.FormulaForm.{FormulaForm}
@@ -142,7 +142,7 @@ module _ (F : Placed) (H rows : List ℕ) (rising : is_rising F ≡ true) (heads
   ]
 
   pub written_found : written_as found_form (entry_at F i).1
-      ≡ written_formula F (entry_at F i).0 (entry_at F i).1
+      ≡ grouped_formula F (entry_at F i).0 (entry_at F i).1
   written_found = elim either [
     | inl own ↦
         let row = (entry_at F i).0.0 in
@@ -192,16 +192,16 @@ module _ (F : Placed) (H rows : List ℕ) (rising : is_rising F ≡ true) (heads
 
 -- what is found of the first formulas
 abbrev pub written_first : Placed → ℕ → PlacedForms
-written_first F i = map (λ entry. (entry.0, written_formula F entry.0 entry.1)) (take i F)
+written_first F i = map (λ entry. (entry.0, grouped_formula F entry.0 entry.1)) (take i F)
 
 pub written_more : (F : Placed) (i : ℕ) → i < length F →
     written_first F (i + 1)
     ≡ written_first F i
-    ++ ((entry_at F i).0, written_formula F (entry_at F i).0 (entry_at F i).1) ∷ []
+    ++ ((entry_at F i).0, grouped_formula F (entry_at F i).0 (entry_at F i).1) ∷ []
 written_more F i inside =
-    ap (map (λ (entry : (ℕ × ℕ) × List ℕ). (entry.0, written_formula F entry.0 entry.1)))
+    ap (map (λ (entry : (ℕ × ℕ) × List ℕ). (entry.0, grouped_formula F entry.0 entry.1)))
     (take_more F i ((0, 0), []) inside)
-    ∙ map-append (λ (entry : (ℕ × ℕ) × List ℕ). (entry.0, written_formula F entry.0 entry.1))
+    ∙ map-append (λ (entry : (ℕ × ℕ) × List ℕ). (entry.0, grouped_formula F entry.0 entry.1))
     (take i F) (entry_at F i ∷ [])
 
 pub one_at_most : (found : FormulaForm) → masters_in found ≤ 1

@@ -34,6 +34,7 @@ use Rattle.xlsx_out.specs.Writing.{PlacedForms, given_cell, cell_among}
 use Rattle.xlsx_out.specs.Writing.{row_front, row_behind, row_start, row_end, row_by, rows_by}
 use Rattle.xlsx_out.specs.Writing.{rows_left, leaving, entering, data_left}
 use Rattle.xlsx_out.specs.Writing.{IsFirstOfBoth, value_given}
+use Rattle.xlsx_out.specs.declared.form.WrittenForm.{WrittenForm}
 
 -- ---- positions by rows
 
@@ -200,10 +201,10 @@ module _ (one two : ℕ × ℕ → List Event) where
 
 -- ---- one position of both lists
 
-module _ (p : ℕ × ℕ) (v : Option CellValue) (w : Option WrittenFormula) (vs : PlacedValues)
-    (ws : PlacedForms) where
+module _ (form : WrittenForm) (p : ℕ × ℕ) (v : Option CellValue) (w : Option WrittenFormula)
+    (vs : PlacedValues) (ws : PlacedForms) where
   cells_past : (es : List ((ℕ × ℕ) × Unit {0})) → below_all position_cmp p es ≡ true →
-      Agree (cell_among (given p v ++ vs) (given p w ++ ws)) (cell_among vs ws)
+      Agree (cell_among form (given p v ++ vs) (given p w ++ ws)) (cell_among form vs ws)
       (map (λ e. e.0) es)
   unfolding Agree
   cells_past [] below = tt
@@ -212,16 +213,17 @@ module _ (p : ℕ × ℕ) (v : Option CellValue) (w : Option WrittenFormula) (vs
       and_both (is_lt (position_cmp p e.0)) (below_all position_cmp p es) below in
       let value = past p v e.0 vs own in
       let formula = past p w e.0 ws own in
-      ((λ i. given_cell e.0 (unwrap_or (value i) nothing) (formula i)), cells_past es others)
+      ((λ i. given_cell form e.0 (unwrap_or (value i) nothing) (formula i)), cells_past es others)
 
   pub data_step : (row : Option ℕ) → (is_some v || is_some w) ≡ true →
       below_all position_cmp p vs ≡ true → below_all position_cmp p ws ≡ true →
-      data_left row (given p v ++ vs) (given p w ++ ws)
-      ≡ entering row p.0 ++ (given_cell p (unwrap_or v nothing) w ++ data_left (Some p.0) vs ws)
+      data_left form row (given p v ++ vs) (given p w ++ ws)
+      ≡ entering row p.0
+      ++ (given_cell form p (unwrap_or v nothing) w ++ data_left form (Some p.0) vs ws)
   data_step row some in_values in_forms =
       let whole = used (given p v ++ vs) ++ used (given p w ++ ws) in
       let rest = used vs ++ used ws in
-      let cell = cell_among (given p v ++ vs) (given p w ++ ws) in
+      let cell = cell_among form (given p v ++ vs) (given p w ++ ws) in
       let adds =
       used_both p (is_some v) (is_some w) (used (given p v ++ vs)) (used vs)
       (used (given p w ++ ws)) (used ws) (used_given p v vs) (used_given p w ws) in
@@ -232,16 +234,16 @@ module _ (p : ℕ × ℕ) (v : Option CellValue) (w : Option WrittenFormula) (vs
       let formula = at_first p w ws in_forms in
       let positions = positions_of rest in
       let behind =
-      same_left cell (cell_among vs ws) p.0 positions
+      same_left cell (cell_among form vs ws) p.0 positions
       (cells_past (entries (from_entries {R = position_cmp} rest)) (below_entries p rest below)) in
       ap (λ (es : List ((ℕ × ℕ) × Unit {0})). rows_left cell row (map (λ e. e.0) es)) first
       ∙ goes_on cell row p positions
       ∙ (λ i. entering row p.0
-      ++ (given_cell p (unwrap_or (value i) nothing) (formula i) ++ behind i))
+      ++ (given_cell form p (unwrap_or (value i) nothing) (formula i) ++ behind i))
 
-pub data_ends : (row : Option ℕ) → data_left row [] [] ≡ leaving row
-data_ends row =
-    ap (rows_left (cell_among [] []) row) no_positions ∙ ends (cell_among [] []) row
+pub data_ends : (form : WrittenForm) (row : Option ℕ) → data_left form row [] [] ≡ leaving row
+data_ends form row =
+    ap (rows_left (cell_among form [] []) row) no_positions ∙ ends (cell_among form [] []) row
 
 -- ---- the first position of both lists
 
@@ -315,22 +317,22 @@ some_taken p values forms v w first is_v is_w =
     ]
 
 -- one position is written, and what is left to write is as before
-pub goes_on_with : (old entered celled : Contents) (row : Option ℕ) (p : ℕ × ℕ)
+pub goes_on_with : (form : WrittenForm) (old entered celled : Contents) (row : Option ℕ) (p : ℕ × ℕ)
     (v : Option Data) (w : Option WrittenFormula) (values vs : List ((ℕ × ℕ) × Data))
     (forms fs : PlacedForms) (whole : Contents) → Splits p values v vs → Splits p forms w fs →
     (is_some (option_map value_of_data v) || is_some w) ≡ true →
     entered ≡ with_events old (entering row p.0) →
-    celled ≡ with_events entered (given_cell p (value_given v) w) →
-    with_events old (data_left row (meant value_of_data values) forms) ≡ whole →
-    with_events celled (data_left (Some p.0) (meant value_of_data vs) fs) ≡ whole
-goes_on_with old entered celled row p v w values vs forms fs whole splits_v splits_w some
+    celled ≡ with_events entered (given_cell form p (value_given v) w) →
+    with_events old (data_left form row (meant value_of_data values) forms) ≡ whole →
+    with_events celled (data_left form (Some p.0) (meant value_of_data vs) fs) ≡ whole
+goes_on_with form old entered celled row p v w values vs forms fs whole splits_v splits_w some
     is_entered is_celled same =
-    let cell = given_cell p (value_given v) w in
-    let rest = data_left (Some p.0) (meant value_of_data vs) fs in
+    let cell = given_cell form p (value_given v) w in
+    let rest = data_left form (Some p.0) (meant value_of_data vs) fs in
     let seen = ap (meant value_of_data) splits_v.whole ∙ meant_given value_of_data p v vs in
     let step =
-    (λ i. data_left row (seen i) (splits_w.whole i))
-    ∙ data_step p (option_map value_of_data v) w (meant value_of_data vs) fs row some
+    (λ i. data_left form row (seen i) (splits_w.whole i))
+    ∙ data_step form p (option_map value_of_data v) w (meant value_of_data vs) fs row some
     (meant_below value_of_data p vs ∙ splits_v.below) splits_w.below in
     ap (λ (held : Contents). with_events held rest) is_celled
     ∙ events_joined entered cell rest

@@ -19,26 +19,27 @@ use Rattle.written_markup.specs.Markup.{element}
 use Rattle.xlsx_out.specs.Groups.{Placed, formula_placed, written_formula}
 use Rattle.xlsx_out.specs.WrittenSheet.{PlacedValues, cell_attributes, value_events, cell_events}
 use Rattle.xlsx_out.specs.WrittenSheet.{optional_formula, data_events}
+use Rattle.xlsx_out.specs.declared.form.WrittenForm.{WrittenForm}
 use Rattle.xlsx_out.specs.Writing.{PlacedForms, placed_forms, given_formula, given_cell, cell_among}
 use Rattle.xlsx_out.specs.Writing.{rows_by, data_left}
 
-module _ (F : Placed) where
+module _ (form : WrittenForm) (F : Placed) where
   abbrev forms_of : Placed → PlacedForms
-  forms_of some = map (λ entry. (entry.0, written_formula F entry.0 entry.1)) some
+  forms_of some = map (λ entry. (entry.0, written_formula form F entry.0 entry.1)) some
 
   form_found : (p : ℕ × ℕ) (some : Placed) →
       find position_cmp p (forms_of some)
-      ≡ option_map (written_formula F p) (find position_cmp p some)
+      ≡ option_map (written_formula form F p) (find position_cmp p some)
   form_found p [] = refl
   form_found p (e ∷ some) = by_test (eq_by_cmp position_cmp p e.0) refl (form_found p some)
     where
       by_test : (test : Bool) → eq_by_cmp position_cmp p e.0 ≡ test →
           find position_cmp p (forms_of some)
-          ≡ option_map (written_formula F p) (find position_cmp p some) →
-          cond test (Some (written_formula F e.0 e.1)) (find position_cmp p (forms_of some))
-          ≡ option_map (written_formula F p) (cond test (Some e.1) (find position_cmp p some))
+          ≡ option_map (written_formula form F p) (find position_cmp p some) →
+          cond test (Some (written_formula form F e.0 e.1)) (find position_cmp p (forms_of some))
+          ≡ option_map (written_formula form F p) (cond test (Some e.1) (find position_cmp p some))
       by_test true tied rest =
-          ap (λ (q : ℕ × ℕ). Some (written_formula F q e.1))
+          ap (λ (q : ℕ × ℕ). Some (written_formula form F q e.1))
           (sym (tied_same p e.0 tied))
       by_test false other rest = rest
 
@@ -47,24 +48,25 @@ module _ (F : Placed) where
   same_places (e ∷ some) = ap (λ es. (e.0, tt) ∷ es) (same_places some)
 
   given_of : (p : ℕ × ℕ) (found : Option (List ℕ)) →
-      given_formula p (option_map (written_formula F p) found) ≡ optional_formula F p found
+      given_formula p (option_map (written_formula form F p) found)
+      ≡ optional_formula form F p found
   given_of p None = refl
   given_of p (Some formula) = refl
 
   same_cell : (V : PlacedValues) (p : ℕ × ℕ) →
-      cell_among V (placed_forms F) p ≡ cell_events V F p
+      cell_among form V (placed_forms form F) p ≡ cell_events form V F p
   same_cell V p =
       let value = unwrap_or (find position_cmp p V) nothing in
-      ap (given_cell p value) (form_found p F)
+      ap (given_cell form p value) (form_found p F)
       ∙ ap (λ (formula : List Event). element (codes "c") (cell_attributes p value)
-      (formula ++ value_events value)) (given_of p (formula_placed F p))
+      (formula ++ value_events form value)) (given_of p (formula_placed F p))
 
 -- the rows of values and of formulas as they are written are the data
-pub data_same : (V : PlacedValues) (F : Placed)
-    → data_left None V (placed_forms F) ≡ data_events V F
-data_same V F =
-    let places = same_places F F in
-    λ i. rows_by (λ p. same_cell F V p i) (positions_of (used V ++ places i))
+pub data_same : (form : WrittenForm) (V : PlacedValues) (F : Placed)
+    → data_left form None V (placed_forms form F) ≡ data_events form V F
+data_same form V F =
+    let places = same_places form F F in
+    λ i. rows_by (λ p. same_cell form F V p i) (positions_of (used V ++ places i))
 
 -- ---- in order
 
@@ -90,5 +92,7 @@ module _ {X Y : Type 0} (g : (ℕ × ℕ) × X → Y) where
     sheet = All-map IsPlacedInSheet (λ entry. (entry.0, g entry)) es order.sheet;
   }
 
-pub forms_in_order : (F : Placed) → AreInOrder F → AreInOrder (placed_forms F)
-forms_in_order F order = each_in_order (λ entry. written_formula F entry.0 entry.1) F order
+pub forms_in_order : (form : WrittenForm) (F : Placed) → AreInOrder F
+    → AreInOrder (placed_forms form F)
+forms_in_order form F order =
+    each_in_order (λ entry. written_formula form F entry.0 entry.1) F order

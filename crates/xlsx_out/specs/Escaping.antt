@@ -1,9 +1,11 @@
 -- Which bytes of a text aren't written as they are, and what is written for each.
 use Rattle.std.specs.Prelude.{◌≡◌, ℕ, ◌==◌, List, ◌∷◌, ◌++◌, Bool, false, if◌then◌else◌, codes}
-use Rattle.std.specs.Prelude.{[], Option, Some, None, is_some}
+use Rattle.std.specs.Prelude.{[], Option, Some, None, is_some, ◌<◌, ◌+◌, length, take, drop}
+use Rattle.std.specs.Prelude.{slice_index}
 use Rattle.std.specs.Option.{unwrap_or}
 use Rattle.std.specs.List.{flat_map, list_any}
-use Rattle.written_markup.specs.WrittenText.{reference_of}
+use Rattle.written_markup.specs.WrittenText.{reference_of, is_control, control_escape}
+use Rattle.written_markup.specs.WrittenText.{least_escaped}
 use Rattle.xlsx_out.specs.declared.escaping.Escaping.{Escaping}
 use Rattle.xlsx_out.specs.declared.escaping.Escaping.TheVariants.{References, Quoted, Underscores}
 
@@ -30,3 +32,18 @@ pub record IsCutAt (escaping : Escaping) (text run escape behind : List ℕ) : T
   pub parts : text ≡ run ++ byte ∷ behind
   pub plain : has_escape escaping run ≡ false
   pub written : escape_of escaping byte ≡ Some escape
+
+-- ---- no more escapes than needed
+
+-- the escape of a byte, whatever stands behind it
+abbrev pub escape_alone : ℕ → List ℕ
+escape_alone b = if is_control b then control_escape b else codes "_x005F_"
+
+-- a text has its first byte that isn't written as it is at a place: its run in front of that is
+-- written as it is, and then come the byte's escape and what is written of the rest
+pub record IsLeastCut (text : List ℕ) (place : ℕ) : Type 0 where
+  pub within : place < length text
+  pub ascii : slice_index text place < 128
+  pub written : least_escaped text
+      ≡ take place text ++ (escape_alone (slice_index text place)
+      ++ least_escaped (drop (place + 1) text))

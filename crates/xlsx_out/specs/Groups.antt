@@ -7,6 +7,8 @@ use Rattle.std.specs.Ordering.{is_lt}
 use Rattle.std.specs.Str.{bytes_eq}
 use Rattle.cell_refs.specs.Positions.{position_cmp}
 use Rattle.formula_shift.specs.Relocation.{moved, offset_between}
+use Rattle.xlsx_out.specs.declared.form.WrittenForm.{WrittenForm}
+use Rattle.xlsx_out.specs.declared.form.WrittenForm.TheVariants.{PackageText, WorkbookFile}
 
 -- formulas by their positions, row by row
 abbrev pub Placed : Type 0
@@ -82,11 +84,17 @@ pub data WrittenFormula : Type 0 where
   -- the index of its group, without a text
   derived : ℕ → WrittenFormula
 
--- how the formula of a position is written
-abbrev pub written_formula : Placed → ℕ × ℕ → List ℕ → WrittenFormula
-written_formula formulas position formula =
+-- how the formula of a position is written as one of a group, or as none
+abbrev pub grouped_formula : Placed → ℕ × ℕ → List ℕ → WrittenFormula
+grouped_formula formulas position formula =
     if is_same (group_head formulas position) position
     then (if is_master formulas position
     then master formula (group_end formulas position) (group_index formulas position)
     else plain formula)
     else derived (group_index formulas (group_head formulas position))
+
+-- How the formula of a position is written: in groups where this program alone reads it. Other
+-- programs move the references of a group in other ways, so for them each is written by itself.
+abbrev pub written_formula : WrittenForm → Placed → ℕ × ℕ → List ℕ → WrittenFormula
+written_formula PackageText formulas position formula = grouped_formula formulas position formula
+written_formula WorkbookFile formulas position formula = plain formula

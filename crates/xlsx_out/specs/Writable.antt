@@ -1,10 +1,10 @@
 -- Which values and formulas are written so that they read back.
 use Rattle.std.specs.Prelude.{◌≡◌, ℤ, ◌%◌, ◌&&◌, ◌||◌, ◌==◌, not, nat_abs, length, Bool, true}
-use Rattle.std.specs.Prelude.{false, if◌then◌else◌, String}
-use Rattle.std.specs.List.{list_all}
+use Rattle.std.specs.Prelude.{ℕ, List, false, if◌then◌else◌, String}
+use Rattle.std.specs.List.{list_all, list_any}
 use Rattle.std.specs.declared.alloc.Global.{Global}
 use Rattle.cell_data.specs.CellValue.{CellValue, nothing, integer, number, shared_text, time}
-use Rattle.cell_data.specs.CellValue.{failure}
+use Rattle.cell_data.specs.CellValue.{failure, text, iso_time}
 use Rattle.cell_data.specs.Pairs.{value_pairs, formula_pairs}
 use Rattle.cell_data.specs.Range.{IsLeast}
 use Rattle.cell_data.specs.declared.range.Range.{Range}
@@ -12,8 +12,11 @@ use Rattle.cell_data.specs.declared.value.CellErrorType.{CellErrorType}
 use Rattle.cell_data.specs.declared.value.CellErrorType.TheVariants.{GettingData}
 use Rattle.cell_data.specs.declared.value.Data.{Data}
 use Rattle.decimals.specs.Decimals.{has_bits}
+use Rattle.written_markup.specs.WrittenText.{has_byte}
 use Rattle.xlsx_out.specs.Groups.{Placed}
 use Rattle.xlsx_out.specs.WrittenSheet.{PlacedValues}
+use Rattle.xlsx_out.specs.declared.form.WrittenForm.{WrittenForm}
+use Rattle.xlsx_out.specs.declared.form.WrittenForm.TheVariants.{PackageText, WorkbookFile}
 
 -- a cell can hold this error
 abbrev pub is_kept : CellErrorType → Bool
@@ -63,3 +66,22 @@ pub record IsWritable (values : Range Data) (formulas : Range (String Global)) :
   pub formulas_least : IsLeast formulas
   pub values_kept : are_writable_values (value_pairs values) ≡ true
   pub formulas_kept : are_writable_formulas (formula_pairs formulas) ≡ true
+
+-- ---- characters 0
+
+-- the text of a value has a character 0 that isn't written as an escape
+abbrev pub text_has_zero : WrittenForm → List ℕ → Bool
+text_has_zero PackageText bytes = has_byte 0 bytes
+text_has_zero WorkbookFile bytes = false
+
+-- a value has such a text; that of an ISO time is written as it is
+abbrev pub has_zero : WrittenForm → CellValue → Bool
+has_zero form (text bytes) = text_has_zero form bytes
+has_zero form (iso_time bytes) = has_byte 0 bytes
+has_zero form _ = false
+
+-- a character 0 is left in what is written of a sheet, which no markup has (XML 1.0, 2.2)
+abbrev pub has_zero_left : WrittenForm → List ℕ → PlacedValues → Placed → Bool
+has_zero_left form name values formulas =
+    has_byte 0 name || (list_any (λ entry. has_zero form entry.1) values
+    || list_any (λ entry. has_byte 0 entry.1) formulas)

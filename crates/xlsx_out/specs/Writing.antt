@@ -17,6 +17,7 @@ use Rattle.written_markup.specs.Markup.{element, attribute}
 use Rattle.xlsx_out.specs.Groups.{Placed, WrittenFormula, plain, master, derived, written_formula}
 use Rattle.xlsx_out.specs.WrittenSheet.{PlacedValues, value_events, cell_attributes}
 use Rattle.xlsx_out.specs.WrittenSheet.{formula_events, SheetRow, in_rows}
+use Rattle.xlsx_out.specs.declared.form.WrittenForm.{WrittenForm}
 use Rattle.xlsx_out.specs.declared.groups.FormulaForm.{FormulaForm}
 use Rattle.xlsx_out.specs.declared.groups.FormulaForm.TheVariants as form
 use Rattle.xlsx_out.specs.declared.groups.GroupedFormula.{GroupedFormula}
@@ -63,8 +64,9 @@ abbrev pub forms_left : FormsLeft → PlacedForms
 forms_left forms = form_entries (left_of forms)
 
 -- each of the formulas as it is written
-abbrev pub placed_forms : Placed → PlacedForms
-placed_forms formulas = map (λ entry. (entry.0, written_formula formulas entry.0 entry.1)) formulas
+abbrev pub placed_forms : WrittenForm → Placed → PlacedForms
+placed_forms form formulas =
+    map (λ entry. (entry.0, written_formula form formulas entry.0 entry.1)) formulas
 
 -- the value that was given for a cell, or nothing
 abbrev pub value_given : Option Data → CellValue
@@ -76,15 +78,15 @@ given_formula position None = []
 given_formula position (Some formula) = formula_events position formula
 
 -- the cell of a position with its value, and its formula as it is written
-abbrev pub given_cell : ℕ × ℕ → CellValue → Option WrittenFormula → List Event
-given_cell position value formula =
+abbrev pub given_cell : WrittenForm → ℕ × ℕ → CellValue → Option WrittenFormula → List Event
+given_cell form position value formula =
     element (codes "c") (cell_attributes position value)
-    (given_formula position formula ++ value_events value)
+    (given_formula position formula ++ value_events form value)
 
 -- the cell of a position among values and formulas
-abbrev pub cell_among : PlacedValues → PlacedForms → ℕ × ℕ → List Event
-cell_among values forms position =
-    given_cell position (unwrap_or (find position_cmp position values) nothing)
+abbrev pub cell_among : WrittenForm → PlacedValues → PlacedForms → ℕ × ℕ → List Event
+cell_among form values forms position =
+    given_cell form position (unwrap_or (find position_cmp position values) nothing)
     (find position_cmp position forms)
 
 -- the positions of values and formulas, each once, row by row
@@ -145,9 +147,9 @@ abbrev pub entering : Option ℕ → ℕ → List Event
 entering open_row row = if is_open open_row row then [] else leaving open_row ++ row_start row
 
 -- what is still to be written of values and formulas where this row is open, or none
-abbrev pub data_left : Option ℕ → PlacedValues → PlacedForms → List Event
-data_left row values forms =
-    rows_left (cell_among values forms) row (positions_among values forms)
+abbrev pub data_left : WrittenForm → Option ℕ → PlacedValues → PlacedForms → List Event
+data_left form row values forms =
+    rows_left (cell_among form values forms) row (positions_among values forms)
 
 -- the first position that has a value or a formula
 pub record IsFirstOfBoth

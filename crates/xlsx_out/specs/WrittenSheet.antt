@@ -18,9 +18,11 @@ use Rattle.part_events.specs.Event.{Event}
 use Rattle.part_events.specs.Package.{Part}
 use Rattle.written_markup.specs.Markup.{element, attribute}
 use Rattle.written_markup.specs.WrittenText.{attribute_if, encoded}
-use Rattle.written_markup.specs.WrittenText.{underscores_escaped, text_events}
+use Rattle.written_markup.specs.WrittenText.{underscores_escaped, least_escaped, text_events}
 use Rattle.xlsx_out.specs.Groups.{Placed, formula_placed, WrittenFormula, plain, master, derived}
 use Rattle.xlsx_out.specs.Groups.{written_formula}
+use Rattle.xlsx_out.specs.declared.form.WrittenForm.{WrittenForm}
+use Rattle.xlsx_out.specs.declared.form.WrittenForm.TheVariants.{PackageText, WorkbookFile}
 
 -- values by their positions, row by row
 abbrev pub PlacedValues : Type 0
@@ -49,20 +51,26 @@ abbrev pub truth_written : Bool → List ℕ
 truth_written true = codes "1"
 truth_written false = codes "0"
 
+-- a text as it is written in a `v`, where `_xHHHH_` counts: other programs may read no escapes, so
+-- for them there are no more than needed
+abbrev pub text_written : WrittenForm → List ℕ → List ℕ
+text_written PackageText bytes = underscores_escaped bytes
+text_written WorkbookFile bytes = least_escaped bytes
+
 -- the text of the `v` of a cell with a value
-abbrev pub value_written : CellValue → List ℕ
-value_written (number n) = printed n
-value_written (text bytes) = underscores_escaped bytes
-value_written (truth holds) = truth_written holds
-value_written (time days kind is_1904) = printed days
-value_written (iso_time bytes) = bytes
-value_written (failure error) = cell_error_text error
-value_written _ = []
+abbrev pub value_written : WrittenForm → CellValue → List ℕ
+value_written form (number n) = printed n
+value_written form (text bytes) = text_written form bytes
+value_written form (truth holds) = truth_written holds
+value_written form (time days kind is_1904) = printed days
+value_written form (iso_time bytes) = bytes
+value_written form (failure error) = cell_error_text error
+value_written form _ = []
 
 -- the `v` of a cell, where it has a value
-abbrev pub value_events : CellValue → List Event
-value_events nothing = []
-value_events value = element (codes "v") [] (text_events (value_written value))
+abbrev pub value_events : WrittenForm → CellValue → List Event
+value_events form nothing = []
+value_events form value = element (codes "v") [] (text_events (value_written form value))
 
 -- the area of a group, in one column
 abbrev pub group_text : ℕ × ℕ → ℕ → List ℕ
@@ -87,10 +95,10 @@ formula_events position (master formula last index) =
 formula_events position (derived index) = element (codes "f") (derived_attributes index) []
 
 -- the `f` of a cell, where it has a formula
-abbrev pub optional_formula : Placed → ℕ × ℕ → Option (List ℕ) → List Event
-optional_formula formulas position None = []
-optional_formula formulas position (Some formula) =
-    formula_events position (written_formula formulas position formula)
+abbrev pub optional_formula : WrittenForm → Placed → ℕ × ℕ → Option (List ℕ) → List Event
+optional_formula form formulas position None = []
+optional_formula form formulas position (Some formula) =
+    formula_events position (written_formula form formulas position formula)
 
 -- the attributes of a cell: its position, its style and its type
 abbrev pub cell_attributes : ℕ × ℕ → CellValue → List ℕ
@@ -100,15 +108,16 @@ cell_attributes position value =
     ++ attribute_if (codes "t") (type_written value))
 
 -- the cell of a position with a value, and its formula
-abbrev pub cell_with : Placed → ℕ × ℕ → CellValue → List Event
-cell_with formulas position value =
+abbrev pub cell_with : WrittenForm → Placed → ℕ × ℕ → CellValue → List Event
+cell_with form formulas position value =
     element (codes "c") (cell_attributes position value)
-    (optional_formula formulas position (formula_placed formulas position) ++ value_events value)
+    (optional_formula form formulas position (formula_placed formulas position)
+    ++ value_events form value)
 
 -- the cell of a position
-abbrev pub cell_events : PlacedValues → Placed → ℕ × ℕ → List Event
-cell_events values formulas position =
-    cell_with formulas position (unwrap_or (find position_cmp position values) nothing)
+abbrev pub cell_events : WrittenForm → PlacedValues → Placed → ℕ × ℕ → List Event
+cell_events form values formulas position =
+    cell_with form formulas position (unwrap_or (find position_cmp position values) nothing)
 
 -- the positions of a row
 pub record SheetRow : Type 0 where
@@ -129,37 +138,84 @@ in_rows [] = []
 in_rows (position ∷ positions) = with_position position (in_rows positions)
 
 -- a row with its cells
-abbrev pub row_events : PlacedValues → Placed → SheetRow → List Event
-row_events values formulas found =
+abbrev pub row_events : WrittenForm → PlacedValues → Placed → SheetRow → List Event
+row_events form values formulas found =
     element (codes "row") (attribute (codes "r") (row_reference found.row))
-    (flat_map (cell_events values formulas) found.positions)
+    (flat_map (cell_events form values formulas) found.positions)
 
 -- the positions that have a value or a formula, row by row
 abbrev pub written_positions : PlacedValues → Placed → List (ℕ × ℕ)
 written_positions values formulas = positions_of (used values ++ used formulas)
 
 -- what stands in the sheet's data
-abbrev pub data_events : PlacedValues → Placed → List Event
-data_events values formulas =
-    flat_map (row_events values formulas) (in_rows (written_positions values formulas))
+abbrev pub data_events : WrittenForm → PlacedValues → Placed → List Event
+data_events form values formulas =
+    flat_map (row_events form values formulas) (in_rows (written_positions values formulas))
 
--- ---- the parts
+-- ---- names of types and of spaces
 
--- the type of a relationship
+-- the name that begins so, of a type of relationships or of their space
 abbrev pub office : List ℕ → List ℕ
 office kind =
-    codes "http://schemas.openxmlformats.org/officeDocument/2006/relationships/" ++ kind
+    codes "http://schemas.openxmlformats.org/officeDocument/2006/relationships" ++ kind
 
--- a relationship of this type, to a part
-abbrev pub relationship_to : List ℕ → List ℕ → List Event
-relationship_to kind target =
+-- the name that begins so, of a space of packages
+abbrev pub of_packages : List ℕ → List ℕ
+of_packages kind = codes "http://schemas.openxmlformats.org/package/2006/" ++ kind
+
+-- the space of the elements of sheets
+abbrev pub of_sheets : List ℕ
+of_sheets = codes "http://schemas.openxmlformats.org/spreadsheetml/2006/main"
+
+-- the attributes of an outermost element whose elements are in this space: other programs ask for
+-- its name
+abbrev pub space_attributes : WrittenForm → List ℕ → List ℕ
+space_attributes PackageText space = []
+space_attributes WorkbookFile space = attribute (codes "xmlns") space
+
+-- the same of the workbook, which names relationships, too
+abbrev pub workbook_attributes : WrittenForm → List ℕ
+workbook_attributes PackageText = []
+workbook_attributes WorkbookFile =
+    attribute (codes "xmlns") of_sheets ++ attribute (codes "xmlns:r") (office [])
+
+-- ---- relationships
+
+-- a relationship of this id and this type, to a part
+abbrev pub relationship : List ℕ → List ℕ → List ℕ → List Event
+relationship id kind target =
     element (codes "Relationship")
-    (attribute (codes "Id") (codes "rId1") ++ (attribute (codes "Type") (office kind)
+    (attribute (codes "Id") id ++ (attribute (codes "Type") (office kind)
     ++ attribute (codes "Target") target)) []
 
--- a list of one relationship, to a part
-abbrev pub relationships_to : List ℕ → List ℕ → List Event
-relationships_to kind target = element (codes "Relationships") [] (relationship_to kind target)
+-- the list of these relationships
+abbrev pub relationships_of : WrittenForm → List Event → List Event
+relationships_of form listed =
+    element (codes "Relationships") (space_attributes form (of_packages (codes "relationships")))
+    listed
+
+-- the relationship of the package, to the workbook
+abbrev pub to_workbook : List Event
+to_workbook = relationship (codes "rId1") (codes "/officeDocument") (codes "xl/workbook.xml")
+
+-- that of the workbook to the sheet
+abbrev pub to_sheet : List Event
+to_sheet = relationship (codes "rId1") (codes "/worksheet") (codes "worksheets/sheet1.xml")
+
+-- that of the workbook to the styles: this program finds them by their name
+abbrev pub to_styles : WrittenForm → List Event
+to_styles PackageText = []
+to_styles WorkbookFile = relationship (codes "rId2") (codes "/styles") (codes "styles.xml")
+
+-- the relationships of the package
+abbrev pub root_events : WrittenForm → List Event
+root_events form = relationships_of form to_workbook
+
+-- the relationships of the workbook
+abbrev pub related_events : WrittenForm → List Event
+related_events form = relationships_of form (to_sheet ++ to_styles form)
+
+-- ---- the workbook
 
 -- a time that counts from 1904
 abbrev pub is_from_1904 : CellValue → Bool
@@ -184,40 +240,130 @@ sheets_events name =
     element (codes "sheets") [] (element (codes "sheet") (sheet_attributes name) [])
 
 -- the workbook with one sheet of this name, whose first year is 1904 or 1900
-abbrev pub workbook_by : List ℕ → Bool → List Event
-workbook_by name is_1904 =
-    element (codes "workbook") [] (properties_by is_1904 ++ sheets_events name)
+abbrev pub workbook_by : WrittenForm → List ℕ → Bool → List Event
+workbook_by form name is_1904 =
+    element (codes "workbook") (workbook_attributes form)
+    (properties_by is_1904 ++ sheets_events name)
 
 -- the workbook of a sheet with these values
-abbrev pub workbook_events : List ℕ → PlacedValues → List Event
-workbook_events name values =
-    workbook_by name (list_any (λ entry. is_from_1904 entry.1) values)
+abbrev pub workbook_events : WrittenForm → List ℕ → PlacedValues → List Event
+workbook_events form name values =
+    workbook_by form name (list_any (λ entry. is_from_1904 entry.1) values)
+
+-- ---- the styles
+
+-- an element with one attribute and nothing in it
+abbrev pub bare : List ℕ → List ℕ → List ℕ → List Event
+bare name key value = element name (attribute key value) []
 
 -- the format of a cell
 abbrev pub cell_format : List ℕ → List Event
-cell_format id = element (codes "xf") (attribute (codes "numFmtId") id) []
+cell_format id = bare (codes "xf") (codes "numFmtId") id
 
 -- three styles: of no format, of a date and of a duration
-abbrev pub style_events : List Event
-style_events =
-    element (codes "styleSheet") [] (element (codes "cellXfs") []
-    (cell_format (codes "0") ++ (cell_format (codes "14") ++ cell_format (codes "46"))))
+abbrev pub cell_formats : List Event
+cell_formats =
+    element (codes "cellXfs") []
+    (cell_format (codes "0") ++ (cell_format (codes "14") ++ cell_format (codes "46")))
+
+-- one font
+abbrev pub font_list : List Event
+font_list =
+    element (codes "fonts") [] (element (codes "font") []
+    (bare (codes "sz") (codes "val") (codes "11")
+    ++ bare (codes "name") (codes "val") (codes "Calibri")))
+
+-- a fill with a pattern
+abbrev pub fill_with : List ℕ → List Event
+fill_with pattern =
+    element (codes "fill") [] (bare (codes "patternFill") (codes "patternType") pattern)
+
+-- the two fills that each workbook has (ECMA-376 part 1, section 18.8.21)
+abbrev pub fill_list : List Event
+fill_list =
+    element (codes "fills") [] (fill_with (codes "none") ++ fill_with (codes "gray125"))
+
+-- one border, without lines
+abbrev pub border_list : List Event
+border_list = element (codes "borders") [] (element (codes "border") [] [])
+
+-- the format of the default cell style
+abbrev pub style_formats : List Event
+style_formats = element (codes "cellStyleXfs") [] (cell_format (codes "0"))
+
+-- the default cell style
+abbrev pub named_styles : List Event
+named_styles =
+    element (codes "cellStyles") [] (element (codes "cellStyle")
+    (attribute (codes "name") (codes "Normal") ++ (attribute (codes "xfId") (codes "0")
+    ++ attribute (codes "builtinId") (codes "0"))) [])
+
+-- what other programs look for in front of the formats of cells
+abbrev pub style_front : WrittenForm → List Event
+style_front PackageText = []
+style_front WorkbookFile = font_list ++ (fill_list ++ (border_list ++ style_formats))
+
+-- and behind them
+abbrev pub style_behind : WrittenForm → List Event
+style_behind PackageText = []
+style_behind WorkbookFile = named_styles
+
+-- what stands in the styles
+abbrev pub style_inside : WrittenForm → List Event
+style_inside form = style_front form ++ (cell_formats ++ style_behind form)
+
+-- the styles
+abbrev pub style_events : WrittenForm → List Event
+style_events form =
+    element (codes "styleSheet") (space_attributes form of_sheets) (style_inside form)
+
+-- ---- the parts
 
 -- the sheet with its data
-abbrev pub sheet_events : PlacedValues → Placed → List Event
-sheet_events values formulas =
-    element (codes "worksheet") [] (element (codes "sheetData") [] (data_events values formulas))
+abbrev pub sheet_events : WrittenForm → PlacedValues → Placed → List Event
+sheet_events form values formulas =
+    element (codes "worksheet") (space_attributes form of_sheets)
+    (element (codes "sheetData") [] (data_events form values formulas))
+
+-- the type of parts whose names end so
+abbrev pub default_type : List ℕ → List ℕ → List Event
+default_type extension type =
+    element (codes "Default")
+    (attribute (codes "Extension") extension ++ attribute (codes "ContentType") type) []
+
+-- the type of a part, of those of sheets
+abbrev pub own_type : List ℕ → List ℕ → List Event
+own_type name kind =
+    element (codes "Override")
+    (attribute (codes "PartName") name ++ attribute (codes "ContentType")
+    (codes "application/vnd.openxmlformats-officedocument.spreadsheetml." ++ kind)) []
+
+-- the types of the parts (ECMA-376 part 2, section 10.1.2)
+abbrev pub type_events : List Event
+type_events =
+    element (codes "Types") (space_attributes WorkbookFile (of_packages (codes "content-types")))
+    (default_type (codes "rels")
+    (codes "application/vnd.openxmlformats-package.relationships+xml")
+    ++ (default_type (codes "xml") (codes "application/xml")
+    ++ (own_type (codes "/xl/workbook.xml") (codes "sheet.main+xml")
+    ++ (own_type (codes "/xl/styles.xml") (codes "styles+xml")
+    ++ own_type (codes "/xl/worksheets/sheet1.xml") (codes "worksheet+xml")))))
 
 -- a part of this name
 abbrev pub part : List ℕ → List Event → Part
 part name events = record { name = name; events = events }
 
+-- the part of the types, which this program doesn't look for
+abbrev pub type_parts : WrittenForm → List Part
+type_parts PackageText = []
+type_parts WorkbookFile = part (codes "[Content_Types].xml") type_events ∷ []
+
 -- the package of a sheet of this name
-unfoldable pub written_parts : List ℕ → PlacedValues → Placed → List Part
-written_parts name values formulas =
-    part (codes "_rels/.rels") (relationships_to (codes "officeDocument") (codes "xl/workbook.xml"))
-    ∷ part (codes "xl/_rels/workbook.xml.rels")
-    (relationships_to (codes "worksheet") (codes "worksheets/sheet1.xml"))
-    ∷ part (codes "xl/workbook.xml") (workbook_events name values)
-    ∷ part (codes "xl/styles.xml") style_events
-    ∷ part (codes "xl/worksheets/sheet1.xml") (sheet_events values formulas) ∷ []
+unfoldable pub written_parts : WrittenForm → List ℕ → PlacedValues → Placed → List Part
+written_parts form name values formulas =
+    type_parts form
+    ++ (part (codes "_rels/.rels") (root_events form)
+    ∷ part (codes "xl/_rels/workbook.xml.rels") (related_events form)
+    ∷ part (codes "xl/workbook.xml") (workbook_events form name values)
+    ∷ part (codes "xl/styles.xml") (style_events form)
+    ∷ part (codes "xl/worksheets/sheet1.xml") (sheet_events form values formulas) ∷ [])

@@ -9,6 +9,7 @@ ghost use Rattle.xlsx_out.specs.WrittenSheet.{group_text, derived_attributes, fo
 ghost use Rattle.xlsx_out.specs.Writing.{value_given, given_formula, written_of, given_cell};
 ghost use Rattle.xlsx_out.specs.Writing.{is_open, entering, leaving, IsFormInSheet};
 
+use crate::form::WrittenForm;
 use crate::groups::{FormulaForm, GroupedFormula};
 use crate::texts::push_text;
 use crate::values::{push_value, style_attribute, type_attribute};
@@ -150,6 +151,7 @@ fn put_cell_attributes(
 fn push_inside(
     draft: &mut Draft,
     buffer: &mut String,
+    form: WrittenForm,
     position: (u32, u32),
     value: Option<&Data>,
     formula: Option<GroupedFormula<'_>>,
@@ -159,17 +161,18 @@ fn push_inside(
     requires last { IfSome formula IsFormInSheet }
     ensures { let inside =
         given_formula position (option_map written_of formula.entry)
-        ++ value_events (value_given (option_copied value.entry)) in
+        ++ value_events form (value_given (option_copied value.entry)) in
         OnOk result (draft.new ≡ with_events draft.old inside) }
 {
     push_formula(draft, buffer, position, formula)?;
-    push_value(draft, buffer, value)
+    push_value(draft, buffer, form, value)
 }
 
 /// Appends the cell of a position, counted from 0. Attributes and texts are made in `buffer`.
 pub fn push_cell(
     draft: &mut Draft,
     buffer: &mut String,
+    form: WrittenForm,
     position: (u32, u32),
     value: Option<&Data>,
     formula: Option<GroupedFormula<'_>>,
@@ -177,13 +180,13 @@ pub fn push_cell(
     requires in_rows { position.0 < MAX_ROWS }
     requires in_columns { position.1 < MAX_COLUMNS }
     requires last { IfSome formula IsFormInSheet }
-    ensures { let cell = given_cell position (value_given (option_copied value.entry))
+    ensures { let cell = given_cell form position (value_given (option_copied value.entry))
         (option_map written_of formula.entry) in
         OnOk result (draft.new ≡ with_events draft.old cell) }
 {
     put_cell_attributes(buffer, position, value)?;
     draft.open("c", buffer.as_str())?;
-    push_inside(draft, buffer, position, value, formula)?;
+    push_inside(draft, buffer, form, position, value, formula)?;
     draft.close("c")
 }
 

@@ -1,5 +1,6 @@
 //! Which formulas are written as those of a group: each formula's head is found in one pass, then
-//! the last row of each group, and then how each formula is written.
+//! the last row of each group, and then how each formula is written. For other programs each is
+//! written by itself.
 ghost use Rattle.std.specs.Prelude.{◌≡◌, ◌<◌, ◌≤◌, ◌↔◌, length, map, true, false, IfOk, IsTrue};
 ghost use Rattle.std.specs.Prelude.{string_bytes, All};
 ghost use Rattle.std.specs.Ordering.{is_lt};
@@ -12,8 +13,10 @@ ghost use Rattle.xlsx_out.specs.Groups.{is_same};
 ghost use Rattle.xlsx_out.specs.Grouping.{lowered, member_entry, member_head, AreHeads, AreUpTo};
 ghost use Rattle.xlsx_out.specs.Grouping.{ArePassed, StopsAt, AreLastRows, head_place};
 ghost use Rattle.xlsx_out.specs.Grouping.{moves_from, form_by, masters_in};
+ghost use Rattle.xlsx_out.specs.declared.form.WrittenForm.TheVariants.{PackageText, WorkbookFile};
 ghost use Rattle.xlsx_out.specs.Writing.{form_entries, placed_forms, IsFormInSheet};
 
+use crate::form::WrittenForm;
 use formula_shift::expand_shared_formula_into;
 use sorted_cells::PlacedCells;
 use std::alloc::{AllocError, Global};
@@ -205,7 +208,7 @@ fn forms_of<'a>(
     requires heads { AreHeads (map member_entry members.now) (map member_head members.now) }
     requires count { length last_rows.items ≡ length members.now }
     requires last_rows { AreLastRows (map member_entry members.now) last_rows.items }
-    ensures forms { let written = placed_forms (map member_entry members.now) in
+    ensures forms { let written = placed_forms PackageText (map member_entry members.now) in
         IfOk result (λ formulas. form_entries formulas.items ≡ written) }
     ensures sheet { IfOk result (λ formulas. All IsFormInSheet formulas.items) }
 {
@@ -234,16 +237,57 @@ fn forms_of<'a>(
 
 /// Formulas as they are written, row by row: those of a group, which are that of its head moved, by
 /// the index of the group alone.
-pub fn grouped<'a>(
+fn grouped<'a>(
     alloc: Global,
     formulas: PlacedCells<'a, String>,
 ) -> Result<Vec<GroupedFormula<'a>>, AllocError>
     requires { AreInOrder (placed_left formulas) }
-    ensures forms { let written = placed_forms (meant string_bytes (placed_left formulas.entry)) in
+    ensures forms { let written =
+        placed_forms PackageText (meant string_bytes (placed_left formulas.entry)) in
         IfOk result (λ grouped. form_entries grouped.items ≡ written) }
     ensures sheet { IfOk result (λ grouped. All IsFormInSheet grouped.items) }
 {
     let members = members_of(alloc, formulas)?;
     let last_rows = last_rows_of(alloc, &members)?;
     forms_of(alloc, &members, last_rows)
+}
+
+/// Formulas, row by row, each of which is written by itself.
+fn alone<'a>(
+    alloc: Global,
+    formulas: PlacedCells<'a, String>,
+) -> Result<Vec<GroupedFormula<'a>>, AllocError>
+    requires { AreInOrder (placed_left formulas) }
+    ensures forms { let written =
+        placed_forms WorkbookFile (meant string_bytes (placed_left formulas.entry)) in
+        IfOk result (λ listed. form_entries listed.items ≡ written) }
+    ensures sheet { IfOk result (λ listed. All IsFormInSheet listed.items) }
+{
+    let mut listed = Vec::new(alloc);
+    for (position, formula) in formulas {
+        listed.push(GroupedFormula {
+            position,
+            text: formula.as_str(),
+            form: FormulaForm::Plain,
+        })?;
+    }
+    Ok(listed)
+}
+
+/// Formulas as they are written in a form, row by row.
+pub fn formulas_by<'a>(
+    alloc: Global,
+    form: WrittenForm,
+    formulas: PlacedCells<'a, String>,
+) -> Result<Vec<GroupedFormula<'a>>, AllocError>
+    requires { AreInOrder (placed_left formulas) }
+    ensures forms { let written =
+        placed_forms form (meant string_bytes (placed_left formulas.entry)) in
+        IfOk result (λ listed. form_entries listed.items ≡ written) }
+    ensures sheet { IfOk result (λ listed. All IsFormInSheet listed.items) }
+{
+    match form {
+        WrittenForm::PackageText => grouped(alloc, formulas),
+        WrittenForm::WorkbookFile => alone(alloc, formulas),
+    }
 }

@@ -24,7 +24,9 @@
 
 mod cells;
 mod escaping;
+mod form;
 mod groups;
+mod least_escapes;
 mod package;
 mod parts;
 mod sheet;
@@ -32,5 +34,6 @@ mod texts;
 mod values;
 mod writable;
 
+pub use form::WrittenForm;
 pub use package::write_package;
-pub use writable::is_writable;
+pub use writable::{has_zero_left, is_writable};

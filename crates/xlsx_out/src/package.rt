@@ -6,8 +6,9 @@ ghost use Rattle.written_markup.specs.Markup.{with_events, element};
 ghost use Rattle.xlsx_out.specs.Writable.{IsWritable};
 ghost use Rattle.xlsx_out.specs.WrittenSheet.{part, data_events, sheet_events, written_parts};
 
-use crate::groups::grouped;
-use crate::parts::{add_relationships, add_styles, add_workbook, with_root};
+use crate::form::WrittenForm;
+use crate::groups::formulas_by;
+use crate::parts::{add_relationships, add_styles, add_workbook, sheet_space, with_root};
 use crate::sheet::{FormsLeft, push_rows};
 use crate::writable::has_time_from_1904;
 use cell_data::{Data, Range};
@@ -20,15 +21,16 @@ fn push_data(
     draft: &mut Draft,
     buffer: &mut String,
     alloc: Global,
+    form: WrittenForm,
     values: &Range<Data>,
     formulas: &Range<String>,
 ) -> Result<(), AllocError>
-    ensures { let rows = data_events (value_pairs values.now) (formula_pairs formulas.now) in
+    ensures { let rows = data_events form (value_pairs values.now) (formula_pairs formulas.now) in
         OnOk result (draft.new ≡ with_events draft.old (element (codes "sheetData") [] rows)) }
 {
-    let forms = grouped(alloc, formulas.used())?;
+    let forms = formulas_by(alloc, form, formulas.used())?;
     draft.open("sheetData", "")?;
-    push_rows(draft, buffer, values.used(), FormsLeft::new(&forms))?;
+    push_rows(draft, buffer, form, values.used(), FormsLeft::new(&forms))?;
     draft.close("sheetData")
 }
 
@@ -37,45 +39,42 @@ fn add_sheet(
     draft: &mut Draft,
     buffer: &mut String,
     alloc: Global,
+    form: WrittenForm,
     values: &Range<Data>,
     formulas: &Range<String>,
 ) -> Result<(), AllocError>
     ensures { let added = part (codes "xl/worksheets/sheet1.xml")
-        (sheet_events (value_pairs values.now) (formula_pairs formulas.now)) in
+        (sheet_events form (value_pairs values.now) (formula_pairs formulas.now)) in
         OnOk result (draft.new ≡ closed (draft.old.parts ++ added ∷ []) draft.old.taken) }
 {
-    draft.begin_part("xl/worksheets/sheet1.xml", "worksheet")?;
-    push_data(draft, buffer, alloc, values, formulas)?;
+    draft.begin_part("xl/worksheets/sheet1.xml", "worksheet", sheet_space(form))?;
+    push_data(draft, buffer, alloc, form, values, formulas)?;
     draft.close("worksheet")
 }
 
-/// A package of one sheet of this name with these values and formulas, written so that it reads
-/// back (docs/FORMAT.md, "A sheet that is written"). Formulas that are that of a cell above them in
-/// their column, moved, are written as those of its group. No part is open.
+/// A package of one sheet of this name with these values and formulas, written in a form so that it
+/// reads back (docs/FORMAT.md, "A sheet that is written"). No part is open.
 ///
 /// What [`is_writable`](crate::is_writable) answers of values and formulas is asked for.
 #[tactic(auto, unfolding(crate::specs::WrittenSheet::written_parts))]
 pub fn write_package(
     alloc: Global,
+    form: WrittenForm,
     sheet_name: &str,
     values: &Range<Data>,
     formulas: &Range<String>,
 ) -> Result<MemoryPackage, AllocError>
     requires { IsWritable values.now formulas.now }
     ensures { let parts =
-        written_parts sheet_name.now (value_pairs values.now) (formula_pairs formulas.now) in
+        written_parts form sheet_name.now (value_pairs values.now) (formula_pairs formulas.now) in
         IfOk result (λ written. written ≡ closed parts 0) }
 {
     let mut buffer = String::new(alloc);
-    let mut draft = with_root(alloc)?;
-    add_relationships(&mut draft)?;
-    add_workbook(
-        &mut draft,
-        &mut buffer,
-        sheet_name,
-        has_time_from_1904(values),
-    )?;
-    add_styles(&mut draft)?;
-    add_sheet(&mut draft, &mut buffer, alloc, values, formulas)?;
+    let mut draft = with_root(alloc, form)?;
+    add_relationships(&mut draft, form)?;
+    let is_1904 = has_time_from_1904(values);
+    add_workbook(&mut draft, &mut buffer, form, sheet_name, is_1904)?;
+    add_styles(&mut draft, form)?;
+    add_sheet(&mut draft, &mut buffer, alloc, form, values, formulas)?;
     Ok(draft.into_package())
 }

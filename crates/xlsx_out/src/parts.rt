@@ -4,13 +4,117 @@ ghost use Rattle.std.specs.Prelude.{string_bytes, Bool, List, ℕ};
 ghost use Rattle.part_events.specs.Memory.{closed};
 ghost use Rattle.written_markup.specs.Markup.{with_events, element, attribute};
 ghost use Rattle.written_markup.specs.WrittenText.{encoded};
-ghost use Rattle.xlsx_out.specs.WrittenSheet.{part, relationships_to, office, cell_format};
+ghost use Rattle.written_markup.specs.Markup.{opened_part};
+ghost use Rattle.xlsx_out.specs.WrittenSheet.{space_attributes, workbook_attributes, of_sheets};
+ghost use Rattle.xlsx_out.specs.WrittenSheet.{of_packages, root_events, related_events};
+ghost use Rattle.xlsx_out.specs.WrittenSheet.{to_styles, default_type, own_type, type_events};
+ghost use Rattle.xlsx_out.specs.WrittenSheet.{type_parts, part, cell_format, cell_formats};
+ghost use Rattle.xlsx_out.specs.WrittenSheet.{font_list, fill_list, border_list, style_formats};
+ghost use Rattle.xlsx_out.specs.WrittenSheet.{style_front, style_behind, style_inside};
 ghost use Rattle.xlsx_out.specs.WrittenSheet.{style_events, sheet_attributes, sheets_events};
 ghost use Rattle.xlsx_out.specs.WrittenSheet.{properties_by, workbook_by};
 
+use crate::form::WrittenForm;
 use crate::texts::push_encoded;
+use part_events::PartEvent;
 use std::alloc::{AllocError, Global};
-use written_markup::Draft;
+use written_markup::{Draft, start};
+
+// ---- spaces
+
+/// The attributes of the outermost element of styles and of a sheet.
+pub fn sheet_space(form: WrittenForm) -> &'static str
+    ensures { result.now ≡ space_attributes form of_sheets }
+{
+    match form {
+        WrittenForm::PackageText => "",
+        WrittenForm::WorkbookFile => {
+            " xmlns=\"http://schemas.openxmlformats.org/spreadsheetml/2006/main\""
+        }
+    }
+}
+
+/// Those of the workbook.
+fn workbook_space(form: WrittenForm) -> &'static str
+    ensures { result.now ≡ workbook_attributes form }
+{
+    match form {
+        WrittenForm::PackageText => "",
+        WrittenForm::WorkbookFile => {
+            " xmlns=\"http://schemas.openxmlformats.org/spreadsheetml/2006/main\" \
+             xmlns:r=\"http://schemas.openxmlformats.org/officeDocument/2006/relationships\""
+        }
+    }
+}
+
+/// Those of relationships.
+fn relationship_space(form: WrittenForm) -> &'static str
+    ensures { result.now ≡ space_attributes form (of_packages (codes "relationships")) }
+{
+    match form {
+        WrittenForm::PackageText => "",
+        WrittenForm::WorkbookFile => {
+            " xmlns=\"http://schemas.openxmlformats.org/package/2006/relationships\""
+        }
+    }
+}
+
+// ---- types
+
+/// The attributes of the types of parts.
+const OF_TYPES: &str = " xmlns=\"http://schemas.openxmlformats.org/package/2006/content-types\"";
+
+const RELATIONSHIP_TYPE: &str = " Extension=\"rels\" \
+    ContentType=\"application/vnd.openxmlformats-package.relationships+xml\"";
+
+const MARKUP_TYPE: &str = " Extension=\"xml\" ContentType=\"application/xml\"";
+
+const WORKBOOK_TYPE: &str = " PartName=\"/xl/workbook.xml\" ContentType=\"application/\
+    vnd.openxmlformats-officedocument.spreadsheetml.sheet.main+xml\"";
+
+const STYLES_TYPE: &str = " PartName=\"/xl/styles.xml\" ContentType=\"application/\
+    vnd.openxmlformats-officedocument.spreadsheetml.styles+xml\"";
+
+const SHEET_TYPE: &str = " PartName=\"/xl/worksheets/sheet1.xml\" ContentType=\"application/\
+    vnd.openxmlformats-officedocument.spreadsheetml.worksheet+xml\"";
+
+/// Appends the types of parts.
+fn push_types(draft: &mut Draft) -> Result<(), AllocError>
+    ensures { let listed = default_type (codes "rels")
+        (codes "application/vnd.openxmlformats-package.relationships+xml")
+        ++ (default_type (codes "xml") (codes "application/xml")
+        ++ (own_type (codes "/xl/workbook.xml") (codes "sheet.main+xml")
+        ++ (own_type (codes "/xl/styles.xml") (codes "styles+xml")
+        ++ own_type (codes "/xl/worksheets/sheet1.xml") (codes "worksheet+xml")))) in
+        OnOk result (draft.new ≡ with_events draft.old listed) }
+{
+    let events = [
+        start("Default", RELATIONSHIP_TYPE),
+        PartEvent::End("Default"),
+        start("Default", MARKUP_TYPE),
+        PartEvent::End("Default"),
+        start("Override", WORKBOOK_TYPE),
+        PartEvent::End("Override"),
+        start("Override", STYLES_TYPE),
+        PartEvent::End("Override"),
+        start("Override", SHEET_TYPE),
+        PartEvent::End("Override"),
+    ];
+    draft.push(&events)
+}
+
+/// A package of the part of the types.
+fn with_types(alloc: Global) -> Result<Draft, AllocError>
+    ensures { let types = part (codes "[Content_Types].xml") type_events in
+        IfOk result (λ draft. draft ≡ closed (types ∷ []) 0) }
+{
+    let mut draft = Draft::new(alloc, "[Content_Types].xml", "Types", OF_TYPES)?;
+    push_types(&mut draft)?;
+    draft.close("Types")?;
+    Ok(draft)
+}
+
+// ---- relationships
 
 /// The attributes of the relationship to the workbook.
 const TO_WORKBOOK: &str = " Id=\"rId1\" \
@@ -22,28 +126,65 @@ const TO_SHEET: &str = " Id=\"rId1\" \
     Type=\"http://schemas.openxmlformats.org/officeDocument/2006/relationships/worksheet\" \
     Target=\"worksheets/sheet1.xml\"";
 
-/// A package of the part of its relationships.
-pub fn with_root(alloc: Global) -> Result<Draft, AllocError>
-    ensures { let root = part (codes "_rels/.rels")
-        (relationships_to (codes "officeDocument") (codes "xl/workbook.xml")) in
-        IfOk result (λ draft. draft ≡ closed (root ∷ []) 0) }
+/// The attributes of the relationship to the styles.
+const TO_STYLES: &str = " Id=\"rId2\" \
+    Type=\"http://schemas.openxmlformats.org/officeDocument/2006/relationships/styles\" \
+    Target=\"styles.xml\"";
+
+/// A package in which the part of its relationships is begun, behind that of the types where there
+/// is one.
+fn begun(alloc: Global, form: WrittenForm) -> Result<Draft, AllocError>
+    ensures { let root = opened_part (codes "_rels/.rels") (codes "Relationships")
+        (space_attributes form (of_packages (codes "relationships"))) in
+        IfOk result (λ draft. draft ≡ closed (type_parts form ++ root ∷ []) 0) }
 {
-    let mut draft = Draft::new(alloc, "_rels/.rels", "Relationships")?;
+    match form {
+        WrittenForm::PackageText => Draft::new(alloc, "_rels/.rels", "Relationships", ""),
+        WrittenForm::WorkbookFile => {
+            let mut draft = with_types(alloc)?;
+            draft.begin_part("_rels/.rels", "Relationships", relationship_space(form))?;
+            Ok(draft)
+        }
+    }
+}
+
+/// A package of the part of its relationships, behind that of the types where there is one.
+pub fn with_root(alloc: Global, form: WrittenForm) -> Result<Draft, AllocError>
+    ensures { let root = part (codes "_rels/.rels") (root_events form) in
+        IfOk result (λ draft. draft ≡ closed (type_parts form ++ root ∷ []) 0) }
+{
+    let mut draft = begun(alloc, form)?;
     draft.push_empty("Relationship", TO_WORKBOOK)?;
     draft.close("Relationships")?;
     Ok(draft)
 }
 
+/// Appends the relationship to the styles, where it is written.
+fn push_to_styles(draft: &mut Draft, form: WrittenForm) -> Result<(), AllocError>
+    ensures { OnOk result (draft.new ≡ with_events draft.old (to_styles form)) }
+{
+    match form {
+        WrittenForm::PackageText => Ok(()),
+        WrittenForm::WorkbookFile => draft.push_empty("Relationship", TO_STYLES),
+    }
+}
+
 /// Appends the part of the workbook's relationships.
-pub fn add_relationships(draft: &mut Draft) -> Result<(), AllocError>
-    ensures { let added = part (codes "xl/_rels/workbook.xml.rels")
-        (relationships_to (codes "worksheet") (codes "worksheets/sheet1.xml")) in
+pub fn add_relationships(draft: &mut Draft, form: WrittenForm) -> Result<(), AllocError>
+    ensures { let added = part (codes "xl/_rels/workbook.xml.rels") (related_events form) in
         OnOk result (draft.new ≡ closed (draft.old.parts ++ added ∷ []) draft.old.taken) }
 {
-    draft.begin_part("xl/_rels/workbook.xml.rels", "Relationships")?;
+    draft.begin_part(
+        "xl/_rels/workbook.xml.rels",
+        "Relationships",
+        relationship_space(form),
+    )?;
     draft.push_empty("Relationship", TO_SHEET)?;
+    push_to_styles(draft, form)?;
     draft.close("Relationships")
 }
+
+// ---- the workbook
 
 /// Appends the workbook's first year, where it is 1904.
 fn push_properties(draft: &mut Draft, is_1904: bool) -> Result<(), AllocError>
@@ -81,46 +222,142 @@ fn push_sheets(draft: &mut Draft, buffer: &mut String, sheet_name: &str) -> Resu
 pub fn add_workbook(
     draft: &mut Draft,
     buffer: &mut String,
+    form: WrittenForm,
     sheet_name: &str,
     is_1904: bool,
 ) -> Result<(), AllocError>
-    ensures { let added = part (codes "xl/workbook.xml") (workbook_by sheet_name.now is_1904) in
+    ensures { let added =
+        part (codes "xl/workbook.xml") (workbook_by form sheet_name.now is_1904) in
         OnOk result (draft.new ≡ closed (draft.old.parts ++ added ∷ []) draft.old.taken) }
 {
-    draft.begin_part("xl/workbook.xml", "workbook")?;
+    draft.begin_part("xl/workbook.xml", "workbook", workbook_space(form))?;
     push_properties(draft, is_1904)?;
     push_sheets(draft, buffer, sheet_name)?;
     draft.close("workbook")
 }
 
+// ---- the styles
+
 /// Appends the formats of cells: none, that of a date and that of a duration.
-fn push_formats(draft: &mut Draft) -> Result<(), AllocError>
-    ensures { let formats = cell_format (codes "0")
-        ++ (cell_format (codes "14") ++ cell_format (codes "46")) in
-        OnOk result (draft.new ≡ with_events draft.old formats) }
+fn push_cell_formats(draft: &mut Draft) -> Result<(), AllocError>
+    ensures { OnOk result (draft.new ≡ with_events draft.old cell_formats) }
 {
-    draft.push_empty("xf", " numFmtId=\"0\"")?;
-    draft.push_empty("xf", " numFmtId=\"14\"")?;
-    draft.push_empty("xf", " numFmtId=\"46\"")
+    let events = [
+        start("cellXfs", ""),
+        start("xf", " numFmtId=\"0\""),
+        PartEvent::End("xf"),
+        start("xf", " numFmtId=\"14\""),
+        PartEvent::End("xf"),
+        start("xf", " numFmtId=\"46\""),
+        PartEvent::End("xf"),
+        PartEvent::End("cellXfs"),
+    ];
+    draft.push(&events)
 }
 
-/// Appends the list of the formats of cells.
-fn push_cell_formats(draft: &mut Draft) -> Result<(), AllocError>
-    ensures { let formats = element (codes "cellXfs") [] (cell_format (codes "0")
-        ++ (cell_format (codes "14") ++ cell_format (codes "46"))) in
-        OnOk result (draft.new ≡ with_events draft.old formats) }
+/// Appends one font.
+fn push_fonts(draft: &mut Draft) -> Result<(), AllocError>
+    ensures { OnOk result (draft.new ≡ with_events draft.old font_list) }
 {
-    draft.open("cellXfs", "")?;
-    push_formats(draft)?;
-    draft.close("cellXfs")
+    let events = [
+        start("fonts", ""),
+        start("font", ""),
+        start("sz", " val=\"11\""),
+        PartEvent::End("sz"),
+        start("name", " val=\"Calibri\""),
+        PartEvent::End("name"),
+        PartEvent::End("font"),
+        PartEvent::End("fonts"),
+    ];
+    draft.push(&events)
+}
+
+/// Appends two fills.
+fn push_fills(draft: &mut Draft) -> Result<(), AllocError>
+    ensures { OnOk result (draft.new ≡ with_events draft.old fill_list) }
+{
+    let events = [
+        start("fills", ""),
+        start("fill", ""),
+        start("patternFill", " patternType=\"none\""),
+        PartEvent::End("patternFill"),
+        PartEvent::End("fill"),
+        start("fill", ""),
+        start("patternFill", " patternType=\"gray125\""),
+        PartEvent::End("patternFill"),
+        PartEvent::End("fill"),
+        PartEvent::End("fills"),
+    ];
+    draft.push(&events)
+}
+
+/// Appends one border, and the format of the default cell style.
+fn push_borders(draft: &mut Draft) -> Result<(), AllocError>
+    ensures { let events = border_list ++ style_formats in
+        OnOk result (draft.new ≡ with_events draft.old events) }
+{
+    let events = [
+        start("borders", ""),
+        start("border", ""),
+        PartEvent::End("border"),
+        PartEvent::End("borders"),
+        start("cellStyleXfs", ""),
+        start("xf", " numFmtId=\"0\""),
+        PartEvent::End("xf"),
+        PartEvent::End("cellStyleXfs"),
+    ];
+    draft.push(&events)
+}
+
+/// Appends what other programs look for in front of the formats of cells, where they are to read
+/// the package.
+fn push_style_front(draft: &mut Draft, form: WrittenForm) -> Result<(), AllocError>
+    ensures { OnOk result (draft.new ≡ with_events draft.old (style_front form)) }
+{
+    match form {
+        WrittenForm::PackageText => Ok(()),
+        WrittenForm::WorkbookFile => {
+            push_fonts(draft)?;
+            push_fills(draft)?;
+            push_borders(draft)
+        }
+    }
+}
+
+/// Appends what they look for behind these: the default cell style.
+fn push_style_behind(draft: &mut Draft, form: WrittenForm) -> Result<(), AllocError>
+    ensures { OnOk result (draft.new ≡ with_events draft.old (style_behind form)) }
+{
+    match form {
+        WrittenForm::PackageText => Ok(()),
+        WrittenForm::WorkbookFile => {
+            let style = " name=\"Normal\" xfId=\"0\" builtinId=\"0\"";
+            let events = [
+                start("cellStyles", ""),
+                start("cellStyle", style),
+                PartEvent::End("cellStyle"),
+                PartEvent::End("cellStyles"),
+            ];
+            draft.push(&events)
+        }
+    }
+}
+
+/// Appends what stands in the styles.
+fn push_style_inside(draft: &mut Draft, form: WrittenForm) -> Result<(), AllocError>
+    ensures { OnOk result (draft.new ≡ with_events draft.old (style_inside form)) }
+{
+    push_style_front(draft, form)?;
+    push_cell_formats(draft)?;
+    push_style_behind(draft, form)
 }
 
 /// Appends the part of the styles.
-pub fn add_styles(draft: &mut Draft) -> Result<(), AllocError>
-    ensures { let added = part (codes "xl/styles.xml") style_events in
+pub fn add_styles(draft: &mut Draft, form: WrittenForm) -> Result<(), AllocError>
+    ensures { let added = part (codes "xl/styles.xml") (style_events form) in
         OnOk result (draft.new ≡ closed (draft.old.parts ++ added ∷ []) draft.old.taken) }
 {
-    draft.begin_part("xl/styles.xml", "styleSheet")?;
-    push_cell_formats(draft)?;
+    draft.begin_part("xl/styles.xml", "styleSheet", sheet_space(form))?;
+    push_style_inside(draft, form)?;
     draft.close("styleSheet")
 }

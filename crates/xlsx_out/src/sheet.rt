@@ -9,6 +9,7 @@ ghost use Rattle.xlsx_out.specs.Writing.{left_of, forms_left, IsFormInSheet};
 ghost use Rattle.xlsx_out.specs.Writing.{IsFirstOfBoth, data_left};
 
 use crate::cells::{enter_row, leave_row, push_cell};
+use crate::form::WrittenForm;
 use crate::groups::GroupedFormula;
 use cell_data::{Data, earlier};
 use sorted_cells::PlacedCells;
@@ -82,13 +83,14 @@ fn first_of_both(values: &PlacedCells<'_, Data>, formulas: &FormsLeft<'_>) -> Op
 pub fn push_rows(
     draft: &mut Draft,
     buffer: &mut String,
+    form: WrittenForm,
     values: PlacedCells<'_, Data>,
     formulas: FormsLeft<'_>,
 ) -> Result<(), AllocError>
     requires values { AreInOrder (placed_left values) }
     requires formulas { AreInOrder (forms_left formulas) }
     requires sheet { All IsFormInSheet (left_of formulas) }
-    ensures { let rows = data_left None (meant value_of_data (placed_left values.entry))
+    ensures { let rows = data_left form None (meant value_of_data (placed_left values.entry))
         (forms_left formulas.entry) in
         OnOk result (draft.new ≡ with_events draft.old rows) }
 {
@@ -99,7 +101,7 @@ pub fn push_rows(
         let value = values_left.next_at(position);
         let formula = formulas_left.next_at(position);
         enter_row(draft, buffer, row, position.0)?;
-        push_cell(draft, buffer, position, value, formula)?;
+        push_cell(draft, buffer, form, position, value, formula)?;
         row = Some(position.0);
     }
     leave_row(draft, row)

@@ -5,9 +5,11 @@ ghost use Rattle.cell_data.specs.CellValue.{value_of_data};
 ghost use Rattle.written_markup.specs.Markup.{with_events, element, attribute};
 ghost use Rattle.written_markup.specs.WrittenText.{attribute_if, text_events};
 ghost use Rattle.xlsx_out.specs.WrittenSheet.{type_written, style_written, value_written};
-ghost use Rattle.xlsx_out.specs.WrittenSheet.{value_events, time_style};
+ghost use Rattle.xlsx_out.specs.WrittenSheet.{value_events, time_style, text_written};
 ghost use Rattle.xlsx_out.specs.Writing.{value_given};
 
+use crate::form::WrittenForm;
+use crate::least_escapes::push_least_escaped;
 use crate::texts::{push_text, push_underscores_escaped};
 use cell_data::{Data, ExcelDateTimeType};
 use std::alloc::AllocError;
@@ -47,14 +49,25 @@ pub fn style_attribute(value: Option<&Data>) -> &'static str
     }
 }
 
+/// Appends a text as it is written in a `v`.
+fn push_text_written(out: &mut String, form: WrittenForm, text: &str) -> Result<(), AllocError>
+    ensures { OnOk result
+        (string_bytes out.new ≡ string_bytes out.old ++ text_written form text.now) }
+{
+    match form {
+        WrittenForm::PackageText => push_underscores_escaped(out, text),
+        WrittenForm::WorkbookFile => push_least_escaped(out, text),
+    }
+}
+
 /// Appends the text of a value.
-fn push_value_text(out: &mut String, value: &Data) -> Result<(), AllocError>
-    ensures { let text = value_written (value_of_data value.now) in
+fn push_value_text(out: &mut String, form: WrittenForm, value: &Data) -> Result<(), AllocError>
+    ensures { let text = value_written form (value_of_data value.now) in
         OnOk result (string_bytes out.new ≡ string_bytes out.old ++ text) }
 {
     match value {
         Data::Decimal(number) => number.push_to(out),
-        Data::String(text) => push_underscores_escaped(out, text.as_str()),
+        Data::String(text) => push_text_written(out, form, text.as_str()),
         Data::Bool(true) => out.push_str("1"),
         Data::Bool(false) => out.push_str("0"),
         Data::DateTime(time) => time.value.push_to(out),
@@ -65,13 +78,18 @@ fn push_value_text(out: &mut String, value: &Data) -> Result<(), AllocError>
 }
 
 /// Appends the `v` of a value, whose text is made in `buffer`.
-fn push_some_value(draft: &mut Draft, buffer: &mut String, value: &Data) -> Result<(), AllocError>
-    ensures { let text = value_written (value_of_data value.now) in
+fn push_some_value(
+    draft: &mut Draft,
+    buffer: &mut String,
+    form: WrittenForm,
+    value: &Data,
+) -> Result<(), AllocError>
+    ensures { let text = value_written form (value_of_data value.now) in
         let written = element (codes "v") [] (text_events text) in
         OnOk result (draft.new ≡ with_events draft.old written) }
 {
     buffer.clear();
-    push_value_text(buffer, value)?;
+    push_value_text(buffer, form, value)?;
     draft.open("v", "")?;
     push_text(draft, buffer.as_str())?;
     draft.close("v")
@@ -81,13 +99,14 @@ fn push_some_value(draft: &mut Draft, buffer: &mut String, value: &Data) -> Resu
 pub fn push_value(
     draft: &mut Draft,
     buffer: &mut String,
+    form: WrittenForm,
     value: Option<&Data>,
 ) -> Result<(), AllocError>
-    ensures { let events = value_events (value_given (option_copied value.entry)) in
+    ensures { let events = value_events form (value_given (option_copied value.entry)) in
         OnOk result (draft.new ≡ with_events draft.old events) }
 {
     match value {
         None | Some(Data::Empty) => Ok(()),
-        Some(value) => push_some_value(draft, buffer, value),
+        Some(value) => push_some_value(draft, buffer, form, value),
     }
 }

@@ -7,8 +7,11 @@ ghost use Rattle.cell_data.specs.Pairs.{value_pairs, formula_pairs};
 ghost use Rattle.xlsx_out.specs.Writable.{is_decimal, is_kept, is_written};
 ghost use Rattle.xlsx_out.specs.Writable.{counts_from, have_one_epoch};
 ghost use Rattle.xlsx_out.specs.Writable.{are_writable_values, are_writable_formulas, IsWritable};
+ghost use Rattle.xlsx_out.specs.Writable.{text_has_zero, has_zero, has_zero_left};
 ghost use Rattle.xlsx_out.specs.WrittenSheet.{is_from_1904};
+ghost use Rattle.written_markup.specs.WrittenText.{has_byte};
 
+use crate::form::WrittenForm;
 use cell_data::{CellErrorType, Data, Range};
 use decimals::Decimal;
 
@@ -116,4 +119,70 @@ pub fn has_time_from_1904(values: &Range<Data>) -> bool
         }
     }
     false
+}
+
+// ---- characters 0
+
+fn has_zero(text: &[u8]) -> bool
+    ensures { result ≡ has_byte 0 text.now }
+{
+    text.iter().any(|byte| *byte == 0)
+}
+
+/// Whether the text of a value has a character 0 that isn't written as an escape.
+fn text_has_zero(form: WrittenForm, text: &[u8]) -> bool
+    ensures { result ≡ text_has_zero form text.now }
+{
+    match form {
+        WrittenForm::PackageText => has_zero(text),
+        WrittenForm::WorkbookFile => false,
+    }
+}
+
+fn value_has_zero(form: WrittenForm, value: &Data) -> bool
+    ensures { result ≡ has_zero form (value_of_data value.now) }
+{
+    match value {
+        Data::String(text) => text_has_zero(form, text.as_str().as_bytes()),
+        Data::DateTimeIso(text) => has_zero(text.as_str().as_bytes()),
+        _ => false,
+    }
+}
+
+fn values_have_zero(form: WrittenForm, values: &Range<Data>) -> bool
+    ensures { result ≡ list_any (λ entry. has_zero form entry.1) (value_pairs values.now) }
+{
+    for (_, value) in values.used() {
+        if value_has_zero(form, value) {
+            return true;
+        }
+    }
+    false
+}
+
+fn formulas_have_zero(formulas: &Range<String>) -> bool
+    ensures { result ≡ list_any (λ entry. has_byte 0 entry.1) (formula_pairs formulas.now) }
+{
+    for (_, formula) in formulas.used() {
+        if has_zero(formula.as_str().as_bytes()) {
+            return true;
+        }
+    }
+    false
+}
+
+/// Whether a character 0 is left in what is written in a form of a sheet of this name with these
+/// values and formulas, which no markup has (XML 1.0, 2.2). It takes no memory.
+pub fn has_zero_left(
+    form: WrittenForm,
+    sheet_name: &str,
+    values: &Range<Data>,
+    formulas: &Range<String>,
+) -> bool
+    ensures { result ≡
+        has_zero_left form sheet_name.now (value_pairs values.now) (formula_pairs formulas.now) }
+{
+    has_zero(sheet_name.as_bytes())
+        || values_have_zero(form, values)
+        || formulas_have_zero(formulas)
 }

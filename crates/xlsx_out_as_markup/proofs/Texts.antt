@@ -15,7 +15,10 @@ use Rattle.std.proofs.lemmas.Str.{IsUtf8-drop, IsCharBoundary-before_ascii}
 use Rattle.std.proofs.lemmas.Str.{IsCharBoundary-after_ascii}
 use Rattle.text_package.specs.PartSpelling.{IsPartText}
 use Rattle.written_markup.specs.WrittenText.{has_byte, encoded, encoded_byte, underscores_escaped}
-use Rattle.written_markup.specs.WrittenText.{escaped_byte}
+use Rattle.written_markup.specs.WrittenText.{escaped_byte, is_control, control_escape}
+use Rattle.written_markup.specs.WrittenText.{makes_escape, least_escaped}
+use Rattle.std.proofs.lemmas.Bool.{agree_below_at}
+use Rattle.std.specs.Prelude.{codes}
 
 -- an ASCII byte behind `"`
 abbrev pub is_word_byte : ℕ → Bool
@@ -154,3 +157,55 @@ encoded_text bytes own = escaped_behind encoded_byte encoded_way bytes [] own
 pub underscores_text : (bytes : List ℕ) → IsPartText bytes
     → IsPartText (underscores_escaped bytes)
 underscores_text bytes own = escaped_behind escaped_byte escaped_way bytes [] own
+
+-- ---- no more escapes than needed
+
+-- a control byte is written as a word
+control_word : (b : ℕ) → b < 32 → is_word (control_escape b) ≡ true
+control_word b small =
+    agree_below_at (λ b. is_word (control_escape b)) (λ b. true) 32 b refl small
+
+-- a byte is written as a word, whatever stands in front of it and behind
+word_between : (run word behind : List ℕ) → IsUtf8 run → has_byte 0 run ≡ false
+    → is_word word ≡ true → IsPartText behind → IsPartText (run ++ (word ++ behind))
+word_between run word behind own none are more =
+    joined run (word ++ behind) (record { utf8 = own; no_zero = none })
+    (joined word behind (word_text word are) more)
+
+least_behind : (bytes run : List ℕ) → has_byte 0 run ≡ false → IsUtf8 (run ++ bytes)
+    → IsPartText (run ++ least_escaped bytes)
+least_behind [] run none whole = record {
+  utf8 = whole;
+  no_zero = list_any-append (λ b. b == 0) run [] ∙ or_from _ _ none refl;
+}
+least_behind (b ∷ bytes) run none whole =
+    by (is_control b) (b == 95 && makes_escape bytes) refl refl
+    (λ (own : List ℕ). least_behind bytes own) where
+      by : (control begins : Bool) → is_control b ≡ control
+          → (b == 95 && makes_escape bytes) ≡ begins
+          → ((own : List ℕ) → has_byte 0 own ≡ false → IsUtf8 (own ++ bytes)
+          → IsPartText (own ++ least_escaped bytes))
+          → IsPartText (run ++ ((if control then control_escape b
+          else (if begins then codes "_x005F_" else b ∷ [])) ++ least_escaped bytes))
+      by true begins is same more =
+          let small = ltb-true b 32 (and_parts (nat_lt b 32) _ is).0 in
+          word_between run (control_escape b) (least_escaped bytes)
+          (utf8_before run b bytes (omega arith) whole) none (control_word b small)
+          (more [] refl (utf8_behind run b bytes (omega arith) whole))
+      by false true is same more =
+          let own = eqb-true b 95 (and_parts (b == 95) _ same).0 in
+          word_between run (codes "_x005F_") (least_escaped bytes)
+          (utf8_before run b bytes (omega arith) whole) none refl
+          (more [] refl (utf8_behind run b bytes (omega arith) whole))
+      by false false is same more =
+          let other : (b == 0) ≡ false =
+          ne_eqb b 0 (λ zero. let own = ap is_control zero in cc) in
+          subst IsPartText (append_assoc run (b ∷ []) (least_escaped bytes))
+          (more (run ++ b ∷ [])
+          (list_any-append (λ b. b == 0) run (b ∷ [])
+          ∙ or_from _ _ none (or_from _ _ other refl))
+          (subst IsUtf8 (sym (append_assoc run (b ∷ []) bytes)) whole))
+
+-- a text with no more escapes than it needs is that of a part, whether it has a character 0 or not
+pub least_text : (bytes : List ℕ) → IsUtf8 bytes → IsPartText (least_escaped bytes)
+least_text bytes own = least_behind bytes [] refl own

@@ -7,23 +7,26 @@ ghost use Rattle.cell_data.specs.declared.value.Data.{Data};
 ghost use Rattle.text_package.specs.PartSpelling.{IsPartText};
 ghost use Rattle.xlsx_out.specs.Groups.{Placed};
 ghost use Rattle.xlsx_out.specs.WrittenSheet.{PlacedValues, written_parts};
+ghost use Rattle.xlsx_out.specs.declared.form.WrittenForm.{WrittenForm};
 ghost use Rattle.xlsx_out_as_markup.specs.WrittenPieces.{AreSpelled, AreCutBack, HaveTexts};
 ghost use Rattle.xlsx_out_as_markup.specs.WrittenPieces.{HaveNoZero};
 
 /// Each event of a part that is written is a piece of markup, and these pieces can be spelled one
 /// behind the other, whatever the sheet's name, values and formulas are.
 pub fn written_parts_are_spelled()
-    ensures { (name : List ℕ) (values : PlacedValues) (formulas : Placed) →
-        AreSpelled (written_parts name values formulas) }
+    ensures { (form : WrittenForm) (name : List ℕ) (values : PlacedValues) (formulas : Placed) →
+        AreSpelled (written_parts form name values formulas) }
 {}
 
 /// The bytes of each part that is written, read as a part, are its events, where the sheet's name
-/// and the texts of its values and formulas are UTF-8 without a character 0 (`placed`); of those
-/// that ranges hold it is enough that none has a character 0 (`ranges`).
+/// and the texts of its values and formulas are UTF-8 without a character 0 (`placed`), which is
+/// written as an escape in a value's text of a workbook file; of those that ranges hold it is enough
+/// that none has such a character 0 (`ranges`).
 pub fn written_parts_are_cut_back()
-    ensures placed { (name : List ℕ) (values : PlacedValues) (formulas : Placed) →
-        HaveTexts name values formulas → AreCutBack (written_parts name values formulas) }
-    ensures ranges { (name : List ℕ) (values : Range Data) (formulas : Range (String Global)) →
-        IsPartText name → HaveNoZero values formulas →
-        AreCutBack (written_parts name (value_pairs values) (formula_pairs formulas)) }
+    ensures placed { (form : WrittenForm) (name : List ℕ) (values : PlacedValues) (formulas : Placed) →
+        HaveTexts form name values formulas → AreCutBack (written_parts form name values formulas) }
+    ensures ranges { (form : WrittenForm) (name : List ℕ) (values : Range Data)
+        (formulas : Range (String Global)) →
+        IsPartText name → HaveNoZero form values formulas →
+        AreCutBack (written_parts form name (value_pairs values) (formula_pairs formulas)) }
 {}

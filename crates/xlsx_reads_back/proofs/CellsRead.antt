@@ -35,6 +35,7 @@ use Rattle.xlsx_reads_back.specs.ReadFormulas.{formula_read, formulas_read, form
 use Rattle.xlsx_reads_back.specs.ReadSheet.{id_of, time_id}
 use Rattle.xlsx_reads_back.proofs.CellPairs.{position_looked_up, style_looked_up, row_looked_up}
 use Rattle.xlsx_reads_back.proofs.DataRead.{IsPassed, CellGives, cell_tag, row_tag}
+use Rattle.xlsx_out.specs.declared.form.WrittenForm.{WrittenForm}
 
 -- ---- its position
 
@@ -56,22 +57,23 @@ row_placed row inside =
 -- ---- what stands in it
 
 -- what holds of nothing, and of the `v` of each text, holds of what stands for a value
-value_by : (P : List Event → Type 0) → P [] →
+value_by : (form : WrittenForm) (P : List Event → Type 0) → P [] →
     ((written : List ℕ) → P (element (codes "v") [] (text_events written))) → (value : CellValue) →
-    P (value_events value)
-value_by P lacks has nothing = lacks
-value_by P lacks has (integer n) = has (value_written (integer n))
-value_by P lacks has (number n) = has (value_written (number n))
-value_by P lacks has (text bytes) = has (value_written (text bytes))
-value_by P lacks has (shared_text place) = has (value_written (shared_text place))
-value_by P lacks has (truth holds) = has (value_written (truth holds))
-value_by P lacks has (time days kind is_1904) = has (value_written (time days kind is_1904))
-value_by P lacks has (iso_time bytes) = has (value_written (iso_time bytes))
-value_by P lacks has (failure error) = has (value_written (failure error))
+    P (value_events form value)
+value_by form P lacks has nothing = lacks
+value_by form P lacks has (integer n) = has (value_written form (integer n))
+value_by form P lacks has (number n) = has (value_written form (number n))
+value_by form P lacks has (text bytes) = has (value_written form (text bytes))
+value_by form P lacks has (shared_text place) = has (value_written form (shared_text place))
+value_by form P lacks has (truth holds) = has (value_written form (truth holds))
+value_by form P lacks has (time days kind is_1904) = has
+    (value_written form (time days kind is_1904))
+value_by form P lacks has (iso_time bytes) = has (value_written form (iso_time bytes))
+value_by form P lacks has (failure error) = has (value_written form (failure error))
 
-pub value_nested : (value : CellValue) → IsNested (value_events value)
-value_nested =
-    value_by IsNested none
+pub value_nested : (form : WrittenForm) (value : CellValue) → IsNested (value_events form value)
+value_nested form =
+    value_by form IsNested none
     (λ written. nested_element (codes "v") [] (text_events written) (text_events_nested written))
 
 pub formula_nested : (position : ℕ × ℕ) (w : WrittenFormula) → IsNested (formula_events position w)
@@ -80,23 +82,26 @@ formula_nested position (master formula last index) =
     nested_element _ _ _ (text_events_nested formula)
 formula_nested position (derived index) = nested_element _ _ _ none
 
-pub optional_nested : (formulas : Placed) (position : ℕ × ℕ) (o : Option (List ℕ)) →
-    IsNested (optional_formula formulas position o)
-optional_nested formulas position None = none
-optional_nested formulas position (Some formula) =
-    formula_nested position (written_formula formulas position formula)
+pub optional_nested : (form : WrittenForm) (formulas : Placed) (position : ℕ × ℕ)
+    (o : Option (List ℕ)) →
+    IsNested (optional_formula form formulas position o)
+optional_nested form formulas position None = none
+optional_nested form formulas position (Some formula) =
+    formula_nested position (written_formula form formulas position formula)
 
 -- what stands in the cell of a position with a value
-abbrev pub cell_inside : Placed → ℕ × ℕ → CellValue → List Event
-cell_inside formulas position value =
-    optional_formula formulas position (formula_placed formulas position) ++ value_events value
+abbrev pub cell_inside : WrittenForm → Placed → ℕ × ℕ → CellValue → List Event
+cell_inside form formulas position value =
+    optional_formula form formulas position
+    (formula_placed formulas position) ++ value_events form value
 
-pub cell_nested : (formulas : Placed) (position : ℕ × ℕ) (value : CellValue) →
-    IsNested (cell_inside formulas position value)
-cell_nested formulas position value =
-    nested_in_row (optional_formula formulas position (formula_placed formulas position))
-    (value_events value) (optional_nested formulas position (formula_placed formulas position))
-    (value_nested value)
+pub cell_nested : (form : WrittenForm) (formulas : Placed) (position : ℕ × ℕ) (value : CellValue) →
+    IsNested (cell_inside form formulas position value)
+cell_nested form formulas position value =
+    nested_in_row (optional_formula form formulas position (formula_placed formulas position))
+    (value_events form value) (optional_nested form formulas position
+    (formula_placed formulas position))
+    (value_nested form value)
 
 pub nested_passed : (inside : List Event) → IsNested inside → IsPassed inside
 nested_passed inside is = record {
@@ -115,10 +120,10 @@ no_formula inside is =
     ∙ ap (some_answers child_formula)
     (outermost_of_elements is_any (codes "v") [] inside [] is refl)
 
-value_no_formula : (value : CellValue) →
-    some_answers child_formula (children (value_events value)) ≡ Ok []
-value_no_formula =
-    value_by (λ (es : List Event). some_answers child_formula (children es) ≡ Ok []) refl
+value_no_formula : (form : WrittenForm) (value : CellValue) →
+    some_answers child_formula (children (value_events form value)) ≡ Ok []
+value_no_formula form =
+    value_by form (λ (es : List Event). some_answers child_formula (children es) ≡ Ok []) refl
     (λ written. no_formula (text_events written) (text_events_nested written))
 
 -- the start of an `f`
@@ -126,20 +131,20 @@ abbrev pub formula_tag : List ℕ → Tag
 formula_tag attributes = record { name = codes "f"; attributes = attributes }
 
 -- an `f` before a `v` is the cell's one formula
-one_formula : (attributes : List ℕ) (inside : List Event) (found : FormulaText)
+one_formula : (form : WrittenForm) (attributes : List ℕ) (inside : List Event) (found : FormulaText)
     (value : CellValue) → IsNested inside →
     formula_text (formula_tag attributes) inside ≡ Ok found →
-    formulas_in (element (codes "f") attributes inside ++ value_events value) ≡ Ok (found ∷ [])
-one_formula attributes inside found value is reads =
+    formulas_in (element (codes "f") attributes inside ++ value_events form value) ≡ Ok (found ∷ [])
+one_formula form attributes inside found value is reads =
     ap (some_answers child_formula)
-    (outermost_of_elements is_any (codes "f") attributes inside (value_events value) is refl)
+    (outermost_of_elements is_any (codes "f") attributes inside (value_events form value) is refl)
     ∙ ap₂ and_others_if
     (ap (λ (answer : Result FormulaText Refusal). answer_further (events_behind (record {
       tag = formula_tag attributes;
       inside = inside;
-      behind = length (inside ++ end (codes "f") ∷ value_events value);
+      behind = length (inside ++ end (codes "f") ∷ value_events form value);
     })) (some_formula answer)) reads)
-    (value_no_formula value)
+    (value_no_formula form value)
 
 -- how a formula's `f` reads
 abbrev pub FormulaReads : ℕ × ℕ → WrittenFormula → Type 0
@@ -153,47 +158,51 @@ FormulaReads position (derived index) =
     formula_text (formula_tag (derived_attributes index)) []
     ≡ Ok (formula_read position (derived index))
 
-formula_by_case : (position : ℕ × ℕ) (w : WrittenFormula) (value : CellValue) →
+formula_by_case : (form : WrittenForm) (position : ℕ × ℕ) (w : WrittenFormula) (value : CellValue) →
     FormulaReads position w →
-    formulas_in (formula_events position w ++ value_events value)
+    formulas_in (formula_events position w ++ value_events form value)
     ≡ Ok (formula_read position w ∷ [])
-formula_by_case position (plain formula) value reads =
-    one_formula [] (text_events formula) (formula_read position (plain formula)) value
+formula_by_case form position (plain formula) value reads =
+    one_formula form [] (text_events formula) (formula_read position (plain formula)) value
     (text_events_nested formula) reads
-formula_by_case position (master formula last index) value reads =
-    one_formula (master_attributes position last index) (text_events formula)
+formula_by_case form position (master formula last index) value reads =
+    one_formula form (master_attributes position last index) (text_events formula)
     (formula_read position (master formula last index)) value (text_events_nested formula) reads
-formula_by_case position (derived index) value reads =
-    one_formula (derived_attributes index) [] (formula_read position (derived index)) value none
+formula_by_case form position (derived index) value reads =
+    one_formula form (derived_attributes index) []
+    (formula_read position (derived index)) value none
     reads
 
-pub cell_formulas : (formulas : Placed) (position : ℕ × ℕ) (value : CellValue) →
+pub cell_formulas : (form : WrittenForm) (formulas : Placed) (position : ℕ × ℕ)
+    (value : CellValue) →
     ((formula : List ℕ) → formula_placed formulas position ≡ Some formula →
-    FormulaReads position (written_formula formulas position formula)) →
-    formulas_in (cell_inside formulas position value) ≡ Ok (formulas_read formulas position)
-cell_formulas formulas position value reads =
+    FormulaReads position (written_formula form formulas position formula)) →
+    formulas_in (cell_inside form formulas position value) ≡ Ok
+    (formulas_read form formulas position)
+cell_formulas form formulas position value reads =
     by (formula_placed formulas position) refl where
       by : (o : Option (List ℕ)) → formula_placed formulas position ≡ o →
-          formulas_in (optional_formula formulas position o ++ value_events value)
-          ≡ Ok (formulas_read_by formulas position o)
-      by None is = value_no_formula value
+          formulas_in (optional_formula form formulas position o ++ value_events form value)
+          ≡ Ok (formulas_read_by form formulas position o)
+      by None is = value_no_formula form value
       by (Some formula) is =
-          formula_by_case position (written_formula formulas position formula) value
+          formula_by_case form position (written_formula form formulas position formula) value
           (reads formula is)
 
-pub cell_gives_formulas : (formulas : Placed) (position : ℕ × ℕ) (value : CellValue) →
+pub cell_gives_formulas : (form : WrittenForm) (formulas : Placed) (position : ℕ × ℕ)
+    (value : CellValue) →
     position.0 < 1048576 → position.1 < 16384 →
     ((formula : List ℕ) → formula_placed formulas position ≡ Some formula →
-    FormulaReads position (written_formula formulas position formula)) →
+    FormulaReads position (written_formula form formulas position formula)) →
     CellGives placed_formulas (cell_attributes position value)
-    (cell_inside formulas position value) (position, formulas_read formulas position)
-cell_gives_formulas formulas position value in_rows in_columns reads before behind =
+    (cell_inside form formulas position value) (position, formulas_read form formulas position)
+cell_gives_formulas form formulas position value in_rows in_columns reads before behind =
     ap₂ at_position (cell_placed before position value in_rows in_columns)
     (ap (answer_further (events_behind (record {
       tag = cell_tag (cell_attributes position value);
-      inside = cell_inside formulas position value;
+      inside = cell_inside form formulas position value;
       behind = behind;
-    }))) (cell_formulas formulas position value reads))
+    }))) (cell_formulas form formulas position value reads))
 
 -- ---- its style
 

@@ -15,6 +15,7 @@ use Rattle.xlsx_reads_back.proofs.SheetBounds.{on_sheet_parts}
 use Rattle.xlsx_reads_back.proofs.SheetHeld.{CellsHaveValues}
 use Rattle.xlsx_reads_back.proofs.ValuesPlaced.{found_passes}
 use Rattle.xlsx_reads_back.proofs.ValuesRead.{cell_value_read, written_reads_back}
+use Rattle.xlsx_out.specs.declared.form.WrittenForm.{WrittenForm}
 
 -- the value at a position, or nothing, reads back
 value_reads_back : (is_1904 : Bool) (values : PlacedValues) (p : ℕ × ℕ)
@@ -27,22 +28,25 @@ value_reads_back is_1904 values p each = by (find position_cmp p values) each wh
   by (Some v) each = each v refl
 
 -- where each value reads back, each cell has its value
-pub cells_have_values : (grounds : Grounds) (values : PlacedValues) (formulas : Placed)
+pub cells_have_values : (form : WrittenForm) (grounds : Grounds) (values : PlacedValues)
+    (formulas : Placed)
     → grounds.formats ≡ written_formats
     → ((p : ℕ × ℕ) (v : CellValue) → find position_cmp p values ≡ Some v
     → IsKeptAs grounds.is_1904 v)
-    → CellsHaveValues grounds values formulas
-cells_have_values grounds values formulas are each p on =
-    cell_value_read grounds are formulas p (formula_placed formulas p) (value_in_place values p)
+    → CellsHaveValues form grounds values formulas
+cells_have_values form grounds values formulas are each p on =
+    cell_value_read form grounds are formulas p (formula_placed formulas p)
+    (value_in_place values p)
     (on_sheet_parts p on).0 (value_reads_back grounds.is_1904 values p (each p))
 
 -- values that are written, and count from the first year, are read in their cells
-pub written_cells_have_values : (grounds : Grounds) (values : PlacedValues) (formulas : Placed)
+pub written_cells_have_values : (form : WrittenForm) (grounds : Grounds) (values : PlacedValues)
+    (formulas : Placed)
     → grounds.formats ≡ written_formats → list_all (λ e. is_written e.1) values ≡ true
     → list_all (λ e. counts_from grounds.is_1904 e.1) values ≡ true
-    → CellsHaveValues grounds values formulas
-written_cells_have_values grounds values formulas are written counts =
-    cells_have_values grounds values formulas are
+    → CellsHaveValues form grounds values formulas
+written_cells_have_values form grounds values formulas are written counts =
+    cells_have_values form grounds values formulas are
     (λ p v found. written_reads_back grounds.is_1904 v
     (found_passes is_written values p v written found)
     (found_passes (counts_from grounds.is_1904) values p v counts found))

@@ -18,7 +18,10 @@ use Rattle.xlsx_cells.specs.Sheet.{formulas_along, used_formulas, is_empty}
 use Rattle.xlsx_formulas.specs.Formula.{FormulaText, GroupFormula, master_of, or_further}
 use Rattle.xlsx_formulas.specs.Formula.{formula_of, moved_to, cell_formula, behind_formulas}
 use Rattle.xlsx_out.specs.Groups.{Placed, formula_placed, is_placed, is_same, is_master, head_row}
-use Rattle.xlsx_out.specs.Groups.{group_head, group_end, group_index, written_formula, plain}
+use Rattle.xlsx_out.specs.Groups.{group_head, group_end, group_index, grouped_formula, plain}
+use Rattle.xlsx_out.specs.Groups.{written_formula}
+use Rattle.xlsx_out.specs.declared.form.WrittenForm.{WrittenForm}
+use Rattle.xlsx_out.specs.declared.form.WrittenForm.TheVariants.{PackageText, WorkbookFile}
 use Rattle.xlsx_out.specs.Groups.{master, derived}
 use Rattle.xlsx_out.specs.Writable.{are_writable_formulas}
 use Rattle.xlsx_reads_back.specs.ReadFormulas.{formula_read, formulas_read, formulas_read_by}
@@ -109,7 +112,7 @@ module _ (formulas : Placed) where
       formula_placed formulas position ≡ Some formula →
       ArePassed earlier (position ∷ positions) →
       formula_of earlier position
-      (formula_read position (written_formula formulas position formula)) ≡ formula
+      (formula_read position (grouped_formula formulas position formula)) ≡ formula
   found_is earlier position positions formula rising rise placed passed =
       by (is_same (group_head formulas position) position) refl (is_master formulas position) where
         by : (t : Bool) → is_same (group_head formulas position) position ≡ t → (u : Bool) →
@@ -128,7 +131,7 @@ module _ (formulas : Placed) where
   master_found : (earlier : List FormulaText) (position : ℕ × ℕ) (formula : List ℕ) →
       is_master formulas position ≡ true →
       master_of (group_index formulas position)
-      (formula_read position (written_formula formulas position formula) ∷ earlier)
+      (formula_read position (grouped_formula formulas position formula) ∷ earlier)
       ≡ Some (kept_master position formula)
   master_found earlier position formula own =
       by (is_same (group_head formulas position) position)
@@ -156,7 +159,7 @@ module _ (formulas : Placed) where
       formula_placed formulas position ≡ Some formula → formula_placed formulas head ≡ Some text →
       is_master formulas head ≡ true → eq_by_cmp position_cmp head position ≡ false →
       master_of (group_index formulas head)
-      (formula_read position (written_formula formulas position formula) ∷ earlier)
+      (formula_read position (grouped_formula formulas position formula) ∷ earlier)
       ≡ master_of (group_index formulas head) earlier
   other_found earlier position head formula text placed first own apart =
       by (is_same (group_head formulas position) position) (is_master formulas position) refl where
@@ -189,7 +192,8 @@ module _ (formulas : Placed) where
   passed_further : (earlier : List FormulaText) (position : ℕ × ℕ) (positions : List (ℕ × ℕ))
       (o : Option (List ℕ)) → formula_placed formulas position ≡ o →
       ArePassed earlier (position ∷ positions) →
-      ArePassed (behind_formulas (formulas_read_by formulas position o) earlier) positions
+      ArePassed (behind_formulas (formulas_read_by PackageText formulas position o) earlier)
+      positions
   passed_further earlier position positions None is passed head text placed own ahead =
       passed head text placed own (by (eq_by_cmp position_cmp head position) refl) where
         by : (t : Bool) → eq_by_cmp position_cmp head position ≡ t →
@@ -201,14 +205,14 @@ module _ (formulas : Placed) where
       by (eq_by_cmp position_cmp head position) refl where
         by : (t : Bool) → eq_by_cmp position_cmp head position ≡ t →
             master_of (group_index formulas head)
-            (formula_read position (written_formula formulas position formula) ∷ earlier)
+            (formula_read position (grouped_formula formulas position formula) ∷ earlier)
             ≡ Some (kept_master head text)
         by true ties =
             let place = tied_same head position ties in
             let same = same_texts formula text (formula_placed formulas position) is
             (ap (formula_placed formulas) (sym place) ∙ placed) in
             ap (λ (p : ℕ × ℕ). master_of (group_index formulas p)
-            (formula_read position (written_formula formulas position formula) ∷ earlier)) place
+            (formula_read position (grouped_formula formulas position formula) ∷ earlier)) place
             ∙ (master_found earlier position formula
             (ap (is_master formulas) (sym place) ∙ own)
             ∙ (ap (λ (p : ℕ × ℕ). Some (kept_master p formula)) (sym place)
@@ -218,43 +222,79 @@ module _ (formulas : Placed) where
             ∙ passed head text placed own
             (ap (λ (t : Bool). t || is_among head positions) apart ∙ ahead)
 
-  -- ---- along the positions
+-- ---- along the positions
 
+-- what is kept of the positions that were passed, so that each formula behind them is found
+record Finds (form : WrittenForm) (formulas : Placed)
+    (passed : List FormulaText → List (ℕ × ℕ) → Type 0) : Type 0 where
+  found : (earlier : List FormulaText) (position : ℕ × ℕ) (positions : List (ℕ × ℕ))
+      (formula : List ℕ) → positions_rise (position ∷ positions) ≡ true →
+      formula_placed formulas position ≡ Some formula → passed earlier (position ∷ positions) →
+      formula_of earlier position
+      (formula_read position (written_formula form formulas position formula)) ≡ formula
+  further : (earlier : List FormulaText) (position : ℕ × ℕ) (positions : List (ℕ × ℕ))
+      (o : Option (List ℕ)) → formula_placed formulas position ≡ o →
+      passed earlier (position ∷ positions) →
+      passed (behind_formulas (formulas_read_by form formulas position o) earlier) positions
+
+-- those of groups are found by their masters
+finds_grouped : (formulas : Placed) → is_rising formulas ≡ true →
+    Finds PackageText formulas (ArePassed formulas)
+finds_grouped formulas rising = record {
+  found = λ earlier position positions formula rise placed passed.
+      found_is formulas earlier position positions formula rising rise placed passed;
+  further = passed_further formulas;
+}
+
+-- and those that are written by themselves by their texts
+finds_alone : (formulas : Placed) →
+    Finds WorkbookFile formulas (λ earlier positions. Unit {0})
+finds_alone formulas = record {
+  found = λ earlier position positions formula rise placed passed. refl;
+  further = λ earlier position positions o is passed. tt;
+}
+
+module _ (form : WrittenForm) (formulas : Placed)
+    (passed : List FormulaText → List (ℕ × ℕ) → Type 0) (finds : Finds form formulas passed) where
   not_empty : (formula : List ℕ) (others kept : Placed) (entry : (ℕ × ℕ) × List ℕ) →
       is_empty formula ≡ false → cond (is_empty formula) others (entry ∷ kept) ≡ entry ∷ kept
   not_empty formula others kept entry some = rw some
 
-  read_along : is_rising formulas ≡ true →
+  read_along :
       ((q : ℕ × ℕ) (x : List ℕ) → formula_placed formulas q ≡ Some x → is_empty x ≡ false) →
       (earlier : List FormulaText) (positions : List (ℕ × ℕ)) → positions_rise positions ≡ true →
-      ArePassed earlier positions →
-      used_formulas (formulas_along earlier (formulas_read_along formulas positions))
+      passed earlier positions →
+      used_formulas (formulas_along earlier (formulas_read_along form formulas positions))
       ≡ placed_among (formula_placed formulas) positions
-  read_along rising some earlier [] rise passed = refl
-  read_along rising some earlier (position ∷ positions) rise passed =
+  read_along some earlier [] rise kept = refl
+  read_along some earlier (position ∷ positions) rise kept =
       by (formula_placed formulas position) refl
       (λ (o : Option (List ℕ)) (is : formula_placed formulas position ≡ o).
-      read_along rising some (behind_formulas (formulas_read_by formulas position o) earlier)
+      read_along some (behind_formulas (formulas_read_by form formulas position o) earlier)
       positions (and_both (list_all (λ q. is_lt (position_cmp position q)) positions)
       (positions_rise positions) rise).1
-      (passed_further earlier position positions o is passed)) where
+      (finds.further earlier position positions o is kept)) where
         by : (o : Option (List ℕ)) → formula_placed formulas position ≡ o →
             ((o : Option (List ℕ)) → formula_placed formulas position ≡ o →
             used_formulas (formulas_along
-            (behind_formulas (formulas_read_by formulas position o) earlier)
-            (formulas_read_along formulas positions))
+            (behind_formulas (formulas_read_by form formulas position o) earlier)
+            (formulas_read_along form formulas positions))
             ≡ placed_among (formula_placed formulas) positions) →
             used_formulas
-            ((position, cell_formula earlier position (formulas_read_by formulas position o))
-            ∷ formulas_along (behind_formulas (formulas_read_by formulas position o) earlier)
-            (formulas_read_along formulas positions))
+            ((
+              position,
+              cell_formula earlier position
+                  (formulas_read_by form formulas position o),
+            )
+            ∷ formulas_along (behind_formulas (formulas_read_by form formulas position o) earlier)
+            (formulas_read_along form formulas positions))
             ≡ entry_before position o (placed_among (formula_placed formulas) positions)
         by None is further = further None is
         by (Some formula) is further =
-            let found = found_is earlier position positions formula rising rise is passed in
+            let found = finds.found earlier position positions formula rise is kept in
             let rest = used_formulas (formulas_along
-            (behind_formulas (formulas_read_by formulas position (Some formula)) earlier)
-            (formulas_read_along formulas positions)) in
+            (behind_formulas (formulas_read_by form formulas position (Some formula)) earlier)
+            (formulas_read_along form formulas positions)) in
             ap (λ (w : List ℕ). cond (is_empty w) rest ((position, w) ∷ rest)) found
             ∙ (not_empty formula rest rest (position, formula) (some position formula is)
             ∙ ap (λ (es : Placed). (position, formula) ∷ es) (further (Some formula) is))
@@ -280,24 +320,29 @@ some (entry ∷ entries) q x writable found =
     (λ (behind : find position_cmp q entries ≡ Some x). some entries q x rest behind)
 
 -- what is written reads back
-pub formulas_read_back : (formulas : Placed) (positions : List (ℕ × ℕ)) →
+pub formulas_read_back : (form : WrittenForm) (formulas : Placed) (positions : List (ℕ × ℕ)) →
     is_rising formulas ≡ true → positions_rise positions ≡ true → have_all positions formulas →
     are_writable_formulas formulas ≡ true →
-    used_formulas (formulas_along [] (formulas_read_along formulas positions)) ≡ formulas
-formulas_read_back formulas positions rising rise all writable =
-    read_along formulas rising (λ q x found. some formulas q x writable found) [] positions rise
+    used_formulas (formulas_along [] (formulas_read_along form formulas positions)) ≡ formulas
+formulas_read_back PackageText formulas positions rising rise all writable =
+    read_along PackageText formulas (ArePassed formulas) (finds_grouped formulas rising)
+    (λ q x found. some formulas q x writable found) [] positions rise
     (λ head text placed own ahead.
     absurd (let e = all head text placed in cc))
+    ∙ all_placed positions formulas rise rising all
+formulas_read_back WorkbookFile formulas positions rising rise all writable =
+    read_along WorkbookFile formulas (λ earlier positions. Unit {0}) (finds_alone formulas)
+    (λ q x found. some formulas q x writable found) [] positions rise tt
     ∙ all_placed positions formulas rise rising all
 
 -- a formula is read as a derived one exactly where its head is another
 pub derived_by_head : (formulas : Placed) (position : ℕ × ℕ) →
-    list_any is_derived (formulas_read formulas position)
+    list_any is_derived (formulas_read PackageText formulas position)
     ≡ (is_placed (formula_placed formulas position)
     && not (is_same (group_head formulas position) position))
 derived_by_head formulas position = by (formula_placed formulas position) where
   by : (o : Option (List ℕ)) →
-      list_any is_derived (formulas_read_by formulas position o)
+      list_any is_derived (formulas_read_by PackageText formulas position o)
       ≡ (is_placed o && not (is_same (group_head formulas position) position))
   by None = refl
   by (Some formula) =

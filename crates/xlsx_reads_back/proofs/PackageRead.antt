@@ -10,10 +10,13 @@ use Rattle.xlsx_sections.specs.PartSection.{closed_section, closed_section_of}
 use Rattle.xlsx_workbook.specs.Paths.{relationships_part}
 use Rattle.xlsx_open.specs.Opening.{HasPath, HasRelationships}
 use Rattle.xlsx_out.specs.Groups.{Placed}
-use Rattle.xlsx_out.specs.WrittenSheet.{PlacedValues, written_parts, relationships_to}
-use Rattle.xlsx_out.specs.WrittenSheet.{sheet_events}
-use Rattle.xlsx_reads_back.proofs.RootsRead.{relationships_read, related_to, related_read}
-use Rattle.xlsx_reads_back.proofs.RootsRead.{path_read, relationship_inside, sheet_writable}
+use Rattle.xlsx_out.specs.WrittenSheet.{PlacedValues, written_parts, root_events, related_events}
+use Rattle.xlsx_out.specs.WrittenSheet.{sheet_events, to_workbook}
+use Rattle.xlsx_out.specs.declared.form.WrittenForm.{WrittenForm}
+use Rattle.xlsx_out.specs.declared.form.WrittenForm.TheVariants.{PackageText, WorkbookFile}
+use Rattle.xlsx_reads_back.proofs.RootsRead.{relationships_read, root_nested, workbook_listed}
+use Rattle.xlsx_reads_back.proofs.RootsRead.{listed_nested, written_related, related_read}
+use Rattle.xlsx_reads_back.proofs.RootsRead.{path_read}
 
 -- what holds of what stands in a section, holds of the section of the part
 pub found_section : (P : List Event → Type 0) (section path : List ℕ) (parts : List Part)
@@ -25,43 +28,46 @@ found_section P section path parts events inside found stands holds =
     (sym (ap (option_and_then (closed_section section)) found ∙ stands)) holds
 
 module _ (name : List ℕ) (values : PlacedValues) (formulas : Placed) where
-  root_found : part_of (written_parts name values formulas) (codes "_rels/.rels")
-      ≡ Some (relationships_to (codes "officeDocument") (codes "xl/workbook.xml"))
+  root_found : (form : WrittenForm) →
+      part_of (written_parts form name values formulas) (codes "_rels/.rels")
+      ≡ Some (root_events form)
   unfolding written_parts
-  root_found = refl
+  root_found PackageText = refl
+  root_found WorkbookFile = refl
 
   -- the package's relationships lead to the workbook
-  pub path_is_found : HasPath (written_parts name values formulas) (codes "xl/workbook.xml")
-  path_is_found =
+  pub path_is_found : (form : WrittenForm) →
+      HasPath (written_parts form name values formulas) (codes "xl/workbook.xml")
+  path_is_found form =
       found_section (λ inside. path_in inside ≡ Ok (Some (codes "xl/workbook.xml")))
-      (codes "Relationships") (codes "_rels/.rels") (written_parts name values formulas)
-      (relationships_to (codes "officeDocument") (codes "xl/workbook.xml"))
-      (relationship_inside (codes "officeDocument") (codes "xl/workbook.xml")) root_found
-      (relationships_read (codes "officeDocument") (codes "xl/workbook.xml")) path_read
+      (codes "Relationships") (codes "_rels/.rels") (written_parts form name values formulas)
+      (root_events form) to_workbook (root_found form)
+      (relationships_read form to_workbook root_nested) path_read
 
-  beside_found : part_of (written_parts name values formulas)
+  beside_found : (form : WrittenForm) →
+      part_of (written_parts form name values formulas)
       (relationships_part (codes "xl/workbook.xml"))
-      ≡ Some (relationships_to (codes "worksheet") (codes "worksheets/sheet1.xml"))
+      ≡ Some (related_events form)
   unfolding written_parts
-  beside_found = refl
+  beside_found PackageText = refl
+  beside_found WorkbookFile = refl
 
   -- the workbook's relationships lead to the sheet
-  pub relationships_are_found :
-      HasRelationships (written_parts name values formulas) (codes "xl/workbook.xml")
-      (related_to (codes "worksheet") (codes "worksheets/sheet1.xml"))
-  relationships_are_found =
+  pub relationships_are_found : (form : WrittenForm) →
+      HasRelationships (written_parts form name values formulas) (codes "xl/workbook.xml")
+      (written_related form)
+  relationships_are_found form =
       found_section (λ inside. (id : List ℕ) → related_in inside id
-      ≡ Ok (related_to (codes "worksheet") (codes "worksheets/sheet1.xml") id))
+      ≡ Ok (written_related form id))
       (codes "Relationships") (relationships_part (codes "xl/workbook.xml"))
-      (written_parts name values formulas)
-      (relationships_to (codes "worksheet") (codes "worksheets/sheet1.xml"))
-      (relationship_inside (codes "worksheet") (codes "worksheets/sheet1.xml")) beside_found
-      (relationships_read (codes "worksheet") (codes "worksheets/sheet1.xml"))
-      (λ id. related_read (codes "worksheet") (codes "worksheets/sheet1.xml") id sheet_writable)
+      (written_parts form name values formulas) (related_events form) (workbook_listed form)
+      (beside_found form) (relationships_read form (workbook_listed form) (listed_nested form))
+      (related_read form)
 
   -- the sheet has its part
-  pub sheet_part_is_found :
-      part_of (written_parts name values formulas) (codes "xl/worksheets/sheet1.xml")
-      ≡ Some (sheet_events values formulas)
+  pub sheet_part_is_found : (form : WrittenForm) →
+      part_of (written_parts form name values formulas) (codes "xl/worksheets/sheet1.xml")
+      ≡ Some (sheet_events form values formulas)
   unfolding written_parts
-  sheet_part_is_found = refl
+  sheet_part_is_found PackageText = refl
+  sheet_part_is_found WorkbookFile = refl

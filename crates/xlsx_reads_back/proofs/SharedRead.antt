@@ -11,44 +11,56 @@ use Rattle.xlsx_theme.specs.ThemePart.{theme_colors}
 use Rattle.xlsx_workbook.specs.Paths.{styles_part, theme_part}
 use Rattle.xlsx_open.specs.SharedParts.{HasShared}
 use Rattle.xlsx_out.specs.Groups.{Placed}
-use Rattle.xlsx_out.specs.WrittenSheet.{PlacedValues, written_parts, style_events}
+use Rattle.xlsx_out.specs.WrittenSheet.{PlacedValues, written_parts, style_events, style_inside}
+use Rattle.xlsx_out.specs.declared.form.WrittenForm.{WrittenForm}
+use Rattle.xlsx_out.specs.declared.form.WrittenForm.TheVariants.{PackageText, WorkbookFile}
 use Rattle.xlsx_reads_back.specs.ReadParts.{written_shared}
 use Rattle.xlsx_reads_back.specs.ReadStyles.{written_styles}
 use Rattle.xlsx_reads_back.specs.ReadValues.{written_formats}
-use Rattle.xlsx_reads_back.proofs.StylesRead.{styles_inside, style_sheet_read}
+use Rattle.xlsx_reads_back.proofs.StylesRead.{style_sheet_read}
 use Rattle.xlsx_reads_back.proofs.StylesRead.{formats_are_read, styles_are_read}
 
 module _ (name : List ℕ) (values : PlacedValues) (formulas : Placed) where
-  styles_found :
-      part_of (written_parts name values formulas) (styles_part (codes "xl/workbook.xml"))
-      ≡ Some style_events
+  styles_found : (form : WrittenForm) →
+      part_of (written_parts form name values formulas) (styles_part (codes "xl/workbook.xml"))
+      ≡ Some (style_events form)
   unfolding written_parts
-  styles_found = refl
+  styles_found PackageText = refl
+  styles_found WorkbookFile = refl
 
-  styles_have : (theme : List Color) →
-      IsOkAnd (cell_formats_in theme styles_inside) (AreStyles written_formats written_styles)
-  styles_have theme =
+  styles_have : (form : WrittenForm) (theme : List Color) →
+      IsOkAnd (cell_formats_in theme (style_inside form)) (AreStyles written_formats written_styles)
+  styles_have form theme =
       subst (λ (answer : Result (List FormattingSaid) Refusal).
       IsOkAnd answer (AreStyles written_formats written_styles))
-      (sym (formats_are_read theme)) styles_are_read
+      (sym (formats_are_read form theme)) styles_are_read
 
-  written_has_styles : (theme : List Color) →
-      HasStyles theme (written_parts name values formulas) (styles_part (codes "xl/workbook.xml"))
-      written_formats written_styles
-  written_has_styles theme =
-      rw styles_found
+  written_has_styles : (form : WrittenForm) (theme : List Color) →
+      HasStyles theme (written_parts form name values formulas)
+      (styles_part (codes "xl/workbook.xml")) written_formats written_styles
+  written_has_styles form theme =
+      rw (styles_found form)
       (subst (λ (own : Option (List Event)). IsSomeAnd own (λ inside.
       IsOkAnd (cell_formats_in theme inside) (AreStyles written_formats written_styles)))
-      (sym style_sheet_read) (styles_have theme))
+      (sym (style_sheet_read form)) (styles_have form theme))
 
   -- strings and a theme are absent
-  pub shared_is_read :
-      HasShared (written_parts name values formulas) (codes "xl/workbook.xml") written_shared
+  pub shared_is_read : (form : WrittenForm) →
+      HasShared (written_parts form name values formulas) (codes "xl/workbook.xml") written_shared
   unfolding written_parts
-  shared_is_read = record {
+  shared_is_read PackageText = record {
     strings = refl;
     theme = refl;
     styles =
-        written_has_styles (theme_colors (written_parts name values formulas)
+        written_has_styles PackageText
+        (theme_colors (written_parts PackageText name values formulas)
+        (theme_part (codes "xl/workbook.xml")));
+  }
+  shared_is_read WorkbookFile = record {
+    strings = refl;
+    theme = refl;
+    styles =
+        written_has_styles WorkbookFile
+        (theme_colors (written_parts WorkbookFile name values formulas)
         (theme_part (codes "xl/workbook.xml")));
   }

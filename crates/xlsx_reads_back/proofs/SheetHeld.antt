@@ -27,6 +27,7 @@ use Rattle.xlsx_reads_back.proofs.SheetPartRead.{data_closed, data_inside}
 use Rattle.xlsx_reads_back.proofs.SheetRead.{ids_of_data, formulas_of_sheet, values_of_sheet}
 use Rattle.xlsx_reads_back.proofs.ValuesPlaced.{values_read_back, values_resolved}
 use Rattle.xlsx_reads_back.proofs.WrittenPositions.{written_rise, formulas_among}
+use Rattle.xlsx_out.specs.declared.form.WrittenForm.{WrittenForm}
 
 -- values and formulas by their positions, row by row, on a sheet
 pub record ArePlaced (values : PlacedValues) (formulas : Placed) : Type 0 where
@@ -36,44 +37,45 @@ pub record ArePlaced (values : PlacedValues) (formulas : Placed) : Type 0 where
   pub formulas_inside : AreInSheet formulas
 
 -- each cell that is written is read as its value
-abbrev pub CellsHaveValues : Grounds → PlacedValues → Placed → Type 0
-CellsHaveValues grounds values formulas =
+abbrev pub CellsHaveValues : WrittenForm → Grounds → PlacedValues → Placed → Type 0
+CellsHaveValues form grounds values formulas =
     (p : ℕ × ℕ) → lies_on_sheet p ≡ true →
     cell_value grounds (cell_tag (cell_attributes p (value_in_place values p)))
-    (cell_inside formulas p (value_in_place values p)) ≡ Ok (value_in_place values p)
+    (cell_inside form formulas p (value_in_place values p)) ≡ Ok (value_in_place values p)
 
-module _ (grounds : Grounds) (values : PlacedValues) (formulas : Placed)
-    (placed : ArePlaced values formulas) (have : CellsHaveValues grounds values formulas) where
+module _ (form : WrittenForm) (grounds : Grounds) (values : PlacedValues) (formulas : Placed)
+    (placed : ArePlaced values formulas) (have : CellsHaveValues form grounds values formulas) where
   pub sheet_is_sound :
-      IsSoundSheet grounds (sheet_events values formulas)
+      IsSoundSheet grounds (sheet_events form values formulas)
       (values_read_along values (written_positions values formulas))
-      (formulas_read_along formulas (written_positions values formulas))
+      (formulas_read_along form formulas (written_positions values formulas))
       (map (id_read values) (written_positions values formulas))
   sheet_is_sound = record {
-    section = written_section values formulas;
+    section = written_section form values formulas;
     area = None;
-    found = data_found values formulas;
-    dimensions = no_dimensions values formulas;
-    closed = data_closed values formulas;
+    found = data_found form values formulas;
+    dimensions = no_dimensions form values formulas;
+    closed = data_closed form values formulas;
     valued =
-        ap (values_in grounds) (data_inside values formulas)
-        ∙ values_of_sheet grounds values formulas placed.values_inside placed.formulas_inside have;
+        ap (values_in grounds) (data_inside form values formulas)
+        ∙ values_of_sheet form grounds values formulas placed.values_inside placed.formulas_inside
+        have;
     written =
-        ap formulas_written (data_inside values formulas)
-        ∙ formulas_of_sheet values formulas placed.values_inside placed.formulas_inside
+        ap formulas_written (data_inside form values formulas)
+        ∙ formulas_of_sheet form values formulas placed.values_inside placed.formulas_inside
         placed.formulas_rise;
     styled =
-        ap ids_in (data_inside values formulas)
-        ∙ ids_of_data values formulas placed.values_inside placed.formulas_inside;
+        ap ids_in (data_inside form values formulas)
+        ∙ ids_of_data form values formulas placed.values_inside placed.formulas_inside;
   }
 
   pub sheet_holds : (palette : List Style) → list_all (λ e. is_written e.1) values ≡ true →
       are_writable_formulas formulas ≡ true →
-      HoldsSheet grounds palette (sheet_events values formulas) values formulas
+      HoldsSheet grounds palette (sheet_events form values formulas) values formulas
       (styles_of palette (map (id_read values) (written_positions values formulas)))
   sheet_holds palette written some = record {
     all = values_read_along values (written_positions values formulas);
-    written = formulas_read_along formulas (written_positions values formulas);
+    written = formulas_read_along form formulas (written_positions values formulas);
     ids = map (id_read values) (written_positions values formulas);
     sheet = sheet_is_sound;
     valued =
@@ -85,7 +87,7 @@ module _ (grounds : Grounds) (values : PlacedValues) (formulas : Placed)
     listed =
         rising_last formulas placed.formulas_rise
         ∙ ap last_of_each
-        (sym (formulas_read_back formulas (written_positions values formulas)
+        (sym (formulas_read_back form formulas (written_positions values formulas)
         placed.formulas_rise (written_rise values formulas) (formulas_among values formulas) some));
     styled = refl;
   }

@@ -18,6 +18,8 @@ use Rattle.xlsx_cells.specs.Sheet.{formulas_written, placed_value, values_in}
 use Rattle.xlsx_cells.specs.StyleIds.{placed_id, ids_in}
 use Rattle.written_markup.specs.Markup.{attribute}
 use Rattle.xlsx_out.specs.Groups.{Placed, formula_placed, written_formula, is_same, is_master}
+use Rattle.xlsx_out.specs.Groups.{grouped_formula}
+use Rattle.xlsx_out.specs.declared.form.WrittenForm.TheVariants.{PackageText, WorkbookFile}
 use Rattle.xlsx_out.specs.Groups.{group_head, group_end, group_index, plain, master, derived}
 use Rattle.xlsx_out.specs.WrittenSheet.{PlacedValues, written_positions, cell_attributes}
 use Rattle.xlsx_out.specs.WrittenSheet.{data_events}
@@ -31,15 +33,16 @@ use Rattle.xlsx_reads_back.proofs.DataRead.{CellGives, Gives, gives_data, cell_t
 use Rattle.xlsx_reads_back.proofs.FormulaTexts.{FormulaFits, formula_reads}
 use Rattle.xlsx_reads_back.proofs.SheetBounds.{on_sheet_parts, written_on_sheet}
 use Rattle.xlsx_reads_back.proofs.SheetBounds.{end_fits, index_fits}
+use Rattle.xlsx_out.specs.declared.form.WrittenForm.{WrittenForm}
 
-module _ (values : PlacedValues) (formulas : Placed)
+module _ (form : WrittenForm) (values : PlacedValues) (formulas : Placed)
     (one : AreInSheet values) (two : AreInSheet formulas) where
   -- the attributes and the inside of a position's cell
   abbrev attributes : ℕ × ℕ → List ℕ
   attributes p = cell_attributes p (value_in_place values p)
 
   abbrev inside : ℕ × ℕ → List Event
-  inside p = cell_inside formulas p (value_in_place values p)
+  inside p = cell_inside form formulas p (value_in_place values p)
 
   -- a row lies on a sheet
   abbrev is_row : ℕ → Bool
@@ -52,17 +55,18 @@ module _ (values : PlacedValues) (formulas : Placed)
   pub data_give : {A : Type 0} (answer : List Mark → Element → Result A Refusal)
       (tell : ℕ × ℕ → A) →
       ((p : ℕ × ℕ) → lies_on_sheet p ≡ true → CellGives answer (attributes p) (inside p) (tell p)) →
-      Gives answer (data_events values formulas) (map tell (written_positions values formulas))
+      Gives answer (data_events form values formulas) (map tell (written_positions values formulas))
   data_give answer tell each =
       gives_data answer lies_on_sheet attributes inside tell
-      (λ p. nested_passed (inside p) (cell_nested formulas p (value_in_place values p))) each is_row
+      (λ p. nested_passed (inside p)
+      (cell_nested form formulas p (value_in_place values p))) each is_row
       (λ row. attribute (codes "r") (row_reference row))
       (λ row fits. row_placed row (row_inside row fits)) row_fits
       (written_positions values formulas) (written_on_sheet values formulas one two) where
         row_inside : (row : ℕ) → nat_lt row 1048576 ≡ true → row < 1048576
         row_inside row fits = grind (arith, nat_tests)
 
-  pub ids_of_data : ids_in (data_events values formulas)
+  pub ids_of_data : ids_in (data_events form values formulas)
       ≡ Ok (map (id_read values) (written_positions values formulas))
   ids_of_data =
       data_give placed_id (id_read values)
@@ -72,20 +76,20 @@ module _ (values : PlacedValues) (formulas : Placed)
   pub formulas_of_data :
       ((p : ℕ × ℕ) (formula : List ℕ) → lies_on_sheet p ≡ true →
       formula_placed formulas p ≡ Some formula →
-      FormulaReads p (written_formula formulas p formula)) →
-      formulas_written (data_events values formulas)
-      ≡ Ok (formulas_read_along formulas (written_positions values formulas))
+      FormulaReads p (written_formula form formulas p formula)) →
+      formulas_written (data_events form values formulas)
+      ≡ Ok (formulas_read_along form formulas (written_positions values formulas))
   formulas_of_data reads =
-      data_give placed_formulas (λ p. (p, formulas_read formulas p))
+      data_give placed_formulas (λ p. (p, formulas_read form formulas p))
       (λ p on. let parts = on_sheet_parts p on in
-      cell_gives_formulas formulas p (value_in_place values p) parts.0 parts.1
+      cell_gives_formulas form formulas p (value_in_place values p) parts.0 parts.1
       (λ formula placed. reads p formula on placed)) []
 
--- the numbers of each written formula fit
-written_fits : (formulas : Placed) → is_rising formulas ≡ true → AreInSheet formulas →
+-- the numbers of each formula of a group fit
+grouped_fits : (formulas : Placed) → is_rising formulas ≡ true → AreInSheet formulas →
     (p : ℕ × ℕ) (formula : List ℕ) → lies_on_sheet p ≡ true →
-    FormulaFits p (written_formula formulas p formula)
-written_fits formulas rising are p formula on =
+    FormulaFits p (grouped_formula formulas p formula)
+grouped_fits formulas rising are p formula on =
     by (is_same (group_head formulas p) p) (is_master formulas p) (on_sheet_parts p on) where
       by : (t u : Bool) → (p.0 < 1048576) × (p.1 < 16384) →
           FormulaFits p (cond t (cond u
@@ -100,30 +104,41 @@ written_fits formulas rising are p formula on =
       by true false parts = tt
       by false u parts = index_fits formulas (group_head formulas p) rising are
 
+-- and so do those of each written formula
+written_fits : (form : WrittenForm) (formulas : Placed) → is_rising formulas ≡ true →
+    AreInSheet formulas → (p : ℕ × ℕ) (formula : List ℕ) → lies_on_sheet p ≡ true →
+    FormulaFits p (written_formula form formulas p formula)
+written_fits PackageText formulas rising are p formula on =
+    grouped_fits formulas rising are p formula on
+written_fits WorkbookFile formulas rising are p formula on = tt
+
 -- the formulas that are written
-pub formulas_of_sheet : (values : PlacedValues) (formulas : Placed) → AreInSheet values →
+pub formulas_of_sheet : (form : WrittenForm) (values : PlacedValues) (formulas : Placed)
+    → AreInSheet values →
     AreInSheet formulas → is_rising formulas ≡ true →
-    formulas_written (data_events values formulas)
-    ≡ Ok (formulas_read_along formulas (written_positions values formulas))
-formulas_of_sheet values formulas one two rising =
-    formulas_of_data values formulas one two
-    (λ p formula on placed. formula_reads p (written_formula formulas p formula)
-    (written_fits formulas rising two p formula on))
+    formulas_written (data_events form values formulas)
+    ≡ Ok (formulas_read_along form formulas (written_positions values formulas))
+formulas_of_sheet form values formulas one two rising =
+    formulas_of_data form values formulas one two
+    (λ p formula on placed. formula_reads p (written_formula form formulas p formula)
+    (written_fits form formulas rising two p formula on))
 
 -- the values, where each cell gives its own
-pub values_of_sheet : (grounds : Grounds) (values : PlacedValues) (formulas : Placed) →
+pub values_of_sheet : (form : WrittenForm) (grounds : Grounds) (values : PlacedValues)
+    (formulas : Placed) →
     AreInSheet values → AreInSheet formulas →
     ((p : ℕ × ℕ) → lies_on_sheet p ≡ true →
     cell_value grounds (cell_tag (cell_attributes p (value_in_place values p)))
-    (cell_inside formulas p (value_in_place values p)) ≡ Ok (value_in_place values p)) →
-    values_in grounds (data_events values formulas)
+    (cell_inside form formulas p (value_in_place values p)) ≡ Ok (value_in_place values p)) →
+    values_in grounds (data_events form values formulas)
     ≡ Ok (values_read_along values (written_positions values formulas))
-values_of_sheet grounds values formulas one two reads =
-    data_give values formulas one two (placed_value grounds) (λ p. (p, value_in_place values p))
+values_of_sheet form grounds values formulas one two reads =
+    data_give form values formulas one two (placed_value grounds)
+    (λ p. (p, value_in_place values p))
     (λ p on before behind. let parts = on_sheet_parts p on in
     ap₂ at_position (cell_placed before p (value_in_place values p) parts.0 parts.1)
     (ap (answer_further (events_behind (record {
       tag = cell_tag (cell_attributes p (value_in_place values p));
-      inside = cell_inside formulas p (value_in_place values p);
+      inside = cell_inside form formulas p (value_in_place values p);
       behind = behind;
     }))) (reads p on))) []

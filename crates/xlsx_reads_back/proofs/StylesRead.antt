@@ -2,31 +2,30 @@
 use Rattle.std.proofs.Common.{◌≡◌, ℕ, List, [], ◌∷◌, ◌++◌, Some, None, refl, sym}
 use Rattle.std.proofs.Common.{ap, ◌∙◌, append-nil}
 use Rattle.std.specs.Prelude.{Ok, codes}
-use Rattle.attr_text.specs.Attributes.{lookup}
+use Rattle.attr_text.specs.Attributes.{lookup, value_of, first_value}
+use Rattle.std.specs.Str.{bytes_eq}
 use Rattle.cell_styles.specs.declared.color.Color.{Color}
-use Rattle.part_events.specs.Event.{Event}
 use Rattle.written_markup.specs.Markup.{element, attribute}
 use Rattle.written_markup.specs.WrittenText.{AreWritablePairs}
 use Rattle.written_markup.specs.Nests.{IsNested, none}
 use Rattle.written_markup.proofs.Nested.{nested_element, nested_in_row}
-use Rattle.written_markup.proofs.PairsReadBack.{lookup_written}
+use Rattle.written_markup.proofs.PairsReadBack.{lookup_written, value_written}
 use Rattle.cell_data.specs.declared.format.CellFormat.TheVariants.{Other, DateTime, TimeDelta}
+use Rattle.xlsx_stylesheet.specs.Lists.{diagonal_keys}
+use Rattle.written_markup.proofs.TextsReadBack.{decoded_encoded}
+use Rattle.xlsx_styles.specs.Fonts.{value_changed}
 use Rattle.xlsx_formats.specs.Formattings.{FormattingSaid, formatting_keys, style_said}
 use Rattle.xlsx_sections.specs.PartSection.{closed_section}
 use Rattle.xlsx_stylesheet.specs.StyleSheet.{cell_formats_in, AreStyles}
-use Rattle.xlsx_out.specs.WrittenSheet.{cell_format, style_events}
+use Rattle.xlsx_out.specs.WrittenSheet.{cell_format, cell_formats, style_events, style_inside}
+use Rattle.xlsx_out.specs.WrittenSheet.{style_front, style_behind, font_list, fill_list, fill_with}
+use Rattle.xlsx_out.specs.WrittenSheet.{border_list, style_formats, bare, space_attributes}
+use Rattle.xlsx_out.specs.WrittenSheet.{of_sheets}
+use Rattle.xlsx_out.specs.declared.form.WrittenForm.{WrittenForm}
+use Rattle.xlsx_out.specs.declared.form.WrittenForm.TheVariants.{PackageText, WorkbookFile}
 use Rattle.xlsx_reads_back.specs.ReadStyles.{style_of_format, written_styles}
 use Rattle.xlsx_reads_back.specs.ReadValues.{written_formats}
 use Rattle.xlsx_reads_back.proofs.RootsRead.{root_read}
-
--- the three cell formats
-abbrev formats_written : List Event
-formats_written =
-    cell_format (codes "0") ++ (cell_format (codes "14") ++ cell_format (codes "46"))
-
--- what stands in the style sheet
-abbrev pub styles_inside : List Event
-styles_inside = element (codes "cellXfs") [] formats_written
 
 format_looked_up : (id : List ℕ) → AreWritablePairs ((codes "numFmtId", id) ∷ []) →
     lookup formatting_keys (attribute (codes "numFmtId") id)
@@ -43,10 +42,36 @@ formattings_read =
     ∷ record { format = TimeDelta; style = style_said (style_of_format 46 (codes "[h]:mm:ss")) }
     ∷ []
 
-pub formats_are_read : (theme : List Color) →
-    cell_formats_in theme styles_inside ≡ Ok formattings_read
-formats_are_read theme =
+formats_read : (theme : List Color) → cell_formats_in theme cell_formats ≡ Ok formattings_read
+formats_read theme =
     rw (
+      format_looked_up (codes "0") (record { key = refl; value = refl }, tt),
+      format_looked_up (codes "14") (record { key = refl; value = refl }, tt),
+      format_looked_up (codes "46") (record { key = refl; value = refl }, tt),
+    ) refl
+
+-- an attribute alone is found
+alone_found : (key value : List ℕ) → AreWritablePairs ((key, value) ∷ []) →
+    value_of key (attribute key value)
+    ≡ Ok (first_value (bytes_eq key) (Ok (key, value) ∷ []))
+alone_found key value are =
+    ap (value_of key) (sym (append-nil (attribute key value)))
+    ∙ value_written key ((key, value) ∷ []) are
+
+-- what stands in front of them, and behind, says nothing of them
+pub formats_are_read : (form : WrittenForm) (theme : List Color) →
+    cell_formats_in theme (style_inside form) ≡ Ok formattings_read
+unfolding value_changed
+formats_are_read PackageText theme = formats_read theme
+formats_are_read WorkbookFile theme =
+    rw (
+      alone_found (codes "val") (codes "11") (record { key = refl; value = refl }, tt),
+      alone_found (codes "val") (codes "Calibri") (record { key = refl; value = refl }, tt),
+      decoded_encoded (codes "Calibri"),
+      alone_found (codes "patternType") (codes "none") (record { key = refl; value = refl }, tt),
+      alone_found (codes "patternType") (codes "gray125")
+          (record { key = refl; value = refl }, tt),
+      lookup_written diagonal_keys [] tt,
       format_looked_up (codes "0") (record { key = refl; value = refl }, tt),
       format_looked_up (codes "14") (record { key = refl; value = refl }, tt),
       format_looked_up (codes "46") (record { key = refl; value = refl }, tt),
@@ -55,16 +80,63 @@ formats_are_read theme =
 pub styles_are_read : AreStyles written_formats written_styles formattings_read
 styles_are_read = (refl, refl)
 
-formats_nested : IsNested formats_written
-formats_nested =
-    nested_in_row (cell_format (codes "0")) (cell_format (codes "14") ++ cell_format (codes "46"))
-    (one (codes "0"))
-    (nested_in_row (cell_format (codes "14")) (cell_format (codes "46")) (one (codes "14"))
-    (one (codes "46"))) where
-      one : (id : List ℕ) → IsNested (cell_format id)
-      one id = nested_element (codes "xf") (attribute (codes "numFmtId") id) [] none
+format_nested : (id : List ℕ) → IsNested (cell_format id)
+format_nested id = nested_element (codes "xf") (attribute (codes "numFmtId") id) [] none
 
-pub style_sheet_read : closed_section (codes "styleSheet") style_events ≡ Some styles_inside
-style_sheet_read =
-    root_read (codes "styleSheet") styles_inside
-    (nested_element (codes "cellXfs") [] formats_written formats_nested) refl
+formats_nested : IsNested cell_formats
+formats_nested =
+    nested_element (codes "cellXfs") []
+    (cell_format (codes "0") ++ (cell_format (codes "14") ++ cell_format (codes "46")))
+    (nested_in_row (cell_format (codes "0")) (cell_format (codes "14") ++ cell_format (codes "46"))
+    (format_nested (codes "0"))
+    (nested_in_row (cell_format (codes "14")) (cell_format (codes "46"))
+    (format_nested (codes "14")) (format_nested (codes "46"))))
+
+bare_nested : (name key value : List ℕ) → IsNested (bare name key value)
+bare_nested name key value = nested_element name (attribute key value) [] none
+
+fill_nested : (pattern : List ℕ) → IsNested (fill_with pattern)
+fill_nested pattern =
+    nested_element (codes "fill") []
+    (bare (codes "patternFill") (codes "patternType") pattern)
+    (bare_nested (codes "patternFill") (codes "patternType") pattern)
+
+font_nested : IsNested font_list
+font_nested =
+    let size = bare (codes "sz") (codes "val") (codes "11") in
+    let name = bare (codes "name") (codes "val") (codes "Calibri") in
+    nested_element (codes "fonts") [] (element (codes "font") [] (size ++ name))
+    (nested_element (codes "font") [] (size ++ name)
+    (nested_in_row size name (bare_nested (codes "sz") (codes "val") (codes "11"))
+    (bare_nested (codes "name") (codes "val") (codes "Calibri"))))
+
+front_nested : (form : WrittenForm) → IsNested (style_front form)
+front_nested PackageText = none
+front_nested WorkbookFile =
+    nested_in_row font_list (fill_list ++ (border_list ++ style_formats)) font_nested
+    (nested_in_row fill_list (border_list ++ style_formats)
+    (nested_element (codes "fills") []
+    (fill_with (codes "none") ++ fill_with (codes "gray125"))
+    (nested_in_row (fill_with (codes "none")) (fill_with (codes "gray125"))
+    (fill_nested (codes "none")) (fill_nested (codes "gray125"))))
+    (nested_in_row border_list style_formats
+    (nested_element (codes "borders") [] (element (codes "border") [] [])
+    (nested_element (codes "border") [] [] none))
+    (nested_element (codes "cellStyleXfs") [] (cell_format (codes "0"))
+    (format_nested (codes "0")))))
+
+behind_nested : (form : WrittenForm) → IsNested (style_behind form)
+behind_nested PackageText = none
+behind_nested WorkbookFile =
+    let attributes =
+    attribute (codes "name") (codes "Normal") ++ (attribute (codes "xfId") (codes "0")
+    ++ attribute (codes "builtinId") (codes "0")) in
+    nested_element (codes "cellStyles") [] (element (codes "cellStyle") attributes [])
+    (nested_element (codes "cellStyle") attributes [] none)
+
+pub style_sheet_read : (form : WrittenForm) →
+    closed_section (codes "styleSheet") (style_events form) ≡ Some (style_inside form)
+style_sheet_read form =
+    root_read (codes "styleSheet") (space_attributes form of_sheets) (style_inside form)
+    (nested_in_row (style_front form) (cell_formats ++ style_behind form) (front_nested form)
+    (nested_in_row cell_formats (style_behind form) formats_nested (behind_nested form))) refl

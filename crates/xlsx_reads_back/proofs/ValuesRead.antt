@@ -26,11 +26,12 @@ use Rattle.decimals.specs.Decimals.{decimal_of, printed, has_bits}
 use Rattle.decimals.proofs.ReadsBack.{printed_back}
 use Rattle.written_markup.specs.Markup.{element}
 use Rattle.written_markup.specs.Nests.{IsNested, none}
-use Rattle.written_markup.specs.WrittenText.{is_referenced, underscores_escaped, text_events}
+use Rattle.written_markup.specs.WrittenText.{is_referenced, text_events}
 use Rattle.written_markup.proofs.EventsReadBack.{joined_text_events, text_events_are_known}
 use Rattle.written_markup.proofs.EventsReadBack.{one_run}
 use Rattle.written_markup.proofs.Nested.{outermost_of_elements, text_events_nested}
 use Rattle.written_markup.proofs.PairsReadBack.{lookup_written}
+use Rattle.written_markup.proofs.LeastEscapes.{unescaped_least}
 use Rattle.written_markup.proofs.TextsReadBack.{unescaped_escaped}
 use Rattle.xlsx_sections.specs.Answers.{last_answer, or_later}
 use Rattle.xlsx_sections.specs.ElementText.{known_text, element_text}
@@ -48,6 +49,10 @@ use Rattle.xlsx_out.specs.WrittenSheet.{master_attributes, derived_attributes}
 use Rattle.xlsx_reads_back.specs.ReadValues.{IsKeptAs, written_formats}
 use Rattle.xlsx_reads_back.proofs.CellPairs.{cell_pairs, cell_attributes_are, cell_pairs_writable}
 use Rattle.xlsx_reads_back.proofs.WrittenBytes.{printed_is_plain}
+use Rattle.xlsx_out.specs.WrittenSheet.{text_written}
+use Rattle.attr_text.specs.Text.{unescaped}
+use Rattle.xlsx_out.specs.declared.form.WrittenForm.{WrittenForm}
+use Rattle.xlsx_out.specs.declared.form.WrittenForm.TheVariants.{PackageText, WorkbookFile}
 
 -- ---- the text of a `v`
 
@@ -125,39 +130,48 @@ number_read is_1904 form n is =
 -- ---- one case a kind
 
 -- what the `v` of a value says, in a cell with the style and the type that are written of it
-abbrev Says : Grounds → CellValue → Type 0
-Says grounds value =
+abbrev Says : WrittenForm → Grounds → CellValue → Type 0
+Says form grounds value =
     value_element grounds (format_of grounds.formats (style_written value))
-    (kind_named (type_written value)) (text_events (value_written value)) ≡ Ok (Some value)
+    (kind_named (type_written value)) (text_events (value_written form value)) ≡ Ok (Some value)
 
-truth_says : (grounds : Grounds) (holds : Bool) → Says grounds (truth holds)
+truth_says : (form : WrittenForm) (grounds : Grounds) (holds : Bool) → Says form grounds
+    (truth holds)
 unfolding trim_start trim_end chars encode
-truth_says grounds true = refl
-truth_says grounds false = refl
+truth_says form grounds true = refl
+truth_says form grounds false = refl
 
-error_says : (grounds : Grounds) (error : CellErrorType)
-    → IsKeptAs grounds.is_1904 (failure error) → Says grounds (failure error)
-error_says grounds Div0 is = refl
-error_says grounds NA is = refl
-error_says grounds Name is = refl
-error_says grounds Null is = refl
-error_says grounds Num is = refl
-error_says grounds Ref is = refl
-error_says grounds Value is = refl
-error_says grounds GettingData is = absurd (cc)
+error_says : (form : WrittenForm) (grounds : Grounds) (error : CellErrorType)
+    → IsKeptAs grounds.is_1904 (failure error) → Says form grounds (failure error)
+error_says form grounds Div0 is = refl
+error_says form grounds NA is = refl
+error_says form grounds Name is = refl
+error_says form grounds Null is = refl
+error_says form grounds Num is = refl
+error_says form grounds Ref is = refl
+error_says form grounds Value is = refl
+error_says form grounds GettingData is = absurd (cc)
 
-text_says : (grounds : Grounds) (bytes : List ℕ) → Says grounds (text bytes)
-text_says grounds bytes =
+-- a text as it is written in a form is read back
+text_reads : (form : WrittenForm) (bytes : List ℕ) → unescaped (text_written form bytes) ≡ bytes
+text_reads PackageText bytes = unescaped_escaped bytes
+text_reads WorkbookFile bytes = unescaped_least bytes
+
+text_says : (form : WrittenForm) (grounds : Grounds) (bytes : List ℕ)
+    → Says form grounds (text bytes)
+text_says form grounds bytes =
     ap (λ own. some_value (of_joined (value_of_joined of_text) own))
-    (element_text_written (underscores_escaped bytes))
-    ∙ ap (λ (own : List ℕ). Ok (Some (text own))) (unescaped_escaped bytes)
+    (element_text_written (text_written form bytes))
+    ∙ ap (λ (own : List ℕ). Ok (Some (text own))) (text_reads form bytes)
 
-iso_says : (grounds : Grounds) (bytes : List ℕ) → Says grounds (iso_time bytes)
-iso_says grounds bytes =
+iso_says : (form : WrittenForm) (grounds : Grounds) (bytes : List ℕ) → Says form grounds
+    (iso_time bytes)
+iso_says form grounds bytes =
     ap (λ own. some_value (of_joined (value_of_joined of_date) own)) (element_text_written bytes)
 
-number_says : (grounds : Grounds) (n : ℤ × ℤ) → is_decimal n ≡ true → Says grounds (number n)
-number_says grounds n is = ap some_value (number_read grounds.is_1904 format.Other n is)
+number_says : (form : WrittenForm) (grounds : Grounds) (n : ℤ × ℤ) → is_decimal n ≡ true
+    → Says form grounds (number n)
+number_says form grounds n is = ap some_value (number_read grounds.is_1904 format.Other n is)
 
 -- the formats that the styles of times have
 time_format : (formats : List CellFormat) → formats ≡ written_formats
@@ -167,10 +181,10 @@ time_format : (formats : List CellFormat) → formats ≡ written_formats
 time_format formats are days DateTime is_1904 = rw are refl
 time_format formats are days TimeDelta is_1904 = rw are refl
 
-time_says : (grounds : Grounds) → grounds.formats ≡ written_formats
+time_says : (form : WrittenForm) (grounds : Grounds) → grounds.formats ≡ written_formats
     → (days : ℤ × ℤ) (kind : ExcelDateTimeType) (is_1904 : Bool) → is_decimal days ≡ true
-    → is_1904 ≡ grounds.is_1904 → Says grounds (time days kind is_1904)
-time_says grounds are days kind is_1904 is epoch =
+    → is_1904 ≡ grounds.is_1904 → Says form grounds (time days kind is_1904)
+time_says form grounds are days kind is_1904 is epoch =
     ap some_value (number_read grounds.is_1904
     (format_of grounds.formats (style_written (time days kind is_1904))) days is)
     ∙ ap (λ (own : Bool). Ok (Some (formatted own
@@ -210,14 +224,16 @@ formula_says_nothing grounds form kind position w rest =
           (text_events_nested formula)
       by (derived index) = one (derived_attributes index) [] none
 
-optional_says_nothing : (grounds : Grounds) (form : CellFormat) (kind : CellKind)
-    (formulas : Placed) (position : ℕ × ℕ) (o : Option (List ℕ)) (rest : List Event)
-    → last_answer (child_value grounds form kind)
-    (children (optional_formula formulas position o ++ rest))
-    ≡ last_answer (child_value grounds form kind) (children rest)
-optional_says_nothing grounds form kind formulas position None rest = refl
-optional_says_nothing grounds form kind formulas position (Some formula) rest =
-    formula_says_nothing grounds form kind position (written_formula formulas position formula) rest
+optional_says_nothing : (form : WrittenForm) (grounds : Grounds) (style : CellFormat)
+    (kind : CellKind) (formulas : Placed) (position : ℕ × ℕ) (o : Option (List ℕ))
+    (rest : List Event)
+    → last_answer (child_value grounds style kind)
+    (children (optional_formula form formulas position o ++ rest))
+    ≡ last_answer (child_value grounds style kind) (children rest)
+optional_says_nothing form grounds style kind formulas position None rest = refl
+optional_says_nothing form grounds style kind formulas position (Some formula) rest =
+    formula_says_nothing grounds style kind position
+    (written_formula form formulas position formula) rest
 
 -- a `v` alone
 one_value : (grounds : Grounds) (form : CellFormat) (kind : CellKind) (bytes : List ℕ)
@@ -232,35 +248,37 @@ one_value grounds form kind bytes value says =
     ∙ (rw says refl)
 
 -- the `v` of a value, in a cell with what is written of it
-its_value : (grounds : Grounds) (value : CellValue) → Says grounds value
+its_value : (form : WrittenForm) (grounds : Grounds) (value : CellValue) → Says form grounds value
     → value_in grounds (format_of grounds.formats (style_written value))
-    (kind_named (type_written value)) (element (codes "v") [] (text_events (value_written value)))
+    (kind_named (type_written value))
+    (element (codes "v") [] (text_events (value_written form value)))
     ≡ Ok value
-its_value grounds value says =
+its_value form grounds value says =
     one_value grounds (format_of grounds.formats (style_written value))
-    (kind_named (type_written value)) (value_written value) value says
+    (kind_named (type_written value)) (value_written form value) value says
 
 -- the value of what is written in a cell
-written_value : (grounds : Grounds) → grounds.formats ≡ written_formats → (value : CellValue)
+written_value : (form : WrittenForm) (grounds : Grounds) → grounds.formats ≡ written_formats →
+    (value : CellValue)
     → IsKeptAs grounds.is_1904 value
     → value_in grounds (format_of grounds.formats (style_written value))
-    (kind_named (type_written value)) (value_events value) ≡ Ok value
-written_value grounds are nothing is = refl
-written_value grounds are (integer n) is = absurd is
-written_value grounds are (number n) is =
-    its_value grounds (number n) (number_says grounds n is)
-written_value grounds are (text bytes) is =
-    its_value grounds (text bytes) (text_says grounds bytes)
-written_value grounds are (shared_text place) is = absurd is
-written_value grounds are (truth holds) is =
-    its_value grounds (truth holds) (truth_says grounds holds)
-written_value grounds are (time days kind is_1904) is =
-    its_value grounds (time days kind is_1904)
-    (time_says grounds are days kind is_1904 is.0 is.1)
-written_value grounds are (iso_time bytes) is =
-    its_value grounds (iso_time bytes) (iso_says grounds bytes)
-written_value grounds are (failure error) is =
-    its_value grounds (failure error) (error_says grounds error is)
+    (kind_named (type_written value)) (value_events form value) ≡ Ok value
+written_value form grounds are nothing is = refl
+written_value form grounds are (integer n) is = absurd is
+written_value form grounds are (number n) is =
+    its_value form grounds (number n) (number_says form grounds n is)
+written_value form grounds are (text bytes) is =
+    its_value form grounds (text bytes) (text_says form grounds bytes)
+written_value form grounds are (shared_text place) is = absurd is
+written_value form grounds are (truth holds) is =
+    its_value form grounds (truth holds) (truth_says form grounds holds)
+written_value form grounds are (time days kind is_1904) is =
+    its_value form grounds (time days kind is_1904)
+    (time_says form grounds are days kind is_1904 is.0 is.1)
+written_value form grounds are (iso_time bytes) is =
+    its_value form grounds (iso_time bytes) (iso_says form grounds bytes)
+written_value form grounds are (failure error) is =
+    its_value form grounds (failure error) (error_says form grounds error is)
 
 -- what is looked up at the start of a cell: its position, its style and its type
 pub cell_keys_read : (position : ℕ × ℕ) (value : CellValue) → position.0 < 1048576
@@ -286,19 +304,19 @@ cell_keys_read position value inside =
       found (failure error) = refl
 
 -- the value of a written cell is the value that was written
-pub cell_value_read : (grounds : Grounds) → grounds.formats ≡ written_formats
+pub cell_value_read : (form : WrittenForm) (grounds : Grounds) → grounds.formats ≡ written_formats
     → (formulas : Placed) (position : ℕ × ℕ) (o : Option (List ℕ)) (value : CellValue)
     → position.0 < 1048576 → IsKeptAs grounds.is_1904 value
     → cell_value grounds (record { name = codes "c"; attributes = cell_attributes position value })
-    (optional_formula formulas position o ++ value_events value) ≡ Ok value
-cell_value_read grounds are formulas position o value inside is =
-    let form = format_of grounds.formats (style_written value) in
+    (optional_formula form formulas position o ++ value_events form value) ≡ Ok value
+cell_value_read form grounds are formulas position o value inside is =
+    let style = format_of grounds.formats (style_written value) in
     let kind = kind_named (type_written value) in
-    ap (looked_value grounds (optional_formula formulas position o ++ value_events value))
+    ap (looked_value grounds (optional_formula form formulas position o ++ value_events form value))
     (cell_keys_read position value inside)
     ∙ ap or_nothing
-    (optional_says_nothing grounds form kind formulas position o (value_events value))
-    ∙ written_value grounds are value is
+    (optional_says_nothing form grounds style kind formulas position o (value_events form value))
+    ∙ written_value form grounds are value is
 
 same_epoch : (epoch is_1904 : Bool) → (days : ℤ × ℤ) (kind : ExcelDateTimeType)
     → counts_from is_1904 (time days kind epoch) ≡ true → epoch ≡ is_1904

@@ -26,65 +26,69 @@ use Rattle.xlsx_reads_back.proofs.SharedRead.{shared_is_read}
 use Rattle.xlsx_reads_back.proofs.SheetHeld.{ArePlaced, CellsHaveValues, sheet_holds}
 use Rattle.xlsx_reads_back.proofs.CellsValued.{written_cells_have_values}
 use Rattle.xlsx_reads_back.proofs.ValuesPlaced.{epoch_is_read}
-use Rattle.xlsx_reads_back.proofs.WorkbookRead.{opening_of, written_related, workbook_is_read}
+use Rattle.xlsx_out.specs.declared.form.WrittenForm.{WrittenForm}
+use Rattle.xlsx_reads_back.proofs.RootsRead.{written_related}
+use Rattle.xlsx_reads_back.proofs.WorkbookRead.{opening_of, workbook_is_read}
 use Rattle.xlsx_reads_back.proofs.WorkbookRead.{written_sheet}
 
 -- a written package opens
-pub written_opens : (name : List ℕ) (values : PlacedValues) (formulas : Placed) →
-    OpensAs (written_parts name values formulas) (opening_of name values written_shared)
-written_opens name values formulas = record {
+pub written_opens : (form : WrittenForm) (name : List ℕ) (values : PlacedValues)
+    (formulas : Placed) →
+    OpensAs (written_parts form name values formulas) (opening_of name values written_shared)
+written_opens form name values formulas = record {
   path = codes "xl/workbook.xml";
-  related = written_related;
-  found = path_is_found name values formulas;
-  relationships = relationships_are_found name values formulas;
-  shared = shared_is_read name values formulas;
-  workbook = workbook_is_read name values formulas written_shared;
+  related = written_related form;
+  found = path_is_found name values formulas form;
+  relationships = relationships_are_found name values formulas form;
+  shared = shared_is_read name values formulas form;
+  workbook = workbook_is_read form name values formulas written_shared;
 }
 
-module _ (name : List ℕ) (values : PlacedValues) (formulas : Placed) where
+module _ (form : WrittenForm) (name : List ℕ) (values : PlacedValues) (formulas : Placed) where
   sheet_is_found :
-      events_named name (written_sheet name ∷ []) (written_parts name values formulas)
-      ≡ Some (sheet_events values formulas)
+      events_named name (written_sheet name ∷ []) (written_parts form name values formulas)
+      ≡ Some (sheet_events form values formulas)
   sheet_is_found =
       ap (λ (t : Bool). events_at (cond t (Some (codes "xl/worksheets/sheet1.xml")) None)
-      (written_parts name values formulas)) ((bytes_eq-Decides name name).1 refl)
-      ∙ sheet_part_is_found name values formulas
+      (written_parts form name values formulas)) ((bytes_eq-Decides name name).1 refl)
+      ∙ sheet_part_is_found name values formulas form
 
   -- what the values of the sheet rest on
   abbrev grounds : Grounds
   grounds = opened_grounds (opening_of name values written_shared)
 
-  cells_have : are_writable_values values ≡ true → CellsHaveValues grounds values formulas
+  cells_have : are_writable_values values ≡ true → CellsHaveValues form grounds values formulas
   cells_have writable =
       let parts = and_both (list_all (λ e. is_written e.1) values) (have_one_epoch values)
       writable in
-      written_cells_have_values grounds values formulas refl parts.0 (epoch_is_read values parts.1)
+      written_cells_have_values form grounds values formulas refl parts.0
+      (epoch_is_read values parts.1)
 
   -- and so reads as the sheet
   pub written_reads_as : ArePlaced values formulas → are_writable_values values ≡ true →
       are_writable_formulas formulas ≡ true →
-      ReadsAs (written_parts name values formulas) name values formulas
+      ReadsAs (written_parts form name values formulas) name values formulas
       (styles_read values formulas)
   written_reads_as placed writable some = record {
     opening = opening_of name values written_shared;
     palette = written_palette;
-    events = sheet_events values formulas;
-    opens = written_opens name values formulas;
+    events = sheet_events form values formulas;
+    opens = written_opens form name values formulas;
     named = refl;
     found = sheet_is_found;
     holds =
-        sheet_holds grounds values formulas placed (cells_have writable) written_palette
+        sheet_holds form grounds values formulas placed (cells_have writable) written_palette
         (and_both (list_all (λ e. is_written e.1) values) (have_one_epoch values) writable).0 some;
   }
 
 -- what is written of ranges that are writable reads back
-pub ranges_read_as : (name : List ℕ) (values : Range Data) (formulas : Range (String Global)) →
-    IsWritable values formulas →
-    ReadsAs (written_parts name (value_pairs values) (formula_pairs formulas)) name
+pub ranges_read_as : (form : WrittenForm) (name : List ℕ) (values : Range Data)
+    (formulas : Range (String Global)) → IsWritable values formulas →
+    ReadsAs (written_parts form name (value_pairs values) (formula_pairs formulas)) name
     (value_pairs values) (formula_pairs formulas)
     (styles_read (value_pairs values) (formula_pairs formulas))
-ranges_read_as name values formulas writable =
-    written_reads_as name (value_pairs values) (formula_pairs formulas)
+ranges_read_as form name values formulas writable =
+    written_reads_as form name (value_pairs values) (formula_pairs formulas)
     (record {
       values_rise = pairs_rise value_of_data values;
       formulas_rise = pairs_rise string_bytes formulas;

@@ -26,14 +26,13 @@ use Rattle.xlsx_open.specs.Opening.{Opening, HasWorkbook, epoch_or_1900}
 use Rattle.xlsx_open.specs.SharedParts.{SharedSaid}
 use Rattle.xlsx_out.specs.Groups.{Placed}
 use Rattle.xlsx_out.specs.WrittenSheet.{PlacedValues, written_parts, workbook_events}
-use Rattle.xlsx_out.specs.WrittenSheet.{is_from_1904}
+use Rattle.xlsx_out.specs.WrittenSheet.{is_from_1904, workbook_attributes}
+use Rattle.xlsx_out.specs.declared.form.WrittenForm.{WrittenForm}
+use Rattle.xlsx_out.specs.declared.form.WrittenForm.TheVariants.{PackageText, WorkbookFile}
 use Rattle.xlsx_workbook.specs.declared.sheet.SheetType.TheVariants.{WorkSheet}
 use Rattle.xlsx_workbook.specs.declared.sheet.SheetVisible.TheVariants.{Visible}
-use Rattle.xlsx_reads_back.proofs.RootsRead.{root_read, related_to}
-
--- the relationships of the workbook: one, to its sheet
-abbrev pub written_related : List ℕ → Option Related
-written_related = related_to (codes "worksheet") (codes "worksheets/sheet1.xml")
+use Rattle.xlsx_reads_back.proofs.RootsRead.{root_read, written_related, sheet_related}
+use Rattle.xlsx_reads_back.proofs.RootsRead.{leads_to_sheet}
 
 -- the sheet of the workbook, by its name
 abbrev pub written_sheet : List ℕ → PlacedSheet
@@ -108,24 +107,29 @@ inside_nested epoch name =
 abbrev folder : List ℕ
 folder = codes "xl/"
 
-sheet_identified : (name : List ℕ) → sheet_of folder written_related (sheet_start name)
-    ≡ Ok (written_sheet name)
-sheet_identified name =
+sheet_identified : (related : List ℕ → Option Related) →
+    related (codes "rId1") ≡ Some sheet_related → (name : List ℕ) →
+    sheet_of folder related (sheet_start name) ≡ Ok (written_sheet name)
+sheet_identified related leads name =
     let keys = codes "name" ∷ codes "state" ∷ [] in
     let pairs = sheet_pairs name in
-    ap (λ found. sheet_by folder written_related (sheet_start name) found)
+    ap (λ found. sheet_by folder related (sheet_start name) found)
     (ap (lookup keys) (sheet_attributes_are name)
     ∙ lookup_written keys pairs (sheet_pairs_writable name))
-    ∙ ap (identified_sheet folder written_related 2 (Some (encoded name) ∷ None ∷ []))
+    ∙ ap (identified_sheet folder related 2 (Some (encoded name) ∷ None ∷ []))
     (ap (value_of_local (codes "id")) (sheet_attributes_are name)
     ∙ local_value_written (codes "id") pairs (sheet_pairs_writable name))
-    ∙ ap (λ own. named_sheet folder written_related (codes "rId1") (codes "visible")
+    ∙ ap (λ own. named_sheet folder related (codes "rId1") (codes "visible")
     (decoded_or 2 own)) (decoded_encoded name)
+    ∙ (rw leads refl)
 
-sheets_found : (epoch : Bool) (name : List ℕ)
-    → sheets_in folder written_related (workbook_inside epoch name) ≡ Ok (written_sheet name ∷ [])
-sheets_found true name = ap (λ found. and_others found (Ok [])) (sheet_identified name)
-sheets_found false name = ap (λ found. and_others found (Ok [])) (sheet_identified name)
+sheets_found : (related : List ℕ → Option Related) →
+    related (codes "rId1") ≡ Some sheet_related → (epoch : Bool) (name : List ℕ) →
+    sheets_in folder related (workbook_inside epoch name) ≡ Ok (written_sheet name ∷ [])
+sheets_found related leads true name =
+    ap (λ found. and_others found (Ok [])) (sheet_identified related leads name)
+sheets_found related leads false name =
+    ap (λ found. and_others found (Ok [])) (sheet_identified related leads name)
 
 names_none : (epoch : Bool) (name : List ℕ) → names_in (workbook_inside epoch name) ≡ Ok []
 names_none true name = refl
@@ -148,17 +152,18 @@ epoch_found false name = refl
 
 -- ---- the part
 
-own_found : (name : List ℕ) (values : PlacedValues) (formulas : Placed)
-    → part_of (written_parts name values formulas) (workbook_part (codes "xl/workbook.xml"))
-    ≡ Some (workbook_events name values)
+own_found : (form : WrittenForm) (name : List ℕ) (values : PlacedValues) (formulas : Placed)
+    → part_of (written_parts form name values formulas) (workbook_part (codes "xl/workbook.xml"))
+    ≡ Some (workbook_events form name values)
 unfolding written_parts
-own_found name values formulas = refl
+own_found PackageText name values formulas = refl
+own_found WorkbookFile name values formulas = refl
 
-workbook_section : (name : List ℕ) (values : PlacedValues)
-    → closed_section (codes "workbook") (workbook_events name values)
+workbook_section : (form : WrittenForm) (name : List ℕ) (values : PlacedValues)
+    → closed_section (codes "workbook") (workbook_events form name values)
     ≡ Some (workbook_inside (written_epoch values) name)
-workbook_section name values =
-    root_read (codes "workbook")
+workbook_section form name values =
+    root_read (codes "workbook") (workbook_attributes form)
     (workbook_inside (written_epoch values) name) (inside_nested (written_epoch values) name) refl
 
 -- what a written package opens as, where its sheets share this
@@ -171,14 +176,15 @@ opening_of name values shared = record {
 }
 
 -- the workbook's own part says the sheet and the first year
-pub workbook_is_read : (name : List ℕ) (values : PlacedValues) (formulas : Placed)
-    (shared : SharedSaid)
-    → HasWorkbook (written_parts name values formulas) (codes "xl/workbook.xml") written_related
-    (opening_of name values shared)
-workbook_is_read name values formulas shared =
-    rw (own_found name values formulas, workbook_section name values)
+pub workbook_is_read : (form : WrittenForm) (name : List ℕ) (values : PlacedValues)
+    (formulas : Placed) (shared : SharedSaid)
+    → HasWorkbook (written_parts form name values formulas) (codes "xl/workbook.xml")
+    (written_related form) (opening_of name values shared)
+workbook_is_read form name values formulas shared =
+    rw (own_found form name values formulas, workbook_section form name values)
     (record {
-      sheets = sheets_found (written_epoch values) name;
+      sheets = sheets_found (written_related form) (leads_to_sheet form)
+          (written_epoch values) name;
       names = names_none (written_epoch values) name;
       epoch = epoch_found (written_epoch values) name;
     })

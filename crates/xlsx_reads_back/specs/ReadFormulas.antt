@@ -3,6 +3,7 @@ use Rattle.std.specs.Prelude.{ℕ, Bool, true, false, List, [], ◌∷◌, map, 
 use Rattle.cell_refs.specs.declared.dimensions.Dimensions.{Dimensions}
 use Rattle.xlsx_formulas.specs.Formula.{Sharing, FormulaText, own, master, derived}
 use Rattle.xlsx_out.specs.Groups as out
+use Rattle.xlsx_out.specs.declared.form.WrittenForm.{WrittenForm}
 use Rattle.xlsx_out.specs.Groups.{Placed, formula_placed, WrittenFormula, written_formula}
 
 -- the area of a group: from its first cell down to a last row
@@ -19,21 +20,21 @@ formula_read position (out.master formula last index) = record {
 formula_read position (out.derived index) = record { sharing = derived index; text = [] }
 
 -- the formulas that are read of a position: its own, if it has one
-abbrev pub formulas_read_by : Placed → ℕ × ℕ → Option (List ℕ) → List FormulaText
-formulas_read_by formulas position None = []
-formulas_read_by formulas position (Some formula) =
-    formula_read position (written_formula formulas position formula) ∷ []
+abbrev pub formulas_read_by : WrittenForm → Placed → ℕ × ℕ → Option (List ℕ) → List FormulaText
+formulas_read_by form formulas position None = []
+formulas_read_by form formulas position (Some formula) =
+    formula_read position (written_formula form formulas position formula) ∷ []
 
 -- the formulas that are read of a position
-abbrev pub formulas_read : Placed → ℕ × ℕ → List FormulaText
-formulas_read formulas position =
-    formulas_read_by formulas position (formula_placed formulas position)
+abbrev pub formulas_read : WrittenForm → Placed → ℕ × ℕ → List FormulaText
+formulas_read form formulas position =
+    formulas_read_by form formulas position (formula_placed formulas position)
 
 -- each of these positions with the formulas that are read of it
 abbrev pub formulas_read_along :
-    Placed → List (ℕ × ℕ) → List ((ℕ × ℕ) × List FormulaText)
-formulas_read_along formulas positions =
-    map (λ position. (position, formulas_read formulas position)) positions
+    WrittenForm → Placed → List (ℕ × ℕ) → List ((ℕ × ℕ) × List FormulaText)
+formulas_read_along form formulas positions =
+    map (λ position. (position, formulas_read form formulas position)) positions
 
 -- a formula is shared as one of a group that isn't its first
 abbrev pub is_shared_on : Sharing → Bool

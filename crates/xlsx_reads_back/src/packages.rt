@@ -5,15 +5,16 @@ ghost use Rattle.cell_data.specs.declared.range.Range.{Range};
 ghost use Rattle.cell_data.specs.declared.value.Data.{Data};
 ghost use Rattle.xlsx_core.specs.SheetReading.{ReadsAs};
 ghost use Rattle.xlsx_out.specs.Writable.{IsWritable};
+ghost use Rattle.xlsx_out.specs.declared.form.WrittenForm.{WrittenForm};
 ghost use Rattle.xlsx_out.specs.WrittenSheet.{written_parts};
 ghost use Rattle.xlsx_reads_back.specs.ReadStyles.{styles_read};
 
-/// A package that is written of values and formulas opens, and its sheet of this name reads as
-/// these values, these formulas, and the styles of dates and durations.
+/// A package that is written of values and formulas, in either form, opens, and its sheet of this
+/// name reads as these values, these formulas, and the styles of dates and durations.
 pub fn written_packages_read_back()
-    ensures { (name : List ℕ) (values : Range Data) (formulas : Range (String Global)) →
-        IsWritable values formulas →
-        ReadsAs (written_parts name (value_pairs values) (formula_pairs formulas)) name
+    ensures { (form : WrittenForm) (name : List ℕ) (values : Range Data)
+        (formulas : Range (String Global)) → IsWritable values formulas →
+        ReadsAs (written_parts form name (value_pairs values) (formula_pairs formulas)) name
         (value_pairs values) (formula_pairs formulas)
         (styles_read (value_pairs values) (formula_pairs formulas)) }
 {}

@@ -23,7 +23,7 @@ const TO_SHEET: &str = " Id=\"rId1\" \
 pub fn with_root(alloc: Global) -> Result<Draft, AllocError>
     ensures { IfOk result (λ draft. draft ≡ closed (root_part ∷ []) 0) }
 {
-    let mut draft = Draft::new(alloc, "_rels/.rels", "Relationships")?;
+    let mut draft = Draft::new(alloc, "_rels/.rels", "Relationships", "")?;
     draft.push_empty("Relationship", TO_WORKBOOK)?;
     draft.close("Relationships")?;
     Ok(draft)
@@ -34,7 +34,7 @@ pub fn add_relationships(draft: &mut Draft) -> Result<(), AllocError>
     ensures { OnOk result (draft.new
         ≡ closed (draft.old.parts ++ sample_relationships ∷ []) draft.old.taken) }
 {
-    draft.begin_part("xl/_rels/workbook.xml.rels", "Relationships")?;
+    draft.begin_part("xl/_rels/workbook.xml.rels", "Relationships", "")?;
     draft.push_empty("Relationship", TO_SHEET)?;
     draft.close("Relationships")
 }
@@ -53,7 +53,7 @@ pub fn add_workbook(draft: &mut Draft) -> Result<(), AllocError>
     ensures { OnOk result (draft.new
         ≡ closed (draft.old.parts ++ sample_workbook ∷ []) draft.old.taken) }
 {
-    draft.begin_part("xl/workbook.xml", "workbook")?;
+    draft.begin_part("xl/workbook.xml", "workbook", "")?;
     push_sheets(draft)?;
     draft.close("workbook")
 }
@@ -73,7 +73,7 @@ pub fn add_strings(draft: &mut Draft) -> Result<(), AllocError>
     ensures { OnOk result (draft.new
         ≡ closed (draft.old.parts ++ sample_strings ∷ []) draft.old.taken) }
 {
-    draft.begin_part("xl/sharedStrings.xml", "sst")?;
+    draft.begin_part("xl/sharedStrings.xml", "sst", "")?;
     push_string(draft, "red")?;
     push_string(draft, "green")?;
     push_string(draft, "blue")?;
@@ -134,7 +134,7 @@ pub fn add_styles(draft: &mut Draft) -> Result<(), AllocError>
     ensures { OnOk result (draft.new
         ≡ closed (draft.old.parts ++ sample_styles ∷ []) draft.old.taken) }
 {
-    draft.begin_part("xl/styles.xml", "styleSheet")?;
+    draft.begin_part("xl/styles.xml", "styleSheet", "")?;
     push_fills(draft)?;
     push_formats(draft)?;
     draft.close("styleSheet")

@@ -23,7 +23,7 @@ fn add_sheet(draft: &mut Draft, alloc: Global, rows: u32) -> Result<(), AllocErr
     ensures { OnOk result (draft.new
         ≡ closed (draft.old.parts ++ sample_sheet rows ∷ []) draft.old.taken) }
 {
-    draft.begin_part("xl/worksheets/sheet1.xml", "worksheet")?;
+    draft.begin_part("xl/worksheets/sheet1.xml", "worksheet", "")?;
     push_data(draft, alloc, rows)?;
     draft.close("worksheet")
 }

@@ -43,7 +43,7 @@ text_there at file utf8 =
     text_told file.name (list_all (λ b. nat_lt b 128) file.name) refl utf8
 
 -- the entries of files with their names
-abbrev members_of : ℕ → List File → List Member
+abbrev pub members_of : ℕ → List File → List Member
 members_of p [] = []
 members_of p (file ∷ files) =
     record { text = file.name; entry = entry_of p file }
@@ -57,7 +57,7 @@ member_there p file utf8 own =
     ap (named (entry_of p file)) (text_there p file utf8)
     ∙ cond-false (is_foreign (folded file.name)) _ _ own
 
-members_there : (p : ℕ) (files : List File) → All (λ file. is_utf8 file.name ≡ true) files →
+pub members_there : (p : ℕ) (files : List File) → All (λ file. is_utf8 file.name ≡ true) files →
     All (λ file. is_foreign (folded file.name) ≡ false) files →
     members (entries_of p files) ≡ members_of p files
 members_there p [] utf8 own = refl
@@ -74,7 +74,7 @@ same_bytes : (a : List ℕ) → bytes_eq a a ≡ true
 same_bytes a = (bytes_eq-Decides a a).1 refl
 
 -- the name at a place is no name before it
-abbrev IsFirst : List File → ℕ → Type 0
+abbrev pub IsFirst : List File → ℕ → Type 0
 IsFirst files i =
     (k : ℕ) → k < i → folded (get_or files k no_file).name
     ≡ folded (get_or files i no_file).name → ⊥
@@ -105,12 +105,12 @@ last_kept found p (file ∷ files) name apart =
     (λ k below same. apart (suc k) (omega arith) same)
 
 -- the name at a place is no name behind it
-abbrev IsLast : List File → ℕ → Type 0
+abbrev pub IsLast : List File → ℕ → Type 0
 IsLast files i =
     (k : ℕ) → i < k → k < length files →
     folded (get_or files k no_file).name ≡ folded (get_or files i no_file).name → ⊥
 
-last_there : (found : Option Entry) (p : ℕ) (files : List File) (i : ℕ) → i < length files →
+pub last_there : (found : Option Entry) (p : ℕ) (files : List File) (i : ℕ) → i < length files →
     IsFirst files i → IsLast files i →
     last_entry found (members_of p files) (get_or files i no_file).name
     ≡ Some (get_or (entries_of p files) i no_entry)
@@ -129,7 +129,7 @@ last_there found p (file ∷ files) (suc i) below first last =
     (λ k less same. first (suc k) (omega arith) same)
     (λ k more within same. last (suc k) (omega arith) (omega arith) same)
 
-length-entries_of : (p : ℕ) (files : List File) → length (entries_of p files) ≡ length files
+pub length-entries_of : (p : ℕ) (files : List File) → length (entries_of p files) ≡ length files
 length-entries_of p [] = refl
 length-entries_of p (file ∷ files) =
     omega (arith, length-entries_of (p + length (entry file)) files)

@@ -15,6 +15,6 @@ returns c =
     on_ok_weaker c.close.result
     (element_written c.args.draft.now c.open.new.self c.push_inside.new.draft c.close.new.self
     (codes "c") c.as_str.result.now (cell_attributes position value)
-    (given_formula position formula ++ value_events value) c.in_ok-open.ensures
+    (given_formula position formula ++ value_events c.args.form value) c.in_ok-open.ensures
     (c.as_str.ensures.value ∙ c.in_ok-put_cell_attributes.ensures) c.in_ok-push_inside.ensures)
     c.close.ensures

@@ -10,5 +10,6 @@ returns c =
     on_ok_weaker c.push_value.result
     (joined_step c.args.draft.now c.push_formula.new.draft c.push_value.new.draft
     (given_formula c.args.position (option_map written_of c.args.formula))
-    (value_events (value_given (option_copied c.args.value))) c.in_ok-push_formula.ensures)
+    (value_events c.args.form (value_given (option_copied c.args.value)))
+    c.in_ok-push_formula.ensures)
     c.push_value.ensures

@@ -2,15 +2,17 @@ use Rattle.std.proofs.lemmas.Result.{on_ok_weaker}
 use Rattle.std.specs.Prelude.{codes, []}
 use Rattle.cell_data.specs.Pairs.{value_pairs, formula_pairs}
 use Rattle.written_markup.specs.Markup.{element}
-use Rattle.written_markup.proofs.Drafted.{part_written}
-use Rattle.xlsx_out.specs.WrittenSheet.{data_events}
+use Rattle.xlsx_out.specs.WrittenSheet.{data_events, space_attributes, of_sheets}
+use Rattle.xlsx_out.proofs.SpacedParts.{spaced_part}
 use Rattle.xlsx_out.proofs.package.add_sheet.Goals as goal
 
 pub returns : goal.returns
 returns c =
-    let rows = data_events (value_pairs c.args.values.now) (formula_pairs c.args.formulas.now) in
+    let rows =
+    data_events c.args.form (value_pairs c.args.values.now) (formula_pairs c.args.formulas.now) in
     on_ok_weaker c.close.result
-    (part_written c.args.draft.now c.begin_part.new.self c.push_data.new.draft c.close.new.self
-    (codes "xl/worksheets/sheet1.xml") (codes "worksheet") (element (codes "sheetData") [] rows)
-    c.in_ok-begin_part.ensures c.in_ok-push_data.ensures)
+    (spaced_part c.args.draft.now c.begin_part.new.self c.push_data.new.draft c.close.new.self
+    (codes "xl/worksheets/sheet1.xml") (codes "worksheet") c.sheet_space.result.now
+    (space_attributes c.args.form of_sheets) (element (codes "sheetData") [] rows)
+    c.in_ok-begin_part.ensures c.sheet_space.ensures c.in_ok-push_data.ensures)
     c.close.ensures

@@ -17,25 +17,26 @@ use Rattle.xlsx_out.proofs.package.push_data.Goals as goal
 pub push_rows-requires-clause-formulas : goal.push_rows-requires-clause-formulas
 push_rows-requires-clause-formulas c =
     let formulas = formula_pairs c.args.formulas.now in
-    let all : forms_left c.new.result ≡ placed_forms formulas =
+    let all : forms_left c.new.result ≡ placed_forms c.args.form formulas =
     c.new.ensures.forms ∙ ap form_entries c.deref.ensures.value ∙ c.in_ok-forms.ensures.forms
-    ∙ ap (λ cells. placed_forms (meant string_bytes cells)) c.used.ensures.cells in
+    ∙ ap (λ cells. placed_forms c.args.form (meant string_bytes cells)) c.used.ensures.cells in
     subst (λ (forms : PlacedForms). AreInOrder forms) (sym all)
-    (forms_in_order formulas (meant_in_order string_bytes (cells_of c.args.formulas.now)
+    (forms_in_order c.args.form formulas (meant_in_order string_bytes (cells_of c.args.formulas.now)
     (record { rising = c.used.ensures.rising; sheet = c.used.ensures.sheet })))
 
 pub returns : goal.returns
 returns c =
     let values = value_pairs c.args.values.now in
     let formulas = formula_pairs c.args.formulas.now in
-    let all : forms_left c.new.result ≡ placed_forms formulas =
+    let all : forms_left c.new.result ≡ placed_forms c.args.form formulas =
     c.new.ensures.forms ∙ ap form_entries c.deref.ensures.value ∙ c.in_ok-forms.ensures.forms
-    ∙ ap (λ cells. placed_forms (meant string_bytes cells)) c.used.ensures.cells in
+    ∙ ap (λ cells. placed_forms c.args.form (meant string_bytes cells)) c.used.ensures.cells in
     let cells = c.used-2.ensures.cells in
     on_ok_weaker c.close.result
     (element_written c.args.draft.now c.open.new.self c.push_rows.new.draft c.close.new.self
-    (codes "sheetData") [] [] (data_events values formulas) c.in_ok-open.ensures refl
+    (codes "sheetData") [] [] (data_events c.args.form values formulas) c.in_ok-open.ensures refl
     (c.in_ok-push_rows.ensures
     ∙ ap (with_events c.open.new.self)
-    ((λ i. data_left None (meant value_of_data (cells i)) (all i)) ∙ data_same values formulas)))
+    ((λ i. data_left c.args.form None (meant value_of_data (cells i)) (all i))
+    ∙ data_same c.args.form values formulas)))
     c.close.ensures

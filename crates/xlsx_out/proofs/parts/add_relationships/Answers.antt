@@ -1,14 +1,20 @@
+use Rattle.std.proofs.Common.{◌++◌}
 use Rattle.std.proofs.lemmas.Result.{on_ok_weaker}
 use Rattle.std.specs.Prelude.{codes}
-use Rattle.written_markup.proofs.Drafted.{part_written}
-use Rattle.xlsx_out.specs.WrittenSheet.{relationship_to}
+use Rattle.written_markup.proofs.Drafted.{joined_step}
+use Rattle.xlsx_out.specs.WrittenSheet.{to_sheet, to_styles, space_attributes, of_packages}
+use Rattle.xlsx_out.proofs.SpacedParts.{spaced_part}
 use Rattle.xlsx_out.proofs.parts.add_relationships.Goals as goal
 
 pub returns : goal.returns
 returns c =
+    let styles = to_styles c.args.form in
     on_ok_weaker c.close.result
-    (part_written c.args.draft.now c.begin_part.new.self c.push_empty.new.self c.close.new.self
+    (spaced_part c.args.draft.now c.begin_part.new.self c.push_to_styles.new.draft c.close.new.self
     (codes "xl/_rels/workbook.xml.rels") (codes "Relationships")
-    (relationship_to (codes "worksheet") (codes "worksheets/sheet1.xml"))
-    c.in_ok-begin_part.ensures c.in_ok-push_empty.ensures)
+    c.relationship_space.result.now
+    (space_attributes c.args.form (of_packages (codes "relationships")))
+    (to_sheet ++ styles) c.in_ok-begin_part.ensures c.relationship_space.ensures
+    (joined_step c.begin_part.new.self c.push_empty.new.self c.push_to_styles.new.draft
+    to_sheet styles c.in_ok-push_empty.ensures c.in_ok-push_to_styles.ensures))
     c.close.ensures

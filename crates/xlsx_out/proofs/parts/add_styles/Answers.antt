@@ -1,17 +1,15 @@
-use Rattle.std.proofs.Common.{◌++◌}
 use Rattle.std.proofs.lemmas.Result.{on_ok_weaker}
-use Rattle.std.specs.Prelude.{codes, []}
-use Rattle.written_markup.specs.Markup.{element}
-use Rattle.written_markup.proofs.Drafted.{part_written}
-use Rattle.xlsx_out.specs.WrittenSheet.{cell_format}
+use Rattle.std.specs.Prelude.{codes}
+use Rattle.xlsx_out.specs.WrittenSheet.{style_inside, space_attributes, of_sheets}
+use Rattle.xlsx_out.proofs.SpacedParts.{spaced_part}
 use Rattle.xlsx_out.proofs.parts.add_styles.Goals as goal
 
 pub returns : goal.returns
 returns c =
     on_ok_weaker c.close.result
-    (part_written c.args.draft.now c.begin_part.new.self c.push_cell_formats.new.draft
+    (spaced_part c.args.draft.now c.begin_part.new.self c.push_style_inside.new.draft
     c.close.new.self (codes "xl/styles.xml") (codes "styleSheet")
-    (element (codes "cellXfs") [] (cell_format (codes "0")
-    ++ (cell_format (codes "14") ++ cell_format (codes "46"))))
-    c.in_ok-begin_part.ensures c.in_ok-push_cell_formats.ensures)
+    c.sheet_space.result.now (space_attributes c.args.form of_sheets)
+    (style_inside c.args.form) c.in_ok-begin_part.ensures c.sheet_space.ensures
+    c.in_ok-push_style_inside.ensures)
     c.close.ensures

@@ -1,8 +1,9 @@
 use Rattle.std.proofs.Common.{◌++◌}
 use Rattle.std.proofs.lemmas.Result.{on_ok_weaker}
 use Rattle.std.specs.Prelude.{codes}
-use Rattle.written_markup.proofs.Drafted.{part_written, joined_step}
-use Rattle.xlsx_out.specs.WrittenSheet.{properties_by, sheets_events}
+use Rattle.written_markup.proofs.Drafted.{joined_step}
+use Rattle.xlsx_out.specs.WrittenSheet.{properties_by, sheets_events, workbook_attributes}
+use Rattle.xlsx_out.proofs.SpacedParts.{spaced_part}
 use Rattle.xlsx_out.proofs.parts.add_workbook.Goals as goal
 
 pub returns : goal.returns
@@ -10,9 +11,10 @@ returns c =
     let properties = properties_by c.args.is_1904 in
     let sheets = sheets_events c.args.sheet_name.now in
     on_ok_weaker c.close.result
-    (part_written c.args.draft.now c.begin_part.new.self c.push_sheets.new.draft c.close.new.self
-    (codes "xl/workbook.xml") (codes "workbook") (properties ++ sheets)
-    c.in_ok-begin_part.ensures
+    (spaced_part c.args.draft.now c.begin_part.new.self c.push_sheets.new.draft c.close.new.self
+    (codes "xl/workbook.xml") (codes "workbook")
+    c.workbook_space.result.now (workbook_attributes c.args.form)
+    (properties ++ sheets) c.in_ok-begin_part.ensures c.workbook_space.ensures
     (joined_step c.begin_part.new.self c.push_properties.new.draft c.push_sheets.new.draft
     properties sheets c.in_ok-push_properties.ensures c.in_ok-push_sheets.ensures))
     c.close.ensures

@@ -37,9 +37,9 @@ positions-preserved c =
     some_taken p values forms value formula c.in-Some.ensures c.next_at-value.ensures.value
     c.next_at-formula.ensures.value in
     record {
-      rows = goes_on_with c.positions.draft c.enter_row.new.draft c.push_cell.new.draft
+      rows = goes_on_with c.args.form c.positions.draft c.enter_row.new.draft c.push_cell.new.draft
           c.positions.row p value formula values vs forms fs
-          (with_events c.args.draft.now (data_left None
+          (with_events c.args.draft.now (data_left c.args.form None
           (meant value_of_data (placed_left c.args.values)) (forms_left c.args.formulas)))
           splits_v splits_f some c.in_ok-enter_row.ensures c.in_ok-push_cell.ensures known.rows;
       values_order = splits_v.order;
@@ -53,7 +53,8 @@ returns c =
     let row = c.positions.row in
     let none = c.in_default.ensures in
     let ended =
-    (λ i. data_left row (meant value_of_data (none.0 i)) (none.1 i)) ∙ data_ends row in
+    (λ i. data_left c.args.form row (meant value_of_data (none.0 i)) (none.1 i))
+    ∙ data_ends c.args.form row in
     on_ok_weaker c.leave_row.result
     (λ left. left ∙ ap (with_events draft) (sym ended) ∙ c.positions.invariant.rows)
     c.leave_row.ensures

@@ -10,9 +10,11 @@ use Rattle.xlsx_out.proofs.sheet.push_rows.Given as goal
 
 abbrev pub invariant-positions : goal.invariant-positions
 invariant-positions l = record {
-  rows : with_events l.draft (data_left l.row (meant value_of_data (placed_left l.values_left))
+  rows : with_events l.draft (data_left l.form l.row
+      (meant value_of_data (placed_left l.values_left))
       (forms_left l.formulas_left))
-      ≡ with_events l.fn.draft (data_left None (meant value_of_data (placed_left l.fn.values))
+      ≡ with_events l.fn.draft (data_left l.form None
+      (meant value_of_data (placed_left l.fn.values))
       (forms_left l.fn.formulas));
   values_order : AreInOrder (placed_left l.values_left);
   formulas_order : AreInOrder (forms_left l.formulas_left);

@@ -10,7 +10,7 @@ use Rattle.xlsx_out.proofs.values.push_some_value.Goals as goal
 
 pub returns : goal.returns
 returns c =
-    let text = value_written (value_of_data c.args.value.now) in
+    let text = value_written c.args.form (value_of_data c.args.value.now) in
     on_ok_weaker c.close.result
     (element_written c.args.draft.now c.open.new.self c.push_text.new.draft c.close.new.self
     (codes "v") [] [] (text_events text) c.in_ok-open.ensures refl

@@ -4,6 +4,6 @@ use Rattle.xlsx_out.specs.WrittenSheet.{written_positions}
 use Rattle.xlsx_reads_back.proofs.groups.groups_read_back.Goals as goal
 
 pub returns : goal.returns
-returns c values formulas rising writable =
-    formulas_read_back formulas (written_positions values formulas) rising
+returns c form values formulas rising writable =
+    formulas_read_back form formulas (written_positions values formulas) rising
     (written_rise values formulas) (formulas_among values formulas) writable

@@ -1,5 +1,5 @@
 use Rattle.std.proofs.lemmas.Result.{on_ok_weaker}
-use Rattle.std.specs.Prelude.{codes}
+use Rattle.std.specs.Prelude.{[], codes}
 use Rattle.std.proofs.Common.{◌++◌}
 use Rattle.xlsx_sample.specs.Sample.{string_element}
 use Rattle.written_markup.proofs.Drafted.{part_written, three_steps}
@@ -12,7 +12,8 @@ returns c =
     let blue = string_element (codes "blue") in
     on_ok_weaker c.close.result
     (part_written c.args.draft.now c.begin_part.new.self c.push_string-3.new.draft c.close.new.self
-    (codes "xl/sharedStrings.xml") (codes "sst") (red ++ (green ++ blue)) c.in_ok-begin_part.ensures
+    (codes "xl/sharedStrings.xml") (codes "sst") []
+    (red ++ (green ++ blue)) c.in_ok-begin_part.ensures
     (three_steps c.begin_part.new.self c.push_string.new.draft c.push_string-2.new.draft
     c.push_string-3.new.draft red green blue c.in_ok-push_string.ensures
     c.in_ok-push_string-2.ensures c.in_ok-push_string-3.ensures))

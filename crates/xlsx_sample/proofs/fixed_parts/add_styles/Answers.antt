@@ -1,5 +1,5 @@
 use Rattle.std.proofs.lemmas.Result.{on_ok_weaker}
-use Rattle.std.specs.Prelude.{codes}
+use Rattle.std.specs.Prelude.{[], codes}
 use Rattle.std.proofs.Common.{◌++◌}
 use Rattle.xlsx_sample.specs.Sample.{fills_element, formats_element}
 use Rattle.written_markup.proofs.Drafted.{part_written, joined_step}
@@ -9,7 +9,7 @@ pub returns : goal.returns
 returns c =
     on_ok_weaker c.close.result
     (part_written c.args.draft.now c.begin_part.new.self c.push_formats.new.draft c.close.new.self
-    (codes "xl/styles.xml") (codes "styleSheet") (fills_element ++ formats_element)
+    (codes "xl/styles.xml") (codes "styleSheet") [] (fills_element ++ formats_element)
     c.in_ok-begin_part.ensures
     (joined_step c.begin_part.new.self c.push_fills.new.draft c.push_formats.new.draft
     fills_element formats_element c.in_ok-push_fills.ensures c.in_ok-push_formats.ensures))

@@ -8,7 +8,7 @@ pub returns : goal.returns
 returns c =
     let fresh : Contents = closed [] 0 in
     part_written fresh c.in_ok-draft.draft c.push_empty.new.self c.close.new.self
-    (codes "_rels/.rels") (codes "Relationships")
+    (codes "_rels/.rels") (codes "Relationships") []
     (related (codes "officeDocument") (codes "xl/workbook.xml")) c.in_ok-draft.ensures
     c.in_ok-push_empty.ensures
     c.in_ok-close.ensures

@@ -10,8 +10,8 @@ pub returns : goal.returns
 returns c =
     let held = c.self.inside.held in
     let added = c.add_part.new.self in
-    let root = start (record { name = c.args.root.now; attributes = [] }) in
-    let part = opened_part c.args.name.now c.args.root.now in
+    let root = start (record { name = c.args.root.now; attributes = c.args.attributes.now }) in
+    let part = opened_part c.args.name.now c.args.root.now c.args.attributes.now in
     on_ok_weaker c.push.result
     (λ pushed. part_step held added c.push.new.self c.args.name.now [] (root ∷ [])
     c.in_ok-add_part.ensures.ok

@@ -1,0 +1,3 @@
+pub mod EntriesNamed
+pub mod FilesRead
+pub mod SheetsFiled

@@ -1,0 +1,34 @@
+-- Packages that a workbook file can be written of so that it is read back.
+use Rattle.std.specs.Prelude.{◌≡◌, ℕ, ◌<◌, ◌≤◌, ◌^◌, List, length, Some}
+use Rattle.std.specs.List.{All}
+use Rattle.part_events.specs.Package.{Part}
+use Rattle.package_file.specs.PackageFile.{part_files, package_file, longest_file}
+use Rattle.input_package.specs.Reading.{package_in}
+use Rattle.xlsx_core.specs.SheetReading.{ReadsAs}
+use Rattle.xlsx_out.specs.Groups.{Placed}
+use Rattle.xlsx_out.specs.WrittenSheet.{PlacedValues, written_parts}
+use Rattle.xlsx_out.specs.declared.form.WrittenForm.TheVariants.{WorkbookFile}
+use Rattle.xlsx_reads_back.specs.ReadStyles.{styles_read}
+use Rattle.xlsx_out_as_markup.specs.WrittenPieces.{AreCutBack}
+use Rattle.zip_reads_back.specs.ReadArchive.{AreBytes, ArePartNames, IsPlain}
+
+-- Parts whose bytes are cut into their events, with names of which no two are one part, in a file
+-- of no more bytes than it may have, which doesn't look like one with records of 64 bits.
+pub record IsFilePackage (parts : List Part) : Type 0 where
+  pub some : 0 < length parts
+  pub few : length parts < 65535
+  pub short : All (λ part. length part.name < 2 ^ 16) parts
+  pub names : ArePartNames (part_files parts)
+  pub cut : AreCutBack parts
+  pub bytes : AreBytes (part_files parts)
+  pub plain : IsPlain (part_files parts)
+  pub size : length (package_file parts) ≤ longest_file
+
+-- The workbook file that is written of values and formulas, as an input, is the package that is
+-- written of them, and that package's sheet of this name reads as these values and formulas, and the
+-- styles of dates and durations.
+pub record IsReadBack (name : List ℕ) (values : PlacedValues) (formulas : Placed) : Type 0 where
+  pub input : package_in (package_file (written_parts WorkbookFile name values formulas))
+      ≡ Some (written_parts WorkbookFile name values formulas)
+  pub sheet : ReadsAs (written_parts WorkbookFile name values formulas) name values formulas
+      (styles_read values formulas)
