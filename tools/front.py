@@ -215,13 +215,13 @@ class Front:
         return refused.status
 
     def save(self, asked):
-        """Has the program answer, and writes its answer as a file: the status."""
+        """Has the program answer a workbook file, and writes it: the status."""
         import shutil
         import tempfile
 
         from saving import CantWrite, replacing
 
-        words, path = self.named(asked), asked.saved
+        words, path = [*self.named(asked), of_words.AS_FILE], asked.saved
         with tempfile.TemporaryFile() as answer:
             status, said = self.program.run(words, self.source.number(), answer.fileno())
             if status == 0:

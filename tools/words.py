@@ -178,7 +178,7 @@ COMMANDS = {
             A_SHEET,
             (
                 "writes a package of the values and formulas of the worksheet NAME",
-                "alone, and prints its text in version 2",
+                "alone, and prints its text in version 2, or by --xlsx a workbook file",
             ),
         ),
         Command(
@@ -193,12 +193,20 @@ COMMANDS = {
     )
 }
 
-# The options of a command that writes CSV, each once and in any order: words alone, and words with
-# a value.
+# The command whose answer can be a workbook file, by its option; the option before the name of the
+# file that the answer is written to; that for a folder, of csv alone, and that for the number of a
+# sheet.
+SAVED, AS_FILE, TO = "resave", "--xlsx", "--to"
+ALL, NUMBER = "--all", "--sheet"
+
+# The options of a command, each once and in any order: words alone, and, where it writes CSV, words
+# with a value.
 FLAGS = {
     "csv": ("--dates", "--crlf", "--bom", "--from-a1"),
     "csv-table": ("--dates", "--crlf", "--bom"),
+    SAVED: (AS_FILE,),
 }
+WRITE_CSV = ("csv", "csv-table")
 SETTINGS = {
     "--digits": (
         re.compile("[1-9]|[12][0-9]|3[0-8]"),
@@ -213,11 +221,6 @@ NO_DELIMITER = ('"', "\r", "\n")
 
 # This one is of ./xlsx alone, takes a file, and is that one of the program.
 PACKAGE, UPGRADE = "package", "upgrade"
-
-# The command whose answer can be written as a workbook file, and the option before the file's name;
-# that for a folder, of csv alone, and that for the number of a sheet.
-SAVED, TO = "resave", "--to"
-ALL, NUMBER = "--all", "--sheet"
 
 # These options have a value in the next word. Behind END each word is a name.
 WITH_VALUES = {
@@ -251,6 +254,7 @@ usage: ./xlsx FILE.xlsx cells NAME       (or merges, links, comments, csv, csv-t
                                           pivots, props or upgrade)
        ./xlsx FILE.xlsx csv --all FOLDER
        ./xlsx FILE.xlsx resave NAME --to OUT.xlsx
+       ./xlsx FILE.xlsx resave NAME --xlsx > OUT.xlsx
        ./xlsx cells NAME < package.json
        ./xlsx sample N
        ./xlsx --help
@@ -273,8 +277,8 @@ that behind a word -- alone each is a name. And
                   writes each worksheet as CSV into a file of FOLDER, by its name: none
                   where one of them is refused
     resave NAME --to OUT.xlsx
-                  writes the package of `resave NAME' as a workbook file: nothing
-                  where it is refused
+                  writes the workbook file of `resave NAME --xlsx' into OUT.xlsx:
+                  nothing where it is refused
     package       prints the package text of FILE, as upgrade does
 
 The program is proved and built first, where it is missing or older than its
@@ -388,12 +392,14 @@ def wrong_option(asked):
     for key in asked.values:
         if not takes[key]:
             return f"{word} takes no option '{key}'"
+    if asked.saved is not None and AS_FILE in asked.options:
+        return f"{TO} writes a workbook file, and takes no {AS_FILE} beside it"
     for option in asked.options:
         key, equals, value = option.partition("=")
         if key in given:
             return f"{key} stands twice behind {word}"
         given.add(key)
-        if equals and key in SETTINGS and word in FLAGS:
+        if equals and key in SETTINGS and word in WRITE_CSV:
             form, wanted = SETTINGS[key]
             if not form.fullmatch(value) or value in NO_DELIMITER:
                 return f"{key} takes {wanted}, and not '{value}'"
