@@ -208,7 +208,7 @@ COMMANDS = {
             Reads.SHEET,
             (
                 "writes a package of the values and formulas of the worksheet NAME",
-                "alone, and prints its text in version 2",
+                "alone, and prints its text in version 2, or by --xlsx a workbook file",
             ),
         ),
         Command(
@@ -224,12 +224,14 @@ COMMANDS = {
     )
 }
 
-# The options of a command that writes CSV, each once and in any order: words alone, and words with
-# a value.
+# The options of a command, each once and in any order: words alone, and, where it writes CSV, words
+# with a value.
 FLAGS = {
     "csv": ("--dates", "--crlf", "--bom", "--from-a1"),
     "csv-table": ("--dates", "--crlf", "--bom"),
+    "resave": ("--xlsx",),
 }
+WRITE_CSV = ("csv", "csv-table")
 SETTINGS = {
     "--digits": (
         re.compile("[1-9]|[12][0-9]|3[0-8]"),
@@ -282,6 +284,7 @@ usage: ./xlsx FILE.xlsx cells NAME       (or merges, links, comments, csv, csv-t
                                           pivots, props or upgrade)
        ./xlsx FILE.xlsx csv --all FOLDER
        ./xlsx FILE.xlsx resave NAME --to OUT.xlsx
+       ./xlsx FILE.xlsx resave NAME --xlsx > OUT.xlsx
        ./xlsx cells NAME < package.json
        ./xlsx sample N
        ./xlsx --help
@@ -427,7 +430,7 @@ def wrong_option(asked):
         if key in given:
             return f"{key} stands twice behind {word}"
         given.add(key)
-        if equals and key in SETTINGS and word in FLAGS:
+        if equals and key in SETTINGS and word in WRITE_CSV:
             form, wanted = SETTINGS[key]
             if not form.fullmatch(value) or value in NO_DELIMITER:
                 return f"{key} takes {wanted}, and not '{value}'"

@@ -351,7 +351,7 @@ fn an_input_past_the_limit_is_too_large(rt: HostRuntime) -> Result<(), Fail> {
 /// The status and the text of each refusal.
 const STATUSES: &str =
     "2 usage; 3 read fault; 4 input too large; 5 not a package; 6 Relationship not found; \
-    7 write fault; 8 out of memory; 10 box too large; ";
+    7 write fault; 8 out of memory; 10 box too large; 15 no workbook file can hold it; ";
 
 #[test]
 fn refusals_have_statuses_and_texts(rt: HostRuntime) -> Result<(), Fail> {
@@ -365,6 +365,7 @@ fn refusals_have_statuses_and_texts(rt: HostRuntime) -> Result<(), Fail> {
         ToolError::WriteFault,
         ToolError::OutOfMemory,
         ToolError::BoxTooLarge,
+        ToolError::Unwritable,
     ] {
         write!(told, "{} {error}; ", error.status())?;
     }
