@@ -1,9 +1,11 @@
 """Tries `resave` of the built program: what is written of a sheet reads back to its values and
 formulas, groups are found anew, and what is written once more is the same text."""
 
+import io
 import json
 import subprocess
 import unittest
+import zipfile
 
 from noted import SHEET_NAME, WORKBOOK_NAME, package_with, refused, with_data
 from test_formulas_named import formula
@@ -20,6 +22,25 @@ EPOCH_1904 = (
     '<workbook><workbookPr date1904="1"/><sheets><sheet name="S" sheetId="1" r:id="rId1"/>'
     "</sheets></workbook>",
 )
+# The parts of a workbook file that is written, in their order.
+FILE_PARTS = [
+    "[Content_Types].xml",
+    "_rels/.rels",
+    "xl/_rels/workbook.xml.rels",
+    "xl/workbook.xml",
+    "xl/styles.xml",
+    SHEET_NAME,
+]
+# A text as it is read, as `cells` prints it, and as it is written in a workbook file.
+ESCAPED = [
+    ("MEDIUM_DASHED", "MEDIUM_DASHED", "MEDIUM_DASHED"),
+    ("_x005F_x0041_", "_x0041_", "_x005F_x0041_"),
+    ("_x005F_x0041", "_x0041", "_x0041"),
+    ("_x005_x005F_x0041_", "_x005_x0041_", "_x005_x005F_x0041_"),
+    ("_x0000_", "\\0", "_x0000_"),
+    ("_x005F_x0041_x0001_", "_x0041\\u{1}", "_x005F_x0041_x0001_"),
+    ("a_x000B_b", "a\\u{b}b", "a_x000B_b"),
+]
 STRING = ' t="str"'
 SHARED = ' t="shared"'
 
@@ -235,6 +256,48 @@ class Resave(unittest.TestCase):
         package = (TOP / "crates" / "xlsx_tool" / "stdin").read_bytes()
         for build in BUILDS:
             self.assertEqual(self.saved(build, package, "Sales"), wanted)
+
+    def check_file(self, build, package, wanted):
+        """The parts of the workbook file that is written of a package, which reads back."""
+        status, file, said = self.run_on(build, package, "resave", "S", "--xlsx")
+        self.assertEqual((status, said), (0, b""))
+        self.assertEqual(self.run_on(build, file, "cells", "S"), (0, wanted, b""))
+        # What is written once more is the same file.
+        self.assertEqual(self.run_on(build, file, "resave", "S", "--xlsx"), (0, file, b""))
+        with zipfile.ZipFile(io.BytesIO(file)) as archive:
+            return {name: archive.read(name).decode() for name in archive.namelist()}
+
+    def test_sheets_are_written_as_workbook_files(self):
+        for shown, cells, lines, _ in CASES:
+            package = package_with((SHEET_NAME, with_data(cells)), STYLES)
+            wanted = "".join(f"{line}\t-\n" for line in lines).encode()
+            for build in BUILDS:
+                with self.subTest(shown, build=build):
+                    parts = self.check_file(build, package, wanted)
+                    self.assertEqual(list(parts), FILE_PARTS)
+                    # Each formula is written by itself.
+                    self.assertNotIn("shared", parts[SHEET_NAME])
+
+    def test_escapes_stand_where_they_are_needed(self):
+        for written, told, kept in ESCAPED:
+            package = package_with((SHEET_NAME, with_data(cell("A1", written, STRING))))
+            for build in BUILDS:
+                with self.subTest(written, build=build):
+                    parts = self.check_file(build, package, f"A1\ts:{told}\t-\t-\n".encode())
+                    self.assertIn(f"<v>{kept}</v>", parts[SHEET_NAME])
+
+    def test_what_no_workbook_file_can_hold(self):
+        wanted = (15, b"", b"no workbook file can hold it\n")
+        for cells in (
+            formula("A1", "B\0"),
+            cell("A1", "2024\0", ' t="d"'),
+        ):
+            package = package_with((SHEET_NAME, with_data(cells)))
+            for build in BUILDS:
+                with self.subTest(cells, build=build):
+                    found = self.run_on(build, package, "resave", "S", "--xlsx")
+                    self.assertEqual(found, wanted)
+                    self.assertEqual(self.run_on(build, package, "resave", "S")[0], 0)
 
     def test_a_sheet_that_is_not_there(self):
         (wanted,) = refused("Worksheet 'X' not found")

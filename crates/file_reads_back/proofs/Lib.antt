@@ -1,3 +1,4 @@
 pub mod EntriesNamed
 pub mod FilesRead
 pub mod SheetsFiled
+pub mod SheetsResaved

@@ -3,6 +3,7 @@ use Rattle.std.specs.Prelude.{◌≡◌, ℕ, ◌<◌, ◌≤◌, ◌^◌, List,
 use Rattle.std.specs.List.{All}
 use Rattle.part_events.specs.Package.{Part}
 use Rattle.package_file.specs.PackageFile.{part_files, package_file, longest_file}
+use Rattle.cell_styles.specs.StyleMap.{StyleMap}
 use Rattle.input_package.specs.Reading.{package_in}
 use Rattle.xlsx_core.specs.SheetReading.{ReadsAs}
 use Rattle.xlsx_out.specs.Groups.{Placed}
@@ -32,3 +33,14 @@ pub record IsReadBack (name : List ℕ) (values : PlacedValues) (formulas : Plac
       ≡ Some (written_parts WorkbookFile name values formulas)
   pub sheet : ReadsAs (written_parts WorkbookFile name values formulas) name values formulas
       (styles_read values formulas)
+
+-- These bytes, as an input, are a package, whose sheet of this name has the values and the formulas
+-- that the one of these parts has.
+pub record HasSameSheet (parts : List Part) (name output : List ℕ) : Type 0 where
+  pub values : PlacedValues
+  pub formulas : Placed
+  pub styles : StyleMap
+  pub reads : ReadsAs parts name values formulas styles
+  pub own : List Part
+  pub input : package_in output ≡ Some own
+  pub again : ReadsAs own name values formulas (styles_read values formulas)

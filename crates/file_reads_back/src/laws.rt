@@ -11,7 +11,9 @@ ghost use Rattle.xlsx_out.specs.Writable.{IsWritable};
 ghost use Rattle.xlsx_out.specs.WrittenSheet.{written_parts};
 ghost use Rattle.xlsx_out.specs.declared.form.WrittenForm.TheVariants.{WorkbookFile};
 ghost use Rattle.xlsx_out_as_markup.specs.WrittenPieces.{HaveNoZero};
-ghost use Rattle.file_reads_back.specs.FilePackages.{IsFilePackage, IsReadBack};
+ghost use Rattle.xlsx_commands.specs.Command.{resave_file};
+ghost use Rattle.xlsx_commands.specs.Outputs.{IsOutput};
+ghost use Rattle.file_reads_back.specs.FilePackages.{IsFilePackage, IsReadBack, HasSameSheet};
 
 use xlsx_out_as_markup::written_parts_are_cut_back;
 use xlsx_reads_back::written_packages_read_back;
@@ -40,4 +42,13 @@ pub fn written_files_are_read_back()
     package_files_are_read_back();
     written_parts_are_cut_back();
     written_packages_read_back();
+}
+
+/// The output of `resave NAME --xlsx`, as an input, is a package whose sheet NAME has the values and
+/// the formulas of the sheet that it was written of.
+pub fn resaved_files_are_read_back()
+    ensures { (parts : List Part) (name output : List ℕ) →
+        IsOutput (resave_file name) parts output → HasSameSheet parts name output }
+{
+    written_files_are_read_back();
 }

@@ -3,10 +3,12 @@
 //! It has no code.
 //!
 //! Of the lemmas of proofs/, `EntriesNamed` says what a file's entries hold, `FilesRead` that the
-//! parts of a file are those that were written, and `SheetsFiled` that the parts of a sheet can be
-//! those of a file.
+//! parts of a file are those that were written, `SheetsFiled` that the parts of a sheet can be
+//! those of a file; `SheetsResaved` brings that to the output of a command.
 #![tactic(auto)]
 
 mod laws;
 
-pub use laws::{package_files_are_read_back, written_files_are_read_back};
+pub use laws::{
+    package_files_are_read_back, resaved_files_are_read_back, written_files_are_read_back,
+};

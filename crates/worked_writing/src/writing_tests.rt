@@ -2,7 +2,7 @@ use cell_data::{Cell, CellErrorType, Data, Decimal, ExcelDateTime, ExcelDateTime
 use std::alloc::{AllocError, Global};
 use std::test::Fail;
 use test_tables::{assert_text, cases, cut};
-use xlsx_out::{is_writable, write_package};
+use xlsx_out::{WrittenForm, has_zero_left, is_writable, write_package};
 
 fn time(is_1904: bool) -> Data {
     match Decimal::parse("0.5") {
@@ -103,18 +103,37 @@ fn what_can_be_written_is_told(rt: HostRuntime) -> Result<(), Fail> {
     Ok(())
 }
 
-/// A package has five parts, and its sheet is written last.
-#[test]
-fn a_sheet_is_written(rt: HostRuntime) -> Result<(), Fail> {
-    let alloc = rt.alloc();
+/// How many parts a package of two values and a formula has.
+fn written_parts(alloc: Global, form: WrittenForm) -> Result<usize, Fail> {
     let values = value_range(alloc, "a", "b")?;
     let formulas = formula_range(alloc, "B2")?;
     if is_writable(&values, &formulas) {
-        let written = write_package(alloc, "S", &values, &formulas)?;
-        assert!(rt; written.part_count() == 5);
-        return Ok(());
+        let written = write_package(alloc, form, "S", &values, &formulas)?;
+        return Ok(written.part_count());
     }
     Err(Fail::new(format_args!("they can be written")))
+}
+
+/// A package text has five parts, and a workbook file that of their types, too.
+#[test]
+fn a_sheet_is_written(rt: HostRuntime) -> Result<(), Fail> {
+    assert!(rt; written_parts(rt.alloc(), WrittenForm::PackageText)? == 5);
+    assert!(rt; written_parts(rt.alloc(), WrittenForm::WorkbookFile)? == 6);
+    Ok(())
+}
+
+/// A character 0 of a value is written as an escape in a workbook file, and else is left.
+#[test]
+fn characters_0_are_told(rt: HostRuntime) -> Result<(), Fail> {
+    let alloc = rt.alloc();
+    let values = value_range(alloc, "a\0", "b")?;
+    let formulas = formula_range(alloc, "B2")?;
+    let bad = formula_range(alloc, "B\0")?;
+    assert!(rt; has_zero_left(WrittenForm::PackageText, "S", &values, &formulas));
+    assert!(rt; !has_zero_left(WrittenForm::WorkbookFile, "S", &values, &formulas));
+    assert!(rt; has_zero_left(WrittenForm::WorkbookFile, "S\0", &values, &formulas));
+    assert!(rt; has_zero_left(WrittenForm::WorkbookFile, "S", &values, &bad));
+    Ok(())
 }
 
 #[test]

@@ -20,7 +20,7 @@ use Rattle.xlsx_commands.specs.declared.error.ToolError.TheVariants.{InputTooLar
 use Rattle.xlsx_commands.specs.declared.error.ToolError.TheVariants.{FileTooLarge, NotAPackage}
 use Rattle.xlsx_commands.specs.declared.error.ToolError.TheVariants.{NotAWorkbookFile, Workbook}
 use Rattle.xlsx_commands.specs.declared.error.ToolError.TheVariants.{WriteFault, OutOfMemory}
-use Rattle.xlsx_commands.specs.declared.error.ToolError.TheVariants.{BoxTooLarge}
+use Rattle.xlsx_commands.specs.declared.error.ToolError.TheVariants.{BoxTooLarge, Unwritable}
 
 -- ---- the output of a command on what a source spells
 
@@ -44,6 +44,14 @@ from_output command parts old new (Workbook error) feeds fails = (
 )
 from_output command parts old new OutOfMemory feeds fails = feeds.faults
 from_output command parts old new BoxTooLarge feeds fails = (
+  feeds.faults,
+  record {
+    parts = parts;
+    cause = fails;
+    fed = λ tells. given_by (own_parts command) parts old new (feeds.fed tells);
+  },
+)
+from_output command parts old new Unwritable feeds fails = (
   feeds.faults,
   record {
     parts = parts;
@@ -187,6 +195,9 @@ not_refused never words old new command parts output (Workbook error) is prints 
     refuses.asked refuses.cause.1
 not_refused never words old new command parts output BoxTooLarge is prints own refuses =
     no_cause never words old.source command refuses.command parts output BoxTooLarge is prints
+    refuses.asked refuses.cause.1
+not_refused never words old new command parts output Unwritable is prints own refuses =
+    no_cause never words old.source command refuses.command parts output Unwritable is prints
     refuses.asked refuses.cause.1
 not_refused never words old new command parts output WriteFault is prints own refuses = own.2 refl
 not_refused never words old new command parts output OutOfMemory is prints own refuses = own.0 refl

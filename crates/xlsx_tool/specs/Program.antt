@@ -30,7 +30,7 @@ help_text =
     ++ (codes "       xlsx_tool pivots < INPUT\n"
     ++ (codes "       xlsx_tool props < INPUT\n"
     ++ (codes "       xlsx_tool upgrade < INPUT\n"
-    ++ (codes "       xlsx_tool resave NAME < INPUT\n"
+    ++ (codes "       xlsx_tool resave NAME [--xlsx] < INPUT\n"
     ++ (codes "       xlsx_tool sample N\n\n"
     ++ (codes "INPUT is a workbook file (.xlsx), or a package text (docs/FORMAT.md).\n\n"
     ++ (codes "One line is printed, of the worksheet NAME or of the workbook, for each\n\n"
@@ -61,7 +61,7 @@ help_text =
     ++ (codes "  --from-a1      of csv alone: records from row 1, and fields from column A\n\n"
     ++ (codes "upgrade prints the package text in version 2: an empty element is one event.\n\n"
     ++ (codes "resave writes a package of the values and formulas of the worksheet NAME alone\n"
-    ++ (codes "and prints its text in version 2.\n\n"
+    ++ (codes "and prints its text in version 2, or by --xlsx a workbook file.\n\n"
     ++ codes "sample makes a package of 1 to 20,000 rows and prints how much is read of it.\n"
     )))))))))))))))))))))))))))))))))))))))))))))))))
 

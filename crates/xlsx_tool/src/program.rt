@@ -34,7 +34,7 @@ Usage: xlsx_tool cells NAME < INPUT
        xlsx_tool pivots < INPUT
        xlsx_tool props < INPUT
        xlsx_tool upgrade < INPUT
-       xlsx_tool resave NAME < INPUT
+       xlsx_tool resave NAME [--xlsx] < INPUT
        xlsx_tool sample N
 
 INPUT is a workbook file (.xlsx), or a package text (docs/FORMAT.md).
@@ -73,7 +73,7 @@ OPTIONs of csv and csv-table, each at most once:
 upgrade prints the package text in version 2: an empty element is one event.
 
 resave writes a package of the values and formulas of the worksheet NAME alone
-and prints its text in version 2.
+and prints its text in version 2, or by --xlsx a workbook file.
 
 sample makes a package of 1 to 20,000 rows and prints how much is read of it.
 ";

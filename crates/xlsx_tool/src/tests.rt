@@ -364,7 +364,7 @@ const STATUSES: &str =
     13 not a workbook file: no record of the end of an archive; \
     14 not a workbook file: a compound file, as of .xls or encrypted ones; \
     13 not a workbook file: no header in the directory at byte 32; 6 Relationship not found; \
-    7 write fault; 8 out of memory; 10 box too large; ";
+    7 write fault; 8 out of memory; 10 box too large; 15 no workbook file can hold it; ";
 
 #[test]
 fn refusals_have_statuses_and_texts(rt: HostRuntime) -> Result<(), Fail> {
@@ -382,6 +382,7 @@ fn refusals_have_statuses_and_texts(rt: HostRuntime) -> Result<(), Fail> {
         ToolError::WriteFault,
         ToolError::OutOfMemory,
         ToolError::BoxTooLarge,
+        ToolError::Unwritable,
     ] {
         write!(told, "{} {error}; ", error.status())?;
     }

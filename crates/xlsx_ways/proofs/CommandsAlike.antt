@@ -7,13 +7,17 @@ use Rattle.xlsx_core.proofs.Agreeing.{same_back, reads_over}
 use Rattle.xlsx_commands.specs.Command.{Command, cells, sheets, names, merges, links, props, csv}
 use Rattle.xlsx_commands.specs.Command.{csv_table, tables, table, pivots, pivot, precedents}
 use Rattle.xlsx_commands.specs.Command.{dependents, check, part, upgrade, resave, sample, comments}
+use Rattle.xlsx_commands.specs.Command.{resave_file}
 use Rattle.xlsx_commands.specs.Outputs.{IsOutput, RefusedWorkbookCause, IsTooLarge, OutputCause}
+use Rattle.xlsx_commands.specs.Outputs.{IsUnwritable}
 use Rattle.xlsx_commands.specs.Outputs.{IsUpgrade}
 use Rattle.xlsx_commands.specs.PartNames.{PartPathCause}
 use Rattle.xlsx_commands.specs.PropertyLists.{ListedPropertiesCause, text_of_name}
 use Rattle.xlsx_commands.specs.SampleLines.{sample_name}
 use Rattle.xlsx_commands.specs.declared.error.ToolError.{ToolError}
 use Rattle.xlsx_commands.specs.declared.error.ToolError.TheVariants.{Workbook, BoxTooLarge}
+use Rattle.xlsx_commands.specs.declared.error.ToolError.TheVariants.{Unwritable}
+use Rattle.cell_data.specs.Pairs.{value_pairs, formula_pairs}
 use Rattle.xlsx_ways.specs.Ways.{HaveSameWay, HaveSameOpening, HaveSameProperties}
 use Rattle.xlsx_ways.proofs.CommentsAlike.{comments_over, comments_cause_over, comments_back}
 use Rattle.xlsx_ways.proofs.ListsAlike.{properties_over, properties_cause_over, properties_back}
@@ -56,6 +60,7 @@ way_back (check name) one two same = same_back one two name same
 way_back (part name) one two same = opening_back one two same
 way_back upgrade one two same = sym same
 way_back (resave name) one two same = same_back one two name same
+way_back (resave_file name) one two same = same_back one two name same
 way_back (sample rows) one two same = same_back one two sample_name same
 
 -- its output
@@ -178,6 +183,17 @@ output_over (resave name) one two output same prints = record {
   reads = reads_over one two name prints.values prints.formulas prints.styles same prints.reads;
   saved = prints.saved;
 }
+output_over (resave_file name) one two output same prints = record {
+  values = prints.values;
+  formulas = prints.formulas;
+  styles = prints.styles;
+  reads = reads_over one two name (value_pairs prints.values) (formula_pairs prints.formulas)
+      prints.styles same prints.reads;
+  writable = prints.writable;
+  named = prints.named;
+  fits = prints.fits;
+  saved = prints.saved;
+}
 output_over (sample rows) one two output same prints = record {
   values = prints.values;
   formulas = prints.formulas;
@@ -234,6 +250,8 @@ cause_over (part name) one two error same cause =
     (λ path at has. part_path_over name path one two error has) cause
 cause_over upgrade one two error same cause = cause
 cause_over (resave name) one two error same cause = sheet_cause_over one two name error same cause
+cause_over (resave_file name) one two error same cause =
+    sheet_cause_over one two name error same cause
 cause_over (sample rows) one two error same cause =
     sheet_cause_over one two sample_name error same cause
 
@@ -255,9 +273,23 @@ large_over (csv_table name options) one two same large = record {
 }
 large_over _ one two same large = absurd large
 
+-- and a sheet that no workbook file can hold
+unwritable_over : (command : Command) (one two : List Part) → HaveSameWay command one two
+    → IsUnwritable command one → IsUnwritable command two
+unfolding HaveSameWay IsUnwritable
+unwritable_over (resave_file name) one two same none = record {
+  values = none.values;
+  formulas = none.formulas;
+  styles = none.styles;
+  reads = reads_over one two name none.values none.formulas none.styles same none.reads;
+  none = none.none;
+}
+unwritable_over _ one two same none = absurd none
+
 pub output_cause_over : (command : Command) (one two : List Part) (error : ToolError)
     → HaveSameWay command one two → OutputCause command one error → OutputCause command two error
 output_cause_over command one two (Workbook error) same cause =
     cause_over command one two error same cause
 output_cause_over command one two BoxTooLarge same large = large_over command one two same large
+output_cause_over command one two Unwritable same none = unwritable_over command one two same none
 output_cause_over command one two error same cause = cause

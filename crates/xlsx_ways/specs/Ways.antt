@@ -17,6 +17,7 @@ use Rattle.xlsx_commands.specs.CacheRows.{HasCache}
 use Rattle.xlsx_commands.specs.Command.{Command, cells, sheets, names, merges, links, props, csv}
 use Rattle.xlsx_commands.specs.Command.{csv_table, tables, table, pivots, pivot, precedents}
 use Rattle.xlsx_commands.specs.Command.{dependents, check, part, upgrade, resave, sample, comments}
+use Rattle.xlsx_commands.specs.Command.{resave_file}
 use Rattle.xlsx_commands.specs.SampleLines.{sample_name}
 use Rattle.xlsx_commands.specs.SheetsOpened.{sheets_opened}
 use Rattle.xlsx_commands.specs.TableLists.{HasNamedTable}
@@ -137,4 +138,5 @@ HaveSameWay (check name) one two = HaveSameSheet one two name
 HaveSameWay (part name) one two = HaveSameOpening one two
 HaveSameWay upgrade one two = one ≡ two
 HaveSameWay (resave name) one two = HaveSameSheet one two name
+HaveSameWay (resave_file name) one two = HaveSameSheet one two name
 HaveSameWay (sample rows) one two = HaveSameSheet one two sample_name
