@@ -30,7 +30,7 @@ pub struct Place {
 /// ```
 /// let mut held = MemoryPackage::new(alloc);
 /// held.add_part(name)?;
-/// held.push_event(start(root, ""))?;
+/// held.push_event(start(root, attributes))?;
 /// ```
 #[derive(Debug, Drop)]
 pub struct MemoryPackage {

@@ -39,8 +39,8 @@ pub data Command : Type 0 where
   check : List ℕ → Command
   part : List ℕ → Command
   upgrade : Command
-  resave : List ℕ → Command
   resave_file : List ℕ → Command
+  resave : List ℕ → Command
   sample : ℕ → Command
 
 -- the command that was asked, by the texts of its names
