@@ -1,6 +1,7 @@
 -- The package that is written of values and formulas.
 use Rattle.std.specs.Prelude.{ℕ, ◌==◌, Bool, true, false, if◌then◌else◌, List, [], ◌∷◌, ◌++◌}
-use Rattle.std.specs.Prelude.{codes, Option, Some, None}
+use Rattle.std.specs.Prelude.{codes, Option, Some, None, ◌||◌, ◌-◌, length, slice_index}
+use Rattle.std.specs.Char.{is_ascii_whitespace}
 use Rattle.std.specs.Fmt.{decimal}
 use Rattle.std.specs.FinMap.{find}
 use Rattle.std.specs.List.{flat_map, list_any}
@@ -67,10 +68,28 @@ value_written form (iso_time bytes) = bytes
 value_written form (failure error) = cell_error_text error
 value_written form _ = []
 
+-- a text begins or ends with white space
+abbrev pub has_outer_space : List ℕ → Bool
+has_outer_space bytes =
+    is_ascii_whitespace (slice_index bytes 0)
+    || is_ascii_whitespace (slice_index bytes (length bytes - 1))
+
+-- the attributes of a `v` with a text: other programs may take white space at its ends away
+abbrev pub text_attributes : WrittenForm → List ℕ → List ℕ
+text_attributes PackageText bytes = []
+text_attributes WorkbookFile bytes =
+    if has_outer_space bytes then attribute (codes "xml:space") (codes "preserve") else []
+
+-- the attributes of the `v` of a cell with a value
+abbrev pub value_attributes : WrittenForm → CellValue → List ℕ
+value_attributes form (text bytes) = text_attributes form bytes
+value_attributes form _ = []
+
 -- the `v` of a cell, where it has a value
 abbrev pub value_events : WrittenForm → CellValue → List Event
 value_events form nothing = []
-value_events form value = element (codes "v") [] (text_events (value_written form value))
+value_events form value =
+    element (codes "v") (value_attributes form value) (text_events (value_written form value))
 
 -- the area of a group, in one column
 abbrev pub group_text : ℕ × ℕ → ℕ → List ℕ

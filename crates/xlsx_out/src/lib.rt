@@ -1,11 +1,13 @@
 //! A package that is written of the values and the formulas of one sheet, so that they read back
 //! (docs/FORMAT.md, "A sheet that is written").
 //!
-//! Rooms: `writable` (which values and formulas are written so), `escaping` (which bytes aren't
-//! written as they are), `texts` (texts as events, between
-//! quotes and with underscores escaped), `values` (a cell's type, style and value), `groups` (which
+//! Rooms: `form` (for whom a package is written), `writable` (which values and formulas are written
+//! so, and where a character 0 would be left), `escaping` (which bytes aren't written as they are),
+//! `texts` (texts as events, between quotes and with underscores escaped), `least_escapes` (texts
+//! with no more escapes than they need), `values` (a cell's type, style and value), `groups` (which
 //! formulas are those of a group), `cells` (formulas, cells and rows), `sheet` (the rows, along
-//! values and formulas), `parts` (the parts beside the sheet) and `package` (all of them).
+//! values and formulas), `parts` (the parts beside the sheet), `package` (all of them) and
+//! `equality` (copies).
 //!
 //! **What is written is said first** (`written_parts`): each part as its events, the sheet's by its
 //! values and formulas alone. That it reads back is no step of the code, and no step of the reading
@@ -23,6 +25,7 @@
 #![tactic(auto)]
 
 mod cells;
+mod equality;
 mod escaping;
 mod form;
 mod groups;
@@ -34,6 +37,7 @@ mod texts;
 mod values;
 mod writable;
 
+pub use equality::copies_are_the_same;
 pub use form::WrittenForm;
 pub use package::write_package;
 pub use writable::{has_zero_left, is_writable};

@@ -6,6 +6,7 @@ ghost use Rattle.written_markup.specs.Markup.{with_events, element, attribute};
 ghost use Rattle.written_markup.specs.WrittenText.{attribute_if, text_events};
 ghost use Rattle.xlsx_out.specs.WrittenSheet.{type_written, style_written, value_written};
 ghost use Rattle.xlsx_out.specs.WrittenSheet.{value_events, time_style, text_written};
+ghost use Rattle.xlsx_out.specs.WrittenSheet.{has_outer_space, text_attributes, value_attributes};
 ghost use Rattle.xlsx_out.specs.Writing.{value_given};
 
 use crate::form::WrittenForm;
@@ -77,6 +78,42 @@ fn push_value_text(out: &mut String, form: WrittenForm, value: &Data) -> Result<
     }
 }
 
+/// Whether a text begins or ends with white space.
+fn has_outer_space(text: &[u8]) -> bool
+    ensures { result ≡ has_outer_space text.now }
+{
+    if text.is_empty() {
+        return false;
+    }
+    text[0].is_ascii_whitespace() || text[text.len() - 1].is_ascii_whitespace()
+}
+
+/// The attributes of a `v` with a text.
+fn text_attributes(form: WrittenForm, text: &[u8]) -> &'static str
+    ensures { result.now ≡ text_attributes form text.now }
+{
+    match form {
+        WrittenForm::PackageText => "",
+        WrittenForm::WorkbookFile => {
+            if has_outer_space(text) {
+                " xml:space=\"preserve\""
+            } else {
+                ""
+            }
+        }
+    }
+}
+
+/// The attributes of the `v` of a value.
+fn value_attributes(form: WrittenForm, value: &Data) -> &'static str
+    ensures { result.now ≡ value_attributes form (value_of_data value.now) }
+{
+    match value {
+        Data::String(text) => text_attributes(form, text.as_str().as_bytes()),
+        _ => "",
+    }
+}
+
 /// Appends the `v` of a value, whose text is made in `buffer`.
 fn push_some_value(
     draft: &mut Draft,
@@ -85,12 +122,13 @@ fn push_some_value(
     value: &Data,
 ) -> Result<(), AllocError>
     ensures { let text = value_written form (value_of_data value.now) in
-        let written = element (codes "v") [] (text_events text) in
+        let attributes = value_attributes form (value_of_data value.now) in
+        let written = element (codes "v") attributes (text_events text) in
         OnOk result (draft.new ≡ with_events draft.old written) }
 {
     buffer.clear();
     push_value_text(buffer, form, value)?;
-    draft.open("v", "")?;
+    draft.open("v", value_attributes(form, value))?;
     push_text(draft, buffer.as_str())?;
     draft.close("v")
 }

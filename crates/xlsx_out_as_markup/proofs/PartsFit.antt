@@ -38,6 +38,7 @@ use Rattle.xlsx_out.specs.Groups.{written_formula, group_head, group_end, group_
 use Rattle.xlsx_out.specs.Groups.{is_master}
 use Rattle.xlsx_out.specs.WrittenSheet.{PlacedValues, type_written, style_written, text_written}
 use Rattle.xlsx_out.specs.WrittenSheet.{value_written, value_events, group_text, master_attributes}
+use Rattle.xlsx_out.specs.WrittenSheet.{text_attributes, has_outer_space}
 use Rattle.xlsx_out.specs.WrittenSheet.{derived_attributes, formula_events, optional_formula}
 use Rattle.xlsx_out.specs.WrittenSheet.{cell_attributes, cell_events, SheetRow, in_rows}
 use Rattle.xlsx_out.specs.WrittenSheet.{row_events, written_positions, data_events, office}
@@ -163,11 +164,30 @@ derived_fits Known index =
 -- ---- cells
 
 -- a `v` with a text
+value_with : (Known : Type 0) (attributes bytes : List ℕ) → IsAttributes Known attributes
+    → (Known → IsPartText bytes)
+    → AreElements Known (element (codes "v") attributes (text_events bytes))
+value_with Known attributes bytes fit own =
+    element_fits Known (codes "v") attributes (text_events bytes)
+    (word_name (codes "v") refl refl refl) fit (text_fits Known bytes own)
+
+-- and one without attributes
 value_element : (Known : Type 0) (bytes : List ℕ) → (Known → IsPartText bytes)
     → AreElements Known (element (codes "v") [] (text_events bytes))
-value_element Known bytes own =
-    element_fits Known (codes "v") [] (text_events bytes) (word_name (codes "v") refl refl refl)
-    (no_attributes Known) (text_fits Known bytes own)
+value_element Known bytes own = value_with Known [] bytes (no_attributes Known) own
+
+-- the attributes of a `v` with a text
+kept_space_fits : (Known : Type 0) (test : Bool) → IsAttributes Known
+    (if test then attribute (codes "xml:space") (codes "preserve") else [])
+kept_space_fits Known true =
+    attribute_fits Known (codes "xml:space") (codes "preserve") refl refl
+    (word_value Known (codes "preserve") refl)
+kept_space_fits Known false = no_attributes Known
+
+text_attributes_fit : (form : WrittenForm) (Known : Type 0) (bytes : List ℕ)
+    → IsAttributes Known (text_attributes form bytes)
+text_attributes_fit PackageText Known bytes = no_attributes Known
+text_attributes_fit WorkbookFile Known bytes = kept_space_fits Known (has_outer_space bytes)
 
 -- a text that can be written is that of a part as it is written
 written_text : (form : WrittenForm) (bytes : List ℕ) → IsTextIn form bytes
@@ -188,7 +208,8 @@ value_fits form Known (integer n) own = value_element Known [] (λ known. word_t
 value_fits form Known (number n) own =
     value_element Known (value_written form (number n)) (λ known. word_text _ (printed_word n))
 value_fits form Known (text bytes) own =
-    value_element Known (text_written form bytes) (λ known. written_text form bytes (own known))
+    value_with Known (text_attributes form bytes) (text_written form bytes)
+    (text_attributes_fit form Known bytes) (λ known. written_text form bytes (own known))
 value_fits form Known (shared_text place) own =
     value_element Known [] (λ known. word_text [] refl)
 value_fits form Known (truth holds) own = truth_fits form Known holds

@@ -35,6 +35,7 @@ use Rattle.xlsx_reads_back.specs.ReadFormulas.{formula_read, formulas_read, form
 use Rattle.xlsx_reads_back.specs.ReadSheet.{id_of, time_id}
 use Rattle.xlsx_reads_back.proofs.CellPairs.{position_looked_up, style_looked_up, row_looked_up}
 use Rattle.xlsx_reads_back.proofs.DataRead.{IsPassed, CellGives, cell_tag, row_tag}
+use Rattle.xlsx_out.specs.WrittenSheet.{value_attributes}
 use Rattle.xlsx_out.specs.declared.form.WrittenForm.{WrittenForm}
 
 -- ---- its position
@@ -58,23 +59,25 @@ row_placed row inside =
 
 -- what holds of nothing, and of the `v` of each text, holds of what stands for a value
 value_by : (form : WrittenForm) (P : List Event → Type 0) → P [] →
-    ((written : List ℕ) → P (element (codes "v") [] (text_events written))) → (value : CellValue) →
-    P (value_events form value)
+    ((attributes written : List ℕ) → P (element (codes "v") attributes (text_events written))) →
+    (value : CellValue) → P (value_events form value)
 value_by form P lacks has nothing = lacks
-value_by form P lacks has (integer n) = has (value_written form (integer n))
-value_by form P lacks has (number n) = has (value_written form (number n))
-value_by form P lacks has (text bytes) = has (value_written form (text bytes))
-value_by form P lacks has (shared_text place) = has (value_written form (shared_text place))
-value_by form P lacks has (truth holds) = has (value_written form (truth holds))
-value_by form P lacks has (time days kind is_1904) = has
-    (value_written form (time days kind is_1904))
-value_by form P lacks has (iso_time bytes) = has (value_written form (iso_time bytes))
-value_by form P lacks has (failure error) = has (value_written form (failure error))
+value_by form P lacks has (integer n) = has [] (value_written form (integer n))
+value_by form P lacks has (number n) = has [] (value_written form (number n))
+value_by form P lacks has (text bytes) =
+    has (value_attributes form (text bytes)) (value_written form (text bytes))
+value_by form P lacks has (shared_text place) = has [] (value_written form (shared_text place))
+value_by form P lacks has (truth holds) = has [] (value_written form (truth holds))
+value_by form P lacks has (time days kind is_1904) =
+    has [] (value_written form (time days kind is_1904))
+value_by form P lacks has (iso_time bytes) = has [] (value_written form (iso_time bytes))
+value_by form P lacks has (failure error) = has [] (value_written form (failure error))
 
 pub value_nested : (form : WrittenForm) (value : CellValue) → IsNested (value_events form value)
 value_nested form =
     value_by form IsNested none
-    (λ written. nested_element (codes "v") [] (text_events written) (text_events_nested written))
+    (λ attributes written.
+    nested_element (codes "v") attributes (text_events written) (text_events_nested written))
 
 pub formula_nested : (position : ℕ × ℕ) (w : WrittenFormula) → IsNested (formula_events position w)
 formula_nested position (plain formula) = nested_element _ _ _ (text_events_nested formula)
@@ -112,19 +115,20 @@ nested_passed inside is = record {
 -- ---- its formulas
 
 -- a `v` writes no formula
-no_formula : (inside : List Event) → IsNested inside →
-    some_answers child_formula (children (element (codes "v") [] inside)) ≡ Ok []
-no_formula inside is =
+no_formula : (attributes : List ℕ) (inside : List Event) → IsNested inside →
+    some_answers child_formula (children (element (codes "v") attributes inside)) ≡ Ok []
+no_formula attributes inside is =
     ap (λ (es : List Event). some_answers child_formula (children es))
-    (sym (append-nil (element (codes "v") [] inside)))
+    (sym (append-nil (element (codes "v") attributes inside)))
     ∙ ap (some_answers child_formula)
-    (outermost_of_elements is_any (codes "v") [] inside [] is refl)
+    (outermost_of_elements is_any (codes "v") attributes inside [] is refl)
 
 value_no_formula : (form : WrittenForm) (value : CellValue) →
     some_answers child_formula (children (value_events form value)) ≡ Ok []
 value_no_formula form =
     value_by form (λ (es : List Event). some_answers child_formula (children es) ≡ Ok []) refl
-    (λ written. no_formula (text_events written) (text_events_nested written))
+    (λ attributes written.
+    no_formula attributes (text_events written) (text_events_nested written))
 
 -- the start of an `f`
 abbrev pub formula_tag : List ℕ → Tag

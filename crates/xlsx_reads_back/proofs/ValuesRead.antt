@@ -49,7 +49,7 @@ use Rattle.xlsx_out.specs.WrittenSheet.{master_attributes, derived_attributes}
 use Rattle.xlsx_reads_back.specs.ReadValues.{IsKeptAs, written_formats}
 use Rattle.xlsx_reads_back.proofs.CellPairs.{cell_pairs, cell_attributes_are, cell_pairs_writable}
 use Rattle.xlsx_reads_back.proofs.WrittenBytes.{printed_is_plain}
-use Rattle.xlsx_out.specs.WrittenSheet.{text_written}
+use Rattle.xlsx_out.specs.WrittenSheet.{text_written, value_attributes}
 use Rattle.attr_text.specs.Text.{unescaped}
 use Rattle.xlsx_out.specs.declared.form.WrittenForm.{WrittenForm}
 use Rattle.xlsx_out.specs.declared.form.WrittenForm.TheVariants.{PackageText, WorkbookFile}
@@ -236,26 +236,27 @@ optional_says_nothing form grounds style kind formulas position (Some formula) r
     (written_formula form formulas position formula) rest
 
 -- a `v` alone
-one_value : (grounds : Grounds) (form : CellFormat) (kind : CellKind) (bytes : List ℕ)
-    (value : CellValue) → value_element grounds form kind (text_events bytes) ≡ Ok (Some value)
-    → value_in grounds form kind (element (codes "v") [] (text_events bytes)) ≡ Ok value
-one_value grounds form kind bytes value says =
-    ap (λ (events : List Event). or_nothing (last_answer (child_value grounds form kind)
-    (children events))) (sym (append-nil (element (codes "v") [] (text_events bytes))))
-    ∙ ap (λ elements. or_nothing (last_answer (child_value grounds form kind) elements))
-    (outermost_of_elements is_any (codes "v") [] (text_events bytes) [] (text_events_nested bytes)
-    refl)
+one_value : (grounds : Grounds) (style : CellFormat) (kind : CellKind) (attributes bytes : List ℕ)
+    (value : CellValue) → value_element grounds style kind (text_events bytes) ≡ Ok (Some value)
+    → value_in grounds style kind (element (codes "v") attributes (text_events bytes)) ≡ Ok value
+one_value grounds style kind attributes bytes value says =
+    ap (λ (events : List Event). or_nothing (last_answer (child_value grounds style kind)
+    (children events))) (sym (append-nil (element (codes "v") attributes (text_events bytes))))
+    ∙ ap (λ elements. or_nothing (last_answer (child_value grounds style kind) elements))
+    (outermost_of_elements is_any (codes "v") attributes (text_events bytes) []
+    (text_events_nested bytes) refl)
     ∙ (rw says refl)
 
 -- the `v` of a value, in a cell with what is written of it
 its_value : (form : WrittenForm) (grounds : Grounds) (value : CellValue) → Says form grounds value
     → value_in grounds (format_of grounds.formats (style_written value))
     (kind_named (type_written value))
-    (element (codes "v") [] (text_events (value_written form value)))
+    (element (codes "v") (value_attributes form value) (text_events (value_written form value)))
     ≡ Ok value
 its_value form grounds value says =
     one_value grounds (format_of grounds.formats (style_written value))
-    (kind_named (type_written value)) (value_written form value) value says
+    (kind_named (type_written value)) (value_attributes form value) (value_written form value) value
+    says
 
 -- the value of what is written in a cell
 written_value : (form : WrittenForm) (grounds : Grounds) → grounds.formats ≡ written_formats →
