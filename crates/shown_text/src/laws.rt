@@ -1,5 +1,7 @@
 //! What the text of a value says.
-ghost use Rattle.std.specs.Prelude.{◌≡◌, ℕ, ℤ, Bool, List, false, None};
+ghost use Rattle.std.specs.Prelude.{◌≡◌, ◌<◌, ◌*◌, ◌^◌, ◌*ℤ◌, ℕ, ℤ, Bool, List, false, None, pos};
+ghost use Rattle.std.specs.Prelude.{nat_abs};
+ghost use Rattle.std.specs.Fmt.{signed_decimal};
 ghost use Rattle.cell_data.specs.CellError.{cell_error_text};
 ghost use Rattle.cell_data.specs.CellValue.{number, text, failure};
 ghost use Rattle.cell_data.specs.declared.value.CellErrorType.{CellErrorType};
@@ -28,4 +30,10 @@ pub fn codes_that_are_not_supported_show_the_value()
         → shown_text is_1904 code (number exact) ≡ general_text exact }
     ensures texts { (is_1904 : Bool) (code bytes : List ℕ) → is_supported code ≡ false
         → shown_text is_1904 code (text bytes) ≡ bytes }
+{}
+
+/// A whole number below ten to the power eleven is shown under General by its digits.
+pub fn general_of_whole_numbers()
+    ensures { (m : ℤ) (zeros : ℕ) → nat_abs m * 10 ^ zeros < 10 ^ 11
+        → general_text (m, pos zeros) ≡ signed_decimal (m *ℤ pos (10 ^ zeros)) }
 {}

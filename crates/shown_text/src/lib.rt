@@ -28,6 +28,7 @@ mod sizes;
 
 pub use general::push_general;
 pub use laws::{
-    codes_that_are_not_supported_show_the_value, errors_are_themselves, texts_without_a_section,
+    codes_that_are_not_supported_show_the_value, errors_are_themselves, general_of_whole_numbers,
+    texts_without_a_section,
 };
 pub use shown::push_shown;
