@@ -32,6 +32,7 @@ TOLD = {
     ("xlsx_commands/error.rt", "fmt", 1): "its text",
     ("xlsx_commands/error.rt", "from", 2): PASSED_ON,
     ("xlsx_commands/error.rt", "status", 1): "its status",
+    ("xlsx_commands/resaved_file.rt", "file_of", 1): PASSED_ON,
     ("xlsx_commands/upgraded_text.rt", "upgraded_text", 1): PASSED_ON,
     ("xlsx_core/worksheet_list.rt", "ends_listing", 1): "it is asked for",
     ("xlsx_error/error.rt", "fmt", 1): "its text",

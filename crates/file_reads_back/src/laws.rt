@@ -44,8 +44,8 @@ pub fn written_files_are_read_back()
     written_packages_read_back();
 }
 
-/// The output of `resave NAME --xlsx`, as an input, is a package whose sheet NAME has the values and
-/// the formulas of the sheet that it was written of.
+/// The workbook file that the program writes of a sheet (`resave_file`), as an input, is a package
+/// whose sheet of the same name has the values and the formulas that were read.
 pub fn resaved_files_are_read_back()
     ensures { (parts : List Part) (name output : List ℕ) →
         IsOutput (resave_file name) parts output → HasSameSheet parts name output }

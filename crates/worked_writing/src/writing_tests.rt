@@ -1,7 +1,9 @@
 use cell_data::{Cell, CellErrorType, Data, Decimal, ExcelDateTime, ExcelDateTimeType, Range};
+use part_events::MemoryPackage;
 use std::alloc::{AllocError, Global};
 use std::test::Fail;
 use test_tables::{assert_text, cases, cut};
+use written_markup::start;
 use xlsx_out::{WrittenForm, has_zero_left, is_writable, write_package};
 
 fn time(is_1904: bool) -> Data {
@@ -100,6 +102,21 @@ fn what_can_be_written_is_told(rt: HostRuntime) -> Result<(), Fail> {
         };
         assert_text(found, wanted, case)?;
     }
+    Ok(())
+}
+
+/// A package of one part, in which an element is begun.
+fn begun(alloc: Global, name: &str, root: &str) -> Result<MemoryPackage, AllocError> {
+    let mut held = MemoryPackage::new(alloc);
+    held.add_part(name)?;
+    held.push_event(start(root, ""))?;
+    Ok(held)
+}
+
+#[test]
+fn a_part_is_begun(rt: HostRuntime) -> Result<(), Fail> {
+    let held = begun(rt.alloc(), "xl/styles.xml", "styleSheet")?;
+    assert!(rt; held.part_count() == 1);
     Ok(())
 }
 
