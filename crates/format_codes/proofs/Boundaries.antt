@@ -21,7 +21,8 @@ behind_character [] = search rules
 behind_character (b ∷ bs) = (
   omega (arith, size_bound bs),
   λ inside above.
-      leads (get_or bs (size_behind bs) 0) (prefix_len_stops (λ c. nat_lt 127 c && nat_lt c 192) bs 0 (omega (arith, inside))) above,
+      leads (get_or bs (size_behind bs) 0)
+      (prefix_len_stops (λ c. nat_lt 127 c && nat_lt c 192) bs 0 (omega (arith, inside))) above,
 )
 
 -- a byte that is an ASCII letter in small is ASCII

@@ -1,9 +1,11 @@
 -- A code is cut from its left end.
-use Rattle.std.proofs.Common.{◌≡◌, ◌++◌, ◌<◌, ℕ, zero, suc, Bool, true, false, cond, List, [], ◌∷◌, length}
+use Rattle.std.proofs.Common.{◌≡◌, ◌++◌, ◌<◌, ℕ, zero, suc, Bool, true, false, cond, List, [], ◌∷◌}
+use Rattle.std.proofs.Common.{length}
 use Rattle.std.proofs.Common.{drop, get_or, refl, sym, ap, ◌∙◌, arith, append_assoc, append-nil}
 use Rattle.std.specs.Prelude.{nat_lt}
 use Rattle.format_codes.specs.declared.piece.CodePiece.{CodePiece}
-use Rattle.format_codes.specs.Sections.{PiecesInFront, IsCut, pieces, pieces_behind, pieces_in_front}
+use Rattle.format_codes.specs.Sections.{PiecesInFront, IsCut, pieces, pieces_behind}
+use Rattle.format_codes.specs.Sections.{pieces_in_front}
 use Rattle.format_codes.specs.Sections.{first_character, character_size, size_behind}
 
 -- the pieces behind the first bytes are those of what stands behind these
@@ -50,7 +52,8 @@ wide b bs above = first_chosen (nat_lt 127 b) _ _ (above_test 127 b above)
 -- a character that isn't ASCII is cut off
 pub character_cut : (code rest : List ℕ) (found new : List CodePiece) → 0 < length code →
     127 < get_or code 0 0 →
-    IsCut (record { pieces = first_character code; size = character_size code }) code found new rest →
+    IsCut (record { pieces = first_character code; size = character_size code }) code found new
+    rest →
     new ++ pieces rest ≡ found ++ pieces code
 character_cut [] rest found new some above pushed = absurd (omega (arith, some))
 character_cut (b ∷ bs) rest found new some above pushed =

@@ -7,4 +7,5 @@ pub mod Orders
 pub mod Divided
 pub mod TextsTaken
 pub mod NumbersKept
-pub mod FormatsCut
+pub mod Kept
+pub mod WithoutTexts

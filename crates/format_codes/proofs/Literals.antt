@@ -1,5 +1,6 @@
 -- The characters of a text as pieces.
-use Rattle.std.proofs.Common.{◌≡◌, ◌++◌, arith, rules, length, ℕ, List, [], ◌∷◌, map, refl, sym, ap, ◌∙◌, append_assoc, append-nil, false, ◌==◌}
+use Rattle.std.proofs.Common.{◌≡◌, ◌++◌, arith, rules, length, ℕ, List, [], ◌∷◌, map, refl, sym, ap}
+use Rattle.std.proofs.Common.{◌∙◌, append_assoc, append-nil, false, ◌==◌}
 use Rattle.std.specs.Prelude.{encode_utf8}
 use Rattle.std.specs.Str.{chars, IsUtf8}
 use Rattle.std.proofs.lemmas.Str.{chars_past_char, chars-nil}

@@ -1,5 +1,6 @@
 -- Sections of numbers that are kept, or one that isn't supported.
-use Rattle.std.proofs.Common.{◌≡◌, ◌<◌, ◌&&◌, ℕ, zero, suc, Bool, true, false, List, [], ◌∷◌, length, map}
+use Rattle.std.proofs.Common.{◌≡◌, ◌<◌, ◌&&◌, ℕ, zero, suc, Bool, true, false, List, [], ◌∷◌}
+use Rattle.std.proofs.Common.{length, map}
 use Rattle.std.proofs.Common.{get_or, refl, sym, ap, ◌∙◌, arith, rules, Option, Some, None}
 use Rattle.std.specs.Prelude.{is_some}
 use Rattle.std.specs.Global.{Vec}
@@ -28,7 +29,8 @@ pub one_fails : (sections : List (Vec CodePiece)) (i : ℕ) (section : Vec CodeP
 one_fails [] i section within at none = absurd (omega (arith, within))
 one_fails (first ∷ others) zero section within at none =
     let fails : is_some (kind_of first.items) ≡ false =
-    ap (λ s. is_some (kind_of s.items)) (sym at) ∙ no_kind (kind_of section.items) section.items none in
+    ap (λ s. is_some (kind_of s.items)) (sym at)
+    ∙ no_kind (kind_of section.items) section.items none in
     ap (λ b. b && list_all (λ s. is_some (kind_of s)) (map (λ s. s.items) others)) fails
 one_fails (first ∷ others) (suc i) section within at none =
     ap (λ b. is_some (kind_of first.items) && b)

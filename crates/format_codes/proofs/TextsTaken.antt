@@ -10,7 +10,8 @@ use Rattle.format_codes.specs.declared.piece.CodePiece.{CodePiece}
 use Rattle.format_codes.specs.Choosing.{is_for_texts, text_section, text_section_of}
 
 -- the last of some sections
-last_of : (other : Option (List CodePiece)) (front : List (List CodePiece)) (last : List CodePiece) →
+last_of : (other : Option (List CodePiece)) (front : List (List CodePiece))
+    (last : List CodePiece) →
     last_or other (front ++ last ∷ []) ≡ Some last
 last_of other [] last = refl
 last_of other (first ∷ front) last = last_of (Some first) front last

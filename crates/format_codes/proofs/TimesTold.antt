@@ -1,5 +1,6 @@
 -- A walk along the pieces of a section of dates.
-use Rattle.std.proofs.Common.{◌≡◌, ◌++◌, ℕ, zero, suc, List, [], ◌∷◌, drop, refl, sym, ap, ◌∙◌, append_assoc}
+use Rattle.std.proofs.Common.{◌≡◌, ◌++◌, ℕ, zero, suc, List, [], ◌∷◌, drop, refl, sym, ap, ◌∙◌}
+use Rattle.std.proofs.Common.{append_assoc}
 use Rattle.format_codes.specs.declared.piece.CodePiece.{CodePiece}
 use Rattle.format_codes.specs.declared.timing.TimePlace.{TimePlace}
 use Rattle.format_codes.specs.TimedPieces.{digits_told, place_behind, timed_from, told_piece}
@@ -12,7 +13,8 @@ skipped place (suc n) [] = refl
 skipped place (suc n) (first ∷ others) = skipped place n others
 
 -- a piece is told, and the others are those behind it
-pub timed_behind : (place : TimePlace) (first : CodePiece) (others rest found new : List CodePiece) →
+pub timed_behind : (place : TimePlace) (first : CodePiece)
+    (others rest found new : List CodePiece) →
     new ≡ found ++ told_piece place (digits_told place first others) first others ∷ [] →
     rest ≡ drop (digits_told place first others) others →
     new ++ timed_from (place_behind place first) zero rest

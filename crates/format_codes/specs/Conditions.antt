@@ -69,7 +69,8 @@ holds_below_0 compares.From n = false
 holds_below_0 compares.Equal n = is_negative n
 holds_below_0 compares.Unequal n = false
 
--- A section leaves the sign out: its condition holds of numbers below 0 alone, or its place says so.
+-- A section leaves the sign out: its condition holds of numbers below 0 alone, or its place says
+-- so.
 abbrev pub leaves_sign_out : Bool → Option Condition → Bool
 leaves_sign_out else_out None = else_out
 leaves_sign_out else_out (Some condition) =

@@ -9,7 +9,8 @@ use Rattle.format_codes.specs.declared.piece.CodePiece.{CodePiece}
 use Rattle.format_codes.specs.declared.piece.CodePiece.TheVariants as piece
 use Rattle.format_codes.specs.declared.piece.TimeUnit.TheVariants.{Year}
 use Rattle.format_codes.specs.Pieces.{has, is_digit, is_exponent, is_figure, is_foreign, is_general}
-use Rattle.format_codes.specs.Pieces.{is_percent, is_point, is_second_digits, is_slash, is_text_place}
+use Rattle.format_codes.specs.Pieces.{is_percent, is_point, is_second_digits, is_slash}
+use Rattle.format_codes.specs.Pieces.{is_text_place}
 use Rattle.format_codes.specs.Pieces.{is_time, is_unknown, is_zero}
 use Rattle.format_codes.specs.TimedPieces.{second_places, timed_pieces}
 

@@ -6,3 +6,4 @@ pub mod Kinds
 pub mod Conditions
 pub mod Choosing
 pub mod ShownFormats
+pub mod Laws

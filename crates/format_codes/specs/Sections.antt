@@ -1,4 +1,4 @@
--- A number format code, cut into sections of pieces (ECMA-376 part 1, sections 18.8.30 and 18.8.31).
+-- A number format code, cut into sections of pieces (ECMA-376 part 1, 18.8.30 and 18.8.31).
 use Rattle.std.specs.Prelude.{ℕ, ◌≡◌, drop, zero, suc, ◌+◌, ◌==◌, ◌&&◌, ◌||◌, nat_lt}
 use Rattle.std.specs.Prelude.{if◌then◌else◌, List, [], ◌∷◌, ◌++◌, length, take, codes}
 use Rattle.std.specs.Prelude.{slice_index, Option, Some, None}
@@ -118,8 +118,9 @@ abbrev pub sign_or_letter : Option CodePiece → ℕ → List ℕ → PiecesInFr
 sign_or_letter (Some sign) b bs = one sign 0
 sign_or_letter None b bs = letter_in_front b bs
 
--- The pieces that stand first. `\` takes the next character, `"` all to the next `"`; `_` is a space
--- in place of one as wide as the next character, and `*`, which fills a cell with it, shows nothing.
+-- The pieces that stand first. `\` takes the next character, `"` all to the next `"`; `_` is a
+-- space in place of one as wide as the next character, and `*`, which fills a cell with it, shows
+-- nothing.
 -- A character that isn't ASCII stands for itself.
 abbrev pub pieces_in_front : ℕ → List ℕ → PiecesInFront
 pieces_in_front b bs =

@@ -1,5 +1,6 @@
 -- What is kept of a code that is cut once.
-use Rattle.std.specs.Prelude.{ℕ, ◌≡◌, Bool, true, false, [], ◌∷◌, ℤ, not, is_none, is_some, if◌then◌else◌, List, Option, Some, None, map}
+use Rattle.std.specs.Prelude.{ℕ, ◌≡◌, Bool, true, false, [], ◌∷◌, ℤ, not, is_none, is_some}
+use Rattle.std.specs.Prelude.{if◌then◌else◌, List, Option, Some, None, map}
 use Rattle.std.specs.Int.{is_negative, is_positive}
 use Rattle.std.specs.Option.{option_map}
 use Rattle.std.specs.List.{list_all}
@@ -10,7 +11,8 @@ use Rattle.format_codes.specs.declared.shown_format.ChosenSection.{ChosenSection
 use Rattle.format_codes.specs.declared.shown_format.FormatSections.{FormatSections}
 use Rattle.format_codes.specs.declared.shown_format.NumberSection.{NumberSection}
 use Rattle.format_codes.specs.declared.shown_format.ShownFormat.{ShownFormat}
-use Rattle.format_codes.specs.Choosing.{are_supported, ShownSection, is_supported, number_sections, shown_pieces}
+use Rattle.format_codes.specs.Choosing.{are_supported, ShownSection, is_supported, number_sections}
+use Rattle.format_codes.specs.Choosing.{shown_pieces}
 use Rattle.format_codes.specs.Choosing.{text_section}
 use Rattle.format_codes.specs.Conditions.{condition_in, leaves_sign_out, takes}
 use Rattle.format_codes.specs.Kinds.{kind_of}

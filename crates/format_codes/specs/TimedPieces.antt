@@ -63,8 +63,8 @@ told_piece place digits p behind =
     if nat_lt 0 digits then piece.SecondDigits digits
     else minutes_if (is_minutes place.passes place.last behind) p
 
--- The pieces from a place on, with their minutes and their digits of seconds; `skip` pieces in front
--- are passed over.
+-- The pieces from a place on, with their minutes and their digits of seconds; `skip` pieces in
+-- front are passed over.
 abbrev pub timed_from : TimePlace → ℕ → List CodePiece → List CodePiece
 timed_from place skip [] = []
 timed_from place (suc skip) (first ∷ others) = timed_from place skip others

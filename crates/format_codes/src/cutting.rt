@@ -1,10 +1,13 @@
 //! A code is cut into its pieces from the left.
-ghost use Rattle.std.specs.Prelude.{◌≡◌, ◌<◌, ◌≤◌, drop, ◌++◌, ◌∷◌, IfOk, MatchOption, length, slice_index};
+ghost use Rattle.std.specs.Prelude.{◌≡◌, ◌<◌, ◌≤◌, drop, ◌++◌, ◌∷◌, IfOk, MatchOption, length};
+ghost use Rattle.std.specs.Prelude.{slice_index};
 ghost use Rattle.std.specs.Char.{to_ascii_lowercase};
 ghost use Rattle.format_codes.specs.Groups.{date_unit};
 ghost use Rattle.format_codes.specs.Sections.{IsCut, IsPieceCut, first_character, character_size};
-ghost use Rattle.format_codes.specs.Sections.{quoted_in_front, group_in_front, sign_piece, sign_or_letter};
-ghost use Rattle.format_codes.specs.Sections.{run_behind, unit_or_other, half_day_or_other, letter_in_front};
+ghost use Rattle.format_codes.specs.Sections.{quoted_in_front, group_in_front, sign_piece};
+ghost use Rattle.format_codes.specs.Sections.{sign_or_letter};
+ghost use Rattle.format_codes.specs.Sections.{run_behind, unit_or_other, half_day_or_other};
+ghost use Rattle.format_codes.specs.Sections.{letter_in_front};
 ghost use Rattle.format_codes.specs.Sections.{pieces_in_front, pieces};
 
 use crate::group::{push_group, push_literal};

@@ -1,8 +1,10 @@
 //! Groups in brackets: a time that has passed, a currency and a language, a condition, a color.
 ghost use Rattle.std.specs.Prelude.{◌≡◌, ◌++◌, ◌∷◌, [], IfOk, Some};
 ghost use Rattle.std.specs.Option.{option_map};
-ghost use Rattle.format_codes.specs.Groups.{literal_pieces, passed_unit, passed_piece, condition_by};
-ghost use Rattle.format_codes.specs.Groups.{comparison_in_front, condition_of_group, is_color, all_are};
+ghost use Rattle.format_codes.specs.Groups.{literal_pieces, passed_unit, passed_piece};
+ghost use Rattle.format_codes.specs.Groups.{condition_by};
+ghost use Rattle.format_codes.specs.Groups.{comparison_in_front, condition_of_group, is_color};
+ghost use Rattle.format_codes.specs.Groups.{all_are};
 ghost use Rattle.std.specs.Char.{is_ascii_digit};
 ghost use Rattle.std.specs.List.{list_all};
 ghost use Rattle.format_codes.specs.Groups.{is_color_name, is_numbered_color};

@@ -1,5 +1,6 @@
 //! What the sections of a number format code are.
-ghost use Rattle.std.specs.Prelude.{◌≡◌, ◌≤◌, ◌+◌, ◌&&◌, ◌||◌, count_by, drop, length, nat_lt, not, take};
+ghost use Rattle.std.specs.Prelude.{◌≡◌, ◌≤◌, ◌+◌, ◌&&◌, ◌||◌, count_by, drop, length, nat_lt, not};
+ghost use Rattle.std.specs.Prelude.{take};
 ghost use Rattle.std.specs.List.{after_first, before_first, list_all, position_or_len, prefix_len};
 ghost use Rattle.format_codes.specs.Kinds.{is_digit_or_exponent, is_not_general};
 ghost use Rattle.format_codes.specs.Kinds.{is_general_sound, shows_name, is_date_sound};
@@ -8,7 +9,8 @@ ghost use Rattle.format_codes.specs.Kinds.{denominator_in, is_fixed, is_denomina
 ghost use Rattle.format_codes.specs.Kinds.{is_point_or_percent, is_fraction_sound, is_fraction};
 ghost use Rattle.format_codes.specs.Kinds.{is_no_number, kind_if, undated_kind};
 ghost use Rattle.format_codes.specs.Pieces.{has, is_digit, is_exponent, is_foreign, is_general};
-ghost use Rattle.format_codes.specs.Pieces.{is_figure, is_point, is_second_digits, is_slash, is_time, is_zero};
+ghost use Rattle.format_codes.specs.Pieces.{is_figure, is_point, is_second_digits, is_slash};
+ghost use Rattle.format_codes.specs.Pieces.{is_time, is_zero};
 ghost use Rattle.format_codes.specs.TimedPieces.{digits_of, second_places};
 
 use crate::piece::{CodePiece, TimeUnit};

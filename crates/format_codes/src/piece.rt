@@ -29,7 +29,7 @@ pub enum TimeUnit {
 }
 
 /// How the halves of a day are shown.
-#[derive(Clone, Copy, Debug, PartialEq, Eq)]
+#[derive(Clone, Copy, Debug)]
 pub enum HalfDay {
     /// `AM` before noon, and `PM` from noon on.
     Words,
@@ -55,7 +55,7 @@ pub enum Comparison {
 }
 
 /// A condition on the numbers that a section shows.
-#[derive(Clone, Copy, Debug, PartialEq, Eq)]
+#[derive(Clone, Copy, Debug)]
 pub struct Condition {
     pub comparison: Comparison,
     /// A whole number, and the power of ten that it is taken times.
@@ -63,7 +63,7 @@ pub struct Condition {
 }
 
 /// A piece of a number format code (ECMA-376 part 1, section 18.8.31).
-#[derive(Clone, Copy, Debug, PartialEq, Eq)]
+#[derive(Clone, Copy, Debug)]
 pub enum CodePiece {
     /// A character that stands for itself.
     Literal(char),

@@ -335,7 +335,7 @@ impl FormatSections {
 impl ShownFormat {
     /// Cuts a code once. A code that isn't supported, as one of more than 1,024 bytes, is kept as
     /// such, and no memory is asked for one that is longer.
-    #[tactic(auto, using(crate::proofs::FormatsCut::too_long, crate::proofs::FormatsCut::short_enough))]
+    #[tactic(auto, using(crate::proofs::Kept::too_long, crate::proofs::Kept::short_enough))]
     pub fn parse(alloc: Global, code: &str) -> Result<ShownFormat, AllocError>
         ensures { IfOk result (λ format. IsFormatOf code.now format) }
     {
@@ -356,7 +356,7 @@ impl ShownFormat {
     }
 
     /// The section that shows a number, if the code is supported and one takes the number.
-    #[tactic(auto, using(crate::proofs::FormatsCut::number_told, crate::proofs::FormatsCut::no_number_told))]
+    #[tactic(auto, using(crate::proofs::Kept::number_told, crate::proofs::Kept::no_number_told))]
     pub fn section_for(&self, number: Decimal) -> Option<ChosenSection<'_>>
         ensures { (code : List ℕ) → IsFormatOf code self.now
             → option_map shown_by result ≡ number_section code (number_of number) }
@@ -368,7 +368,7 @@ impl ShownFormat {
     }
 
     /// The section that shows texts, if the code is supported and has one.
-    #[tactic(auto, using(crate::proofs::FormatsCut::texts_told, crate::proofs::FormatsCut::no_texts_told))]
+    #[tactic(auto, using(crate::proofs::Kept::texts_told, crate::proofs::Kept::no_texts_told))]
     pub fn text_section(&self) -> Option<&[CodePiece]>
         ensures { (code : List ℕ) → IsFormatOf code self.now
             → option_map (λ pieces. pieces.now) result ≡ text_section_in code }

@@ -2,7 +2,8 @@
 ghost use Rattle.std.specs.Prelude.{◌≡◌, ◌≤◌, IfOk, length};
 ghost use Rattle.format_codes.specs.Pieces.{has, is_passed};
 ghost use Rattle.format_codes.specs.TimedPieces.{zeros_in_front, next_unit, is_minutes, minutes_if};
-ghost use Rattle.format_codes.specs.TimedPieces.{digits_told, told_piece, place_behind, first_place};
+ghost use Rattle.format_codes.specs.TimedPieces.{digits_told, told_piece, place_behind};
+ghost use Rattle.format_codes.specs.TimedPieces.{first_place};
 ghost use Rattle.format_codes.specs.TimedPieces.{timed_pieces};
 
 use crate::piece::{CodePiece, TimeUnit};

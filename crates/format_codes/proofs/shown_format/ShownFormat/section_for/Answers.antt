@@ -1,7 +1,7 @@
 use Rattle.std.proofs.Common.{◌∙◌, ap, map, sym}
 use Rattle.std.specs.Option.{option_map}
 use Rattle.format_codes.specs.ShownFormats.{kept_section_for, section_kept, sections_kept}
-use Rattle.format_codes.proofs.FormatsCut.{number_told}
+use Rattle.format_codes.proofs.Kept.{number_told}
 use Rattle.format_codes.proofs.shown_format.ShownFormat.section_for.Goals as goal
 
 pub returns-in-Some : goal.returns-in-Some

@@ -1,5 +1,6 @@
 -- What is kept of a code, and the sections that are chosen among what is kept.
-use Rattle.std.proofs.Common.{◌≡◌, ◌<◌, ◌≤◌, ◌&&◌, ℕ, Bool, true, false, cond, List, [], ◌∷◌, length, map}
+use Rattle.std.proofs.Common.{◌≡◌, ◌<◌, ◌≤◌, ◌&&◌, ℕ, Bool, true, false, cond, List, [], ◌∷◌}
+use Rattle.std.proofs.Common.{length, map}
 use Rattle.std.proofs.Common.{refl, sym, ap, ◌∙◌, arith, rules, Option, Some, None, ℤ}
 use Rattle.std.specs.Prelude.{is_none, nat_le, not}
 use Rattle.std.specs.Int.{is_negative, is_positive}
@@ -14,7 +15,8 @@ use Rattle.format_codes.specs.Choosing.{shown_of_kind, shown_pieces, text_sectio
 use Rattle.format_codes.specs.Conditions.{condition_in, leaves_sign_out, takes}
 use Rattle.format_codes.specs.Kinds.{kind_of}
 use Rattle.format_codes.specs.Sections.{shown_sections}
-use Rattle.format_codes.specs.ShownFormats.{KeptSection, KeptSections, first_section, kept_if_supported}
+use Rattle.format_codes.specs.ShownFormats.{KeptSection, KeptSections, first_section}
+use Rattle.format_codes.specs.ShownFormats.{kept_if_supported}
 use Rattle.format_codes.specs.ShownFormats.{kept_if_taken, kept_of_code, kept_of_kind, kept_section}
 use Rattle.format_codes.specs.ShownFormats.{kept_section_for, kept_sections, section_kept}
 use Rattle.format_codes.specs.ShownFormats.{sections_kept, shown_by_kept}
