@@ -4,6 +4,7 @@ use Rattle.std.proofs.Common.{negsuc, ◌<ℤ◌, ◌≤ℤ◌}
 use Rattle.std.specs.Prelude.{nat_abs, nat_lt}
 use Rattle.std.proofs.Math.Nat.{pow-le-pow_right}
 use Rattle.std.proofs.lemmas.Int.{ints}
+use Rattle.decimals.proofs.Rounded.{unit_some}
 use Rattle.excel_dates.proofs.SerialSteps.{by_true, by_false, is_less, not_less}
 use Rattle.std.specs.List.{fold, range_with_len}
 use Rattle.shown_text.specs.declared.fractions.Fraction.{Fraction}
@@ -56,3 +57,5 @@ tiny_size parts n places (pos p) below is many = absurd (omega (arith, ints))
 tiny_size parts n places (negsuc p) below is many =
     sym (by_false (nat_lt p 30) (parted parts n (10 ^ (p + 1))) (unparted parts 0 0)
     (not_less p 30 (omega (arith, is, many))))
+
+pub ruleset size_steps = (unit_some, unit_fits, whole_size, tiny_size)

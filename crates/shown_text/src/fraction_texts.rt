@@ -329,7 +329,7 @@ fn push_unparted(
 }
 
 /// Appends a size in the parts of a section.
-#[tactic(auto, using(decimals::proofs::Rounded::unit_some, crate::proofs::FractionSteps::unit_fits, crate::proofs::FractionSteps::whole_size, crate::proofs::FractionSteps::tiny_size))]
+#[tactic(auto, using(crate::proofs::FractionSteps::size_steps))]
 fn push_parts(out: &mut String, parts: &GivenParts, size: Size) -> Result<(), AllocError>
     ensures ok { OnOk result (string_bytes out.new ≡ string_bytes out.old
         ++ parts_text (parts_in parts.now) size.number size.power) }
