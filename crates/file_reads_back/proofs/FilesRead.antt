@@ -8,23 +8,23 @@ use Rattle.std.proofs.lemmas.List.{get_or-map, length-map}
 use Rattle.std.proofs.Common.{zero, suc}
 use Rattle.zip_writer.specs.Sizes.{taken}
 use Rattle.part_events.specs.Package.{Part}
-use Rattle.zip_writer.specs.Written.{File, written, entry, IsWritable}
+use Rattle.zip_writer.specs.Written.{File, written, entry, IsPlain, IsWritable}
 use Rattle.zip_writer.proofs.Lengths.{length-written}
 use Rattle.zip_archive.specs.Entries.{archive_of}
 use Rattle.zip_archive.specs.Kept.{ArchiveFile}
 use Rattle.zip_archive.specs.Members.{no_entry}
 use Rattle.zip_archive.specs.Opened.{opened}
-use Rattle.zip_reads_back.specs.ReadArchive.{archive_of_files, entries_of, AreBytes, IsPlain}
+use Rattle.zip_reads_back.specs.ReadArchive.{archive_of_files, entries_of, AreBytes}
 use Rattle.zip_reads_back.specs.ReadArchive.{no_file}
 use Rattle.workbook_file.specs.FileParts.{file_parts, longest_part}
-use Rattle.input_package.specs.Reading.{package_in, parts_of_file, begins_as_archive}
+use Rattle.input_package.specs.Reading.{package_in, begins_as_file}
 use Rattle.package_file.specs.PackageFile.{part_file, part_files, package_file}
 use Rattle.file_reads_back.specs.FilePackages.{IsFilePackage}
 use Rattle.file_reads_back.proofs.EntriesNamed.{HoldsFiles, parts_there}
 
 -- what is read of archives that are written
 pub record ArchivesRead : Type 0 where
-  pub entries : (files : List File) → IsWritable files → AreBytes files → IsPlain files →
+  pub entries : (files : List File) → IsWritable files → IsPlain files → AreBytes files →
       archive_of (written files) ≡ Ok (archive_of_files files)
   pub bytes : (files : List File) (i limit : ℕ) → IsWritable files → AreBytes files →
       i < length files → length (slice_index_or files i no_file).bytes ≤ limit →
@@ -33,14 +33,12 @@ pub record ArchivesRead : Type 0 where
       ≡ Ok (slice_index_or files i no_file).bytes
 
 -- an archive begins with the mark of a file's own header
-begins : (file : File) (files : List File) → begins_as_archive (written (file ∷ files)) ≡ true
+begins : (file : File) (files : List File) → begins_as_file (written (file ∷ files)) ≡ true
 unfolding written entry
-begins file files =
-    let long : nat_le 2 (length (written (file ∷ files))) ≡ true = le-leb 2 _ (omega arith) in
-    rw long refl
+begins file files = refl
 
 some_begins : (parts : List Part) → 0 < length parts
-    → begins_as_archive (package_file parts) ≡ true
+    → begins_as_file (package_file parts) ≡ true
 some_begins [] some = absurd (omega arith)
 some_begins (part ∷ parts) some = begins (part_file part) (part_files parts)
 
@@ -74,8 +72,8 @@ package_read laws parts is =
       held = λ i below. laws.bytes files i longest_part writable is.bytes below
           (omega (arith, no_longer files i below, length-written files, is.size));
     } in
-    cond-true (begins_as_archive (package_file parts)) _ _ (some_begins parts is.some)
+    cond-true (begins_as_file (package_file parts)) _ _ (some_begins parts is.some)
     ∙ ap (λ found. option_map (λ archive. let held : ArchiveFile =
     record { file = package_file parts; archive = archive } in file_parts held) (result_ok found))
-    (laws.entries files writable is.bytes is.plain)
+    (laws.entries files writable is.plain is.bytes)
     ∙ ap Some (parts_there parts holds is.cut)

@@ -27,11 +27,10 @@ use Rattle.xlsx_out_as_markup.specs.WrittenPieces.{pieces_of, AreCutBack}
 use Rattle.zip_reads_back.specs.ReadArchive.{AreBytes}
 use Rattle.file_reads_back.specs.FilePackages.{IsFilePackage}
 use Rattle.file_reads_back.proofs.EntriesNamed.{spelled_as_pieces}
-use Rattle.zip_writer.proofs.Lengths.{length-ending}
-use Rattle.zip_archive.specs.Ends.{is_wide}
 use Rattle.zip_archive.specs.Fields.{field}
 use Rattle.zip_archive.specs.Names.{is_foreign}
-use Rattle.zip_reads_back.specs.ReadArchive.{ArePartNames, IsPlain, no_file}
+use Rattle.zip_reads_back.specs.ReadArchive.{ArePartNames}
+use Rattle.xlsx_commands.proofs.PlainSheets.{sheet_parts_plain}
 use Rattle.text_package.specs.PartSpelling.{IsPartText}
 use Rattle.package_file.specs.PackageFile.{part_file, part_files, package_file, longest_file}
 use Rattle.xlsx_out.specs.Groups.{Placed}
@@ -132,70 +131,6 @@ pub sheet_parts_named : (name : List ℕ) (values : PlacedValues) (formulas : Pl
 unfolding written_parts
 sheet_parts_named name values formulas =
     part_names (part_files (written_parts WorkbookFile name values formulas)) refl
-
--- ---- no records of 64 bits
-
--- bytes end so
-record EndIn (bytes tail : List ℕ) : Type 0 where
-  front : List ℕ
-  is : bytes ≡ front ++ tail
-
--- a header ends as its name does
-header_ends : (at : ℕ) (file : File) (before tail : List ℕ) → file.name ≡ before ++ tail
-    → EndIn (header at file) tail
-unfolding header
-header_ends at file before tail is =
-    let front = four 0x02014b50 ++ two 10 ++ said file ++ two 0 ++ two 0 ++ two 0 ++ four 0
-    ++ four at in record {
-      front = front ++ before;
-      is = ap (λ (name : List ℕ). front ++ name) is ∙ sym (append_assoc front before tail);
-    }
-
--- and so does the directory of files of which it is the last
-directory_ends : (at : ℕ) (files : List File) (last : File) (before tail : List ℕ)
-    → last.name ≡ before ++ tail → EndIn (directory at (files ++ last ∷ [])) tail
-directory_ends at [] last before tail is =
-    let own = header_ends at last before tail is in
-    record { front = own.front; is = append-nil (header at last) ∙ own.is }
-directory_ends at (file ∷ files) last before tail is =
-    let more = directory_ends (at + length (entry file)) files last before tail is in record {
-      front = header at file ++ more.front;
-      is = ap (λ (bytes : List ℕ). header at file ++ bytes) more.is
-          ∙ sym (append_assoc (header at file) more.front tail);
-    }
-
--- a directory that ends so is taken for none of an archive with records of 64 bits
-plain_by : (files : List File) (tail : List ℕ) → length tail ≡ 20
-    → EndIn (directory 0 files) tail
-    → (number_of (take 4 tail) == 0x07064b50) ≡ false → IsPlain files
-unfolding written
-plain_by files tail long ends other =
-    let end = ending (length files) (length (directory 0 files)) (length (entries files)) in
-    let front = entries files ++ ends.front in
-    let whole : written files ≡ front ++ (tail ++ end) =
-    ap (λ (bytes : List ℕ). (entries files ++ bytes) ++ end) ends.is
-    ∙ ap (λ (bytes : List ℕ). bytes ++ end)
-    (sym (append_assoc (entries files) ends.front tail))
-    ∙ append_assoc front tail end in
-    let size = length-ending (length files) (length (directory 0 files)) (length (entries files)) in
-    let at : length (written files) - 22 - 20 ≡ length front =
-    omega (arith, ap length whole, length-append front (tail ++ end), length-append tail end) in
-    let here : drop (length (written files) - 22 - 20) (written files) ≡ tail ++ end =
-    (λ i. drop (at i) (whole i)) ∙ drop-append_seam front (tail ++ end) in
-    let mark : number_of (take 4 (drop (length (written files) - 22 - 20) (written files)))
-    ≡ number_of (take 4 tail) =
-    ap (λ (bytes : List ℕ). number_of (take 4 bytes)) here
-    ∙ ap number_of (take-append-le 4 tail end (omega arith)) in
-    and_left _ _ (and_right _ _ (ap (λ n. n == 0x07064b50) mark ∙ other))
-
-pub sheet_parts_plain : (name : List ℕ) (values : PlacedValues) (formulas : Placed)
-    → IsPlain (part_files (written_parts WorkbookFile name values formulas))
-unfolding written_parts
-sheet_parts_plain name values formulas =
-    let files = part_files (written_parts WorkbookFile name values formulas) in
-    let tail = codes "orksheets/sheet1.xml" in
-    plain_by files tail refl
-    (directory_ends 0 (take 5 files) (get_or files 5 no_file) (codes "xl/w") tail refl) refl
 
 -- ---- bytes
 

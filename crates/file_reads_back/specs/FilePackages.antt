@@ -11,7 +11,8 @@ use Rattle.xlsx_out.specs.WrittenSheet.{PlacedValues, written_parts}
 use Rattle.xlsx_out.specs.declared.form.WrittenForm.TheVariants.{WorkbookFile}
 use Rattle.xlsx_reads_back.specs.ReadStyles.{styles_read}
 use Rattle.xlsx_out_as_markup.specs.WrittenPieces.{AreCutBack}
-use Rattle.zip_reads_back.specs.ReadArchive.{AreBytes, ArePartNames, IsPlain}
+use Rattle.zip_reads_back.specs.ReadArchive.{AreBytes, ArePartNames}
+use Rattle.zip_writer.specs.Written.{IsPlain}
 
 -- Parts whose bytes are cut into their events, with names of which no two are one part, in a file
 -- of no more bytes than it may have, which doesn't look like one with records of 64 bits.

@@ -23,7 +23,8 @@ use Rattle.xlsx_out.specs.WrittenSheet.{PlacedValues, written_parts}
 use Rattle.xlsx_out.specs.declared.form.WrittenForm.TheVariants.{WorkbookFile}
 use Rattle.xlsx_commands.specs.Outputs.{FileFails}
 use Rattle.xlsx_commands.specs.ResavedFile.{IsResavedFile, HasNoFile, MakingFails, fits_file}
-use Rattle.xlsx_commands.specs.ResavedFile.{sheet_file}
+use Rattle.xlsx_commands.specs.ResavedFile.{HaveNoArchive, sheet_file}
+use Rattle.xlsx_commands.proofs.PlainSheets.{sheet_parts_plain}
 use Rattle.xlsx_commands.specs.declared.error.ToolError.{ToolError}
 use Rattle.xlsx_commands.specs.declared.error.ToolError.TheVariants as tool
 
@@ -87,9 +88,12 @@ module _ (parts : List Part) (name : List ℕ) (values : Range Data)
         }
     file_made writable named (Err error) is size = tt
 
-    no_fit : ((¬ archive.IsWritable (part_files made)) ⊎ (longest_file < length (package_file made)))
+    no_fit : HaveNoArchive made ⊎ (longest_file < length (package_file made))
         → fits_file name (value_pairs values) (formula_pairs formulas) ≡ false
-    no_fit (inl none) =
+    no_fit (inl (inr none)) =
+        absurd (subst (λ (own : List Part). ¬ archive.IsPlain (part_files own)) written none
+        (sheet_parts_plain name (value_pairs values) (formula_pairs formulas)))
+    no_fit (inl (inl none)) =
         and_right _ _ (too_long name (value_pairs values) (formula_pairs formulas)
         (subst (λ (own : List Part). ¬ archive.IsWritable (part_files own)) written none))
     no_fit (inr long) =

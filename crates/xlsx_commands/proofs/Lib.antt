@@ -8,6 +8,7 @@ pub mod OneListing
 pub mod OutputLemmas
 pub mod PartsNamed
 pub mod PivotsListed
+pub mod PlainSheets
 pub mod PropertiesListed
 pub mod ReadsWritable
 pub mod RowsPlaced

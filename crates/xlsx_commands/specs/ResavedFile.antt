@@ -50,9 +50,14 @@ pub record HasNoFile (parts : List Part) (name : List ℕ) : Type 0 where
   pub reads : ReadsAs parts name values formulas styles
   pub none : fits_file name values formulas ≡ false
 
--- why no workbook file is made of a package of these parts: it would be too long, or want of memory
+-- no archive can have these parts, or one would look like another
+abbrev pub HaveNoArchive : List Part → Type 0
+HaveNoArchive parts =
+    (¬ archive.IsWritable (part_files parts)) ⊎ (¬ archive.IsPlain (part_files parts))
+
+-- why no workbook file is made of a package of these parts: no archive can have them, it would be
+-- too long, or want of memory
 abbrev pub MakingFails : List Part → ToolError → Type 0
-MakingFails parts Unwritable =
-    (¬ archive.IsWritable (part_files parts)) ⊎ (longest_file < length (package_file parts))
+MakingFails parts Unwritable = HaveNoArchive parts ⊎ (longest_file < length (package_file parts))
 MakingFails parts OutOfMemory = Unit {0}
 MakingFails parts _ = ⊥

@@ -30,7 +30,7 @@ fn file_of(alloc: Global, package: &MemoryPackage) -> Result<Vec<u8>, ToolError>
             }
             Err(ToolError::Unwritable)
         }
-        Err(WriteError::TooLarge) => Err(ToolError::Unwritable),
+        Err(WriteError::TooLarge | WriteError::Ambiguous) => Err(ToolError::Unwritable),
         Err(WriteError::OutOfMemory) => Err(ToolError::OutOfMemory),
     }
 }
