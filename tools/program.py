@@ -2,6 +2,7 @@
 
 import contextlib
 import os
+import re
 import resource
 import signal
 import subprocess
@@ -22,6 +23,9 @@ ANSWERS = f"--unproved answers in {UNPROVED}"
 UNPROVED_SAYS = "this answer is not proved; past 1 MiB of lines or a minute's run there is none"
 
 WRITE_FAULT = b"write fault\n"
+
+# What `rt` tells of a run without a proof, behind all that the program said.
+OF_RT = re.compile(rb"run=|(?:checked|interpreted|races): ")
 
 
 class Ended(Exception):
@@ -149,7 +153,7 @@ class Program:
             with child_of(["rt", "try", "--", *words], **given) as child:
                 status = status_of(child)
             errors.seek(0)
-            # The last line tells whether the program ended, and the one before it how.
+            # The last line tells whether the program ended, and those before it how.
             rows = errors.read().splitlines(keepends=True)
             last = b"".join(rows[-1:])
             if not last.startswith(b"run=ended status=%d " % status):
@@ -161,4 +165,6 @@ class Program:
                     shutil.copyfileobj(lines, out)
             except OSError:
                 return 7, WRITE_FAULT
-        return status, b"".join(rows[:-2])
+        while rows and OF_RT.match(rows[-1]):
+            rows.pop()
+        return status, b"".join(rows)
