@@ -126,8 +126,9 @@ class Front:
 
     def refused(self, status, said):
         """What is said of a refusal of the program: where the file is a workbook of another kind,
-        which kind that is."""
-        if self.source.path is not None and self.source.is_repeated():
+        which kind that is. Faults of output and of memory say nothing of the file."""
+        is_of_file = status not in (7, 8) and self.source.path is not None
+        if is_of_file and self.source.is_repeated():
             from kinds import other_kind
 
             other = other_kind(self.source.number())

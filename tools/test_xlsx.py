@@ -778,7 +778,7 @@ class Wrapper(FrontCopy):
             yield ["table", name]
 
     def test_the_samples_answer_as_on_their_whole_texts(self):
-        """What is fed of a workbook gives the bytes, the status and the fault of its whole text."""
+        """A workbook file gives the bytes, the status and the fault of its package text."""
         self.build(PROGRAM)
         for path in sorted((TOP / "samples").glob("*.xlsx")):
             whole = self.run_on(path, "package")[1]
