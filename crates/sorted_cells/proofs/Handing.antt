@@ -1,7 +1,10 @@
 -- Cells that are handed out row by row.
 use Rattle.std.proofs.Common.{◌≡◌, ℕ, zero, suc, ◌+◌, ◌-◌, ◌<◌, ◌≤◌, true, List, ◌∷◌, ◌++◌, length}
-use Rattle.std.proofs.Common.{map, take, drop, refl, sym, ap, ◌∙◌, subst, arith}
-use Rattle.std.proofs.lemmas.List.{drop-drop, length-drop}
+use Rattle.std.proofs.Common.{map, take, drop, reverse, [], Option, Some, None, option_to_list, refl}
+use Rattle.std.proofs.Common.{IsSome, IsNone, ◌↔◌, sym, ap, ◌∙◌, subst, arith}
+use Rattle.std.proofs.lemmas.List.{drop-drop, length-drop, reverse-append, append-nil}
+use Rattle.std.proofs.lemmas.List.{length-reverse}
+use Rattle.equalities.proofs.Equality.{unequal}
 use Rattle.sorted_cells.specs.declared.row.Row.{Row}
 use Rattle.sorted_cells.specs.declared.row.ColumnCell.{ColumnCell}
 use Rattle.sorted_cells.specs.Rows.{row_entry, row_size, cells_by, are_rows, first_of_rows}
@@ -79,3 +82,18 @@ pub fewer : {A : Type 0} {x : A} {all rest : List A} → all ≡ x ∷ rest → 
 fewer {A} {x} {all} {rest} is =
     let count : length all ≡ suc (length rest) = ap (λ (xs : List A). length xs) is in
     omega (arith, count)
+
+-- what leaves at the end comes first the other way round
+pub last_first : {A : Type 0} (left : Option A) (all rest : List A)
+    → all ≡ rest ++ option_to_list left → reverse all ≡ option_to_list left ++ reverse rest
+last_first {A} None all rest is = ap (λ (xs : List A). reverse xs) (is ∙ append-nil rest)
+last_first {A} (Some x) all rest is =
+    ap (λ (xs : List A). reverse xs) is ∙ reverse-append rest (x ∷ [])
+
+-- where nothing leaves, nothing is there
+pub none_left : {A : Type 0} (left : Option A) (all : List A) → IsSome left ↔ (0 < length all)
+    → IsNone left → length (reverse all) ≡ 0
+none_left {A} None [] some none = refl
+none_left {A} None (x ∷ xs) some none =
+    absurd (unequal (some.1 (omega arith)))
+none_left {A} (Some x) all some none = absurd (unequal (sym none))
