@@ -19,7 +19,7 @@ use Rattle.xlsx_parts.specs.PartSaid.{part_said, unless_absent}
 use Rattle.xlsx_relationships.specs.RelatedAsked.{each_related}
 use Rattle.xlsx_relationships.specs.RelationshipErrors.{IsRelatedError}
 use Rattle.xlsx_comments.specs.CommentParts.{Entry, CommentsSaid, entries_in, end_in_entries}
-use Rattle.xlsx_comments.specs.CommentParts.{gathered}
+use Rattle.xlsx_comments.specs.CommentParts.{gathered, told_in_comment}
 
 -- why the comments of a part can't be taken, which may be absent
 abbrev pub CommentsCause : Option (List Event) → XlsxError → Type 0
@@ -40,7 +40,14 @@ IsCommentStartError _ = ⊥
 -- how the end of the part is told in it
 abbrev pub IsCommentsEnd : List ℕ → Type 0
 IsCommentsEnd name =
-    (name ≡ codes "comments") ⊎ (name ≡ codes "author") ⊎ (name ≡ codes "t") ⊎ (name ≡ [])
+    (name ≡ codes "comments") ⊎ (name ≡ codes "author") ⊎ (name ≡ codes "t")
+    ⊎ (name ≡ codes "comment")
+
+-- the refusal of a comment, where that of its text as a string is this one
+abbrev pub IsToldInComment : XlsxError → XlsxError → Type 0
+IsToldInComment (XmlEof element) (XmlEof told) = told.now ≡ told_in_comment element.now
+IsToldInComment (XmlEof element) told = ⊥
+IsToldInComment error told = told ≡ error
 
 -- and those of all comments of a part, whatever the package tells
 abbrev pub IsCommentsError : XlsxError → Type 0

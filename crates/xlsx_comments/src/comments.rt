@@ -125,11 +125,11 @@ impl ReadsRelated for CommentsReader {
 /// ones alone.
 ///
 /// Fails as `related_parts` of this type. A part without a root `comments`, or one that ends in it,
-/// is `XmlEof("comments")`, one that ends in an author `XmlEof("author")`, and one that ends in a
-/// comment `XmlEof` of `t` or of an empty text, as in a string. An end that breaks the nesting, or
-/// a flaw, is `Xml(Break)`, and a reference without a character `Xml(Entity)`, each with its number
-/// in the part, counted from 0. A start that can't be looked up is `XmlAttr`, and a `ref` that
-/// names no cell has the refusal of its text.
+/// is `XmlEof("comments")`, one that ends in an author `XmlEof("author")`, one that ends in a `t`
+/// of a comment `XmlEof("t")`, and one that ends elsewhere in a comment `XmlEof("comment")`. An end
+/// that breaks the nesting, or a flaw, is `Xml(Break)`, and a reference without a character
+/// `Xml(Entity)`, each with its number in the part, counted from 0. A start that can't be looked up
+/// is `XmlAttr`, and a `ref` that names no cell has the refusal of its text.
 pub fn read_sheet_comments<P: Package>(
     xml: &mut XlReader<P>,
     path: &str,
