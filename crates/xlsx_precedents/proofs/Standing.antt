@@ -5,7 +5,7 @@ use Rattle.std.specs.declared.alloc.Global.{Global}
 use Rattle.std.proofs.lemmas.List.Elements.{All-filter, All-map}
 use Rattle.cell_data.specs.Cells.{IsPlacedInSheet, AreInSheet}
 use Rattle.cell_refs.specs.declared.dimensions.Dimensions.{Dimensions}
-use Rattle.list_lines.specs.Lines.{IsCellOfWorksheet}
+use Rattle.list_lines.specs.Inside.{IsCellOfWorksheet}
 use Rattle.xlsx_precedents.specs.Precedents.{formula_entry, named_by, names_cell, dependents_of}
 
 pub named_stand : (cells : List ((ℕ × ℕ) × String Global)) → AreInSheet cells →

@@ -3,7 +3,8 @@ ghost use Rattle.std.specs.Prelude.{◌≡◌, ◌++◌, map, string_bytes, All,
 ghost use Rattle.std.specs.List.{flat_map};
 ghost use Rattle.cell_data.specs.Range.{cells_of};
 ghost use Rattle.escaped_text.specs.Escaped.{Extends};
-ghost use Rattle.list_lines.specs.Lines.{IsCellOfWorksheet, position_line};
+ghost use Rattle.list_lines.specs.Inside.{IsCellOfWorksheet};
+ghost use Rattle.list_lines.specs.Lines.{position_line};
 ghost use Rattle.xlsx_precedents.specs.Lines.{precedents_lines, dependents_lines};
 ghost use Rattle.xlsx_precedents.specs.Precedents.{formula_entry};
 

@@ -1,5 +1,5 @@
 use Rattle.std.proofs.Common.{All, sym, ◌∙◌, subst}
-use Rattle.list_lines.specs.Lines.{IsCellOfWorksheet}
+use Rattle.list_lines.specs.Inside.{IsCellOfWorksheet}
 use Rattle.xlsx_precedents.proofs.Standing.{dependents_stand}
 use Rattle.xlsx_precedents.proofs.lines.push_dependents.Goals as goal
 

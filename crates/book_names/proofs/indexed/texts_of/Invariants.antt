@@ -1,0 +1,6 @@
+use Rattle.std.proofs.Common.{◌≡◌, map, take, string_bytes}
+use Rattle.book_names.proofs.indexed.texts_of.Given as goal
+
+abbrev pub invariant-loop-string : goal.invariant-loop-string
+invariant-loop-string l =
+    map (λ t. t.now) l.texts.items ≡ map string_bytes (take l.string-index l.strings)

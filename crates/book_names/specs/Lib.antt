@@ -1,0 +1,4 @@
+pub mod Book
+pub mod Numbers
+pub mod Structured
+pub mod Told

@@ -1,0 +1,7 @@
+use Rattle.std.proofs.lemmas.Str.{IsCharBoundary-after_ascii}
+use Rattle.formula_tokens.proofs.token.around.Goals as goal
+
+pub split_at-requires : goal.split_at-requires
+split_at-requires c =
+    IsCharBoundary-after_ascii c.args.text.now c.args.place c.utf8.text c.requires.within
+    c.requires.ascii
