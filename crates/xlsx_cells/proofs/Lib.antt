@@ -11,5 +11,6 @@ pub mod RecordEquality
 pub mod Refusing
 pub mod SheetEntered
 pub mod SoundSheet
+pub mod StyledCollected
 pub mod Unstyled
 pub mod WholeReadings

@@ -14,4 +14,5 @@ pub mod Steps
 pub mod Stream
 pub mod StyleIds
 pub mod StyleSteps
+pub mod StyledValues
 pub mod WholeReadings

@@ -2,7 +2,8 @@
 //!
 //! Rooms: `head` (what stands before a sheet's data), `counters` (rows and columns), `finding` (the
 //! next cell), `children` (what stands in a cell), `cell_read` (a cell, whole), `sheet_cursor`
-//! (what is kept of the data), `sheet_cells` (all cells).
+//! (what is kept of the data), `sheet_cells` (all cells), `styled_cells` (all values with their style
+//! ids).
 //!
 //! **Marks.** Of a sheet's data only cells count, and the starts and ends of rows outside them.
 //! `marks` cuts the events of the data into these, and what a sheet says is said over marks: which
@@ -66,6 +67,7 @@ mod head;
 mod laws;
 mod sheet_cells;
 mod sheet_cursor;
+mod styled_cells;
 
 pub use cell_read::{CellRead, CellText, CellWithFormula};
 pub use cell_records::{XlsxCellFormula, XlsxCellFormulaMetadataRecord};
@@ -76,3 +78,4 @@ pub use head::enter_data;
 pub use laws::readings_have_the_same_values;
 pub use sheet_cells::{SheetCells, collect};
 pub use sheet_cursor::{SheetCursor, open_data};
+pub use styled_cells::{StyledValue, collect_styled};

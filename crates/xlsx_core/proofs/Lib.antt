@@ -1,5 +1,6 @@
 pub mod Agreeing
 pub mod BookRead
+pub mod CodesKept
 pub mod CommentsTaken
 pub mod DataTaken
 pub mod LastOfEach
@@ -10,6 +11,8 @@ pub mod RangesRead
 pub mod SheetLaws
 pub mod SheetsListed
 pub mod SheetsRead
+pub mod ShownLaws
+pub mod ShownRead
 pub mod StandingRanges
 pub mod StylesMade
 pub mod TableRanges

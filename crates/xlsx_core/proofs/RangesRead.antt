@@ -65,7 +65,7 @@ data_or_none events section found none =
     ap (option_map (section_from events)) none in
     absurd (cc)
 
-same_values : (grounds : Grounds) (events : List Event) (one two : List ((ℕ × ℕ) × CellValue))
+pub same_values : (grounds : Grounds) (events : List Event) (one two : List ((ℕ × ℕ) × CellValue))
     → AnswersValues grounds events one → AnswersValues grounds events two → one ≡ two
 same_values grounds events one two (inl first) (inl second) =
     let (section, sheet, holds) = first in

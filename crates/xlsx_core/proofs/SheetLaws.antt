@@ -50,6 +50,7 @@ use Rattle.xlsx_core.specs.declared.sheet_reading.SheetReading.{SheetReading}
 -- what two openings of one package have in common
 pub record AreAlike (one two : Opening) : Type 0 where
   pub sheets : one.sheets ≡ two.sheets
+  pub names : one.names ≡ two.names
   pub epoch : one.is_1904 ≡ two.is_1904
 
 -- what is said twice of one section, or of no part
@@ -67,6 +68,7 @@ both_of (Some part) section none_one none_two good_one good_two absent there fir
 nothing_alike : (one two : Opening) → HasNothing one → HasNothing two → AreAlike one two
 nothing_alike one two first second = record {
   sheets = first.sheets ∙ sym second.sheets;
+  names = first.names ∙ sym second.names;
   epoch = first.epoch ∙ sym second.epoch;
 }
 
@@ -75,8 +77,9 @@ opened_alike : (folder : List ℕ) (related : List ℕ → Option Related) (one 
     → IsOpening folder related inside two → AreAlike one two
 opened_alike folder related one two inside first second =
     let sheets : Ok one.sheets ≡ Ok two.sheets = sym first.sheets ∙ second.sheets in
+    let names : Ok one.names ≡ Ok two.names = sym first.names ∙ second.names in
     let epoch : Ok one.is_1904 ≡ Ok two.is_1904 = sym first.epoch ∙ second.epoch in
-    record { sheets = cc; epoch = cc }
+    record { sheets = cc; names = cc; epoch = cc }
 
 same_workbook : (parts : List Part) (path : List ℕ) (related : List ℕ → Option Related)
     (one two : Opening) → HasWorkbook parts path related one
@@ -147,7 +150,7 @@ share_alike parts path one two first second =
       styles = styles.1;
     }
 
-same_shared : (parts : List Part) (one two : Opening) → OpensAs parts one → OpensAs parts two
+pub same_shared : (parts : List Part) (one two : Opening) → OpensAs parts one → OpensAs parts two
     → ShareAlike one.shared two.shared
 same_shared parts one two first second =
     share_alike parts first.path one.shared two.shared first.shared
@@ -175,7 +178,7 @@ same_events parts name one two events others first second is again =
 
 -- ---- one reading
 
-sounds_alike : (grounds : Grounds) (events : List Event) (all more : List ((ℕ × ℕ) × CellValue))
+pub sounds_alike : (grounds : Grounds) (events : List Event) (all more : List ((ℕ × ℕ) × CellValue))
     (written others : List ((ℕ × ℕ) × List FormulaText)) (ids again : List StyledCell)
     → IsSoundSheet grounds events all written ids → IsSoundSheet grounds events more others again
     → (all ≡ more) × (written ≡ others) × (ids ≡ again)

@@ -42,13 +42,13 @@ use Rattle.xlsx_core.specs.declared.sheet_reading.SheetReading.{SheetReading}
 use Rattle.xlsx_core.specs.SheetReading.{SheetFails, PlacedSheetFails}
 use Rattle.xlsx_sections.proofs.Failing.{fails_by_weaker, same_parts}
 
-some_of : {A : Type 0} (o : Option A) (fact : A → Type 0) → IsSomeAnd o fact → (x : A)
+pub some_of : {A : Type 0} (o : Option A) (fact : A → Type 0) → IsSomeAnd o fact → (x : A)
     × (o ≡ Some x) × fact x
 some_of None fact is = absurd is
 some_of (Some x) fact is = (x, refl, is)
 
 -- the path that stands in the list of paths is that of the opening
-listed_is_named : (name : List ℕ) (sheets : List Sheet) (paths : List KeptPath)
+pub listed_is_named : (name : List ℕ) (sheets : List Sheet) (paths : List KeptPath)
     (placed : List PlacedSheet) → map listed_sheet sheets ≡ map without_path placed
     → map path_kept paths ≡ map (λ (sheet : PlacedSheet). sheet.path) placed
     → path_listed name sheets paths ≡ path_named name placed

@@ -8,6 +8,8 @@ pub mod Opened
 pub mod PivotList
 pub mod ReadCells
 pub mod SheetReading
+pub mod ShownCodes
+pub mod ShownSheet
 pub mod TableData
 pub mod TableList
 pub mod Worksheets

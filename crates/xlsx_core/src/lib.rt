@@ -5,7 +5,8 @@
 //! `worksheet_list` (the one that reads all), `placed_sheet` (the sheet of a name, and its part),
 //! `standing` (the last cell of each position, from the header row on), `ranges` (cells as ranges),
 //! `as_read` (the cells of a sheet as they came, and the ranges of them), `sheet_reading`
-//! (`read_sheet`, `read_sheet_values`, `SheetReading`, `SheetAnswer`), `merges` (the calls on
+//! (`read_sheet`, `read_sheet_values`, `SheetReading`, `SheetAnswer`), `shown_codes` (the codes of
+//! styles, each cut once), `shown_sheet` (`read_sheet_shown`), `shown_laws`, `merges` (the calls on
 //! merged cells), `links` (those on hyperlinks), `comments` (the one on comments), `properties`
 //! (the one on properties), `sheet_lists` (the loop over what the sheets say), `table_list` (tables
 //! that are loaded and listed), `table_data` (their data by their names), `pivots` (the call on
@@ -65,6 +66,9 @@ mod properties;
 mod ranges;
 mod sheet_lists;
 mod sheet_reading;
+mod shown_codes;
+mod shown_laws;
+mod shown_sheet;
 mod standing;
 mod table_data;
 mod table_list;
@@ -80,6 +84,8 @@ pub use laws::{
     worksheets_are_listed_or_left_out, worksheets_that_are_read_are_not_refused,
 };
 pub use sheet_reading::{SheetAnswer, SheetReading, ValuesAnswer, read_sheet, read_sheet_values};
+pub use shown_laws::sheets_are_shown_alike;
+pub use shown_sheet::read_sheet_shown;
 pub use table_list::TableNames;
 pub use workbook::Workbook;
 pub use xlsx::{OpenFailure, Xlsx};

@@ -137,7 +137,7 @@ impl<P: Package> Xlsx<P> {
     ///
     /// ```
     /// for area in areas {
-    ///     push_area_line(&mut out, *area)?;
+    ///     push_area_line(&mut out, form, *area)?;
     /// }
     /// ```
     pub fn merge_cells_by_sheet_name(&mut self, name: &str) -> Result<Vec<Dimensions>, XlsxError>

@@ -38,7 +38,7 @@ fn header_area(header_row: HeaderRow, area: Option<Dimensions>) -> Option<Dimens
 }
 
 /// The range of cells from the header row on, which begins with that row where there is a cell.
-fn range_of<T>(cells: SortedCells<T>, header_row: HeaderRow, blank: T) -> Range<T>
+pub fn range_of<T>(cells: SortedCells<T>, header_row: HeaderRow, blank: T) -> Range<T>
     requires { lie_inside (Some (area_below header_row)) (kept_cells cells) ≡ true }
     ensures { IsRangeFrom header_row (kept_cells cells) blank result }
 {

@@ -1,0 +1,31 @@
+ghost use Rattle.std.specs.Prelude.{◌≡◌, ℕ, ℤ, Bool, List, codes, true, false, pos, nat_abs};
+ghost use Rattle.std.specs.Int.{is_negative};
+ghost use Rattle.cell_data.specs.CellValue.{number, text};
+ghost use Rattle.format_codes.specs.declared.piece.CodePiece.{CodePiece};
+ghost use Rattle.format_codes.specs.Choosing.{ShownSection, chosen};
+ghost use Rattle.shown_text.specs.GeneralText.{shown_digits};
+ghost use Rattle.shown_text.specs.ShownText.{shown_text, text_in_section, is_sized, sized_text};
+ghost use Rattle.shown_text_laws.specs.TwoSections.{HasTwoSections};
+
+/// Under `@` a text is shown as it is.
+pub fn texts_stand_at_their_place()
+    ensures { (is_1904 : Bool) (bytes : List ℕ)
+        → shown_text is_1904 (codes "@") (text bytes) ≡ bytes }
+{}
+
+/// Of two sections without conditions the first shows the numbers from 0 on, and the second those
+/// below 0. What a section without a sign shows of a number is what it shows of its size, unless it
+/// is one of dates.
+pub fn sections_go_by_sign()
+    ensures first { (is_1904 : Bool) (code : List ℕ) (first second : List CodePiece)
+        (exact : ℤ × ℤ) → HasTwoSections code first second → is_negative exact.0 ≡ false
+        → shown_text is_1904 code (number exact)
+        ≡ text_in_section is_1904 exact (chosen false first) }
+    ensures second { (is_1904 : Bool) (code : List ℕ) (first second : List CodePiece)
+        (exact : ℤ × ℤ) → HasTwoSections code first second → is_negative exact.0 ≡ true
+        → shown_text is_1904 code (number exact)
+        ≡ text_in_section is_1904 exact (chosen true second) }
+    ensures size { (section : ShownSection) (exact : ℤ × ℤ) → section.unsigned ≡ true
+        → is_sized section (shown_digits exact).1 ≡ true
+        → sized_text section exact ≡ sized_text section (pos (nat_abs exact.0), exact.1) }
+{}

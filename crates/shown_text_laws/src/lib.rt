@@ -1,0 +1,6 @@
+//! The text that is shown of a value: laws over its definitions, and no code.
+#![tactic(auto)]
+
+mod laws;
+
+pub use laws::{sections_go_by_sign, texts_stand_at_their_place};
