@@ -16,6 +16,7 @@ mod SheetPartRead
 mod SheetHeld
 mod RootsRead
 mod PackageRead
+mod DerivedWritten
 mod WorkbookRead
 mod StylesRead
 mod SharedRead

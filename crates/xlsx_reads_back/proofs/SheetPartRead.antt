@@ -1,7 +1,7 @@
 -- The part of a written sheet is sound, and says the values, the formulas and the style ids.
-use Rattle.std.proofs.Common.{◌≡◌, true, List, [], ◌∷◌, ◌++◌, Some, None}
+use Rattle.std.proofs.Common.{◌≡◌, Bool, true, List, [], ◌∷◌, ◌++◌, Some, None}
 use Rattle.std.proofs.Common.{sym, ap, ◌∙◌, append_assoc, append-nil}
-use Rattle.std.specs.Prelude.{Ok, codes, option_map}
+use Rattle.std.specs.Prelude.{Ok, codes, option_and_then, option_map, if◌then◌else◌}
 use Rattle.std.specs.List.{flat_map}
 use Rattle.part_events.specs.Event.{Event, end}
 use Rattle.part_events.specs.Nesting.{whole}
@@ -11,7 +11,7 @@ use Rattle.written_markup.specs.Nests.{IsNested}
 use Rattle.written_markup.proofs.Nested.{nested_element, flat_map_nested, nests_itself}
 use Rattle.written_markup.proofs.Nested.{content_of_element, element_is_closed}
 use Rattle.xlsx_sections.specs.PartSection.{PartSection, section_in, section_from, inside_of}
-use Rattle.xlsx_sections.specs.PartSection.{has_end}
+use Rattle.xlsx_sections.specs.PartSection.{closed_section, has_end, if_closed}
 use Rattle.xlsx_cells.specs.Head.{dimensions_in}
 use Rattle.cell_refs.specs.Reference.{row_reference}
 use Rattle.xlsx_out.specs.Groups.{Placed}
@@ -85,3 +85,15 @@ module _ (form : WrittenForm) (values : PlacedValues) (formulas : Placed) where
       ap (content 0) behind_is
       ∙ content_of_element (data_events form values formulas) (codes "sheetData")
       (end (codes "worksheet") ∷ []) data_nested
+
+  -- the data are what stands in their section
+  pub data_stands :
+      closed_section (codes "sheetData") (sheet_events form values formulas)
+      ≡ Some (data_events form values formulas)
+  data_stands =
+      ap (λ (es : List Event).
+      option_and_then if_closed (behind_start (is_named (codes "sheetData" ∷ [])) es))
+      sheet_is_whole
+      ∙ ap (λ (closed : Bool). if closed then Some (inside_of written_section) else None)
+      data_closed
+      ∙ ap (λ (es : List Event). Some es) data_inside

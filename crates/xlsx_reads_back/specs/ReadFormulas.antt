@@ -1,10 +1,16 @@
 -- What is read of formulas as they are written.
-use Rattle.std.specs.Prelude.{ℕ, Bool, true, false, List, [], ◌∷◌, map, Option, Some, None}
+use Rattle.std.specs.Prelude.{ℕ, Bool, true, false, not, ◌&&◌, List, [], ◌∷◌, map, codes}
+use Rattle.std.specs.Prelude.{Option, Some, None, IsSomeAnd, IsOkAnd}
+use Rattle.std.specs.List.{list_any}
 use Rattle.cell_refs.specs.declared.dimensions.Dimensions.{Dimensions}
+use Rattle.part_events.specs.Package.{Part}
+use Rattle.xlsx_cells.specs.Sheet.{formulas_written}
+use Rattle.xlsx_sections.specs.PartSection.{closed_section_of}
 use Rattle.xlsx_formulas.specs.Formula.{Sharing, FormulaText, own, master, derived}
 use Rattle.xlsx_out.specs.Groups as out
 use Rattle.xlsx_out.specs.declared.form.WrittenForm.{WrittenForm}
 use Rattle.xlsx_out.specs.Groups.{Placed, formula_placed, WrittenFormula, written_formula}
+use Rattle.xlsx_out.specs.Groups.{group_head, is_placed, is_same}
 
 -- the area of a group: from its first cell down to a last row
 abbrev pub area_down : ℕ × ℕ → ℕ → Dimensions
@@ -45,3 +51,23 @@ is_shared_on (derived index) = true
 -- a formula has no text of its own, but that of its group
 abbrev pub is_derived : FormulaText → Bool
 is_derived found = is_shared_on found.sharing
+
+-- a position, and whether a formula that is read of it is a derived one
+abbrev pub derived_at : (ℕ × ℕ) × List FormulaText → (ℕ × ℕ) × Bool
+derived_at entry = (entry.0, list_any is_derived entry.1)
+
+-- a formula stands at a position, and its head is another
+abbrev pub has_other_head : Placed → ℕ × ℕ → Bool
+has_other_head formulas position =
+    is_placed (formula_placed formulas position)
+    && not (is_same (group_head formulas position) position)
+
+-- a position, and whether that is so there
+abbrev pub with_other_head : Placed → ℕ × ℕ → (ℕ × ℕ) × Bool
+with_other_head formulas position = (position, has_other_head formulas position)
+
+-- a fact of the formulas that the data of the sheet in a written package say
+abbrev pub SaysFormulas : List Part → (List ((ℕ × ℕ) × List FormulaText) → Type 0) → Type 0
+SaysFormulas parts fact =
+    IsSomeAnd (closed_section_of (codes "sheetData") (codes "xl/worksheets/sheet1.xml") parts)
+    (λ inside. IsOkAnd (formulas_written inside) fact)

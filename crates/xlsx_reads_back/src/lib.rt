@@ -13,8 +13,9 @@
 //! kind), `FormulaTexts` (a formula by its sharing), `CellsRead` (a cell, whatever stands before
 //! it). *Data*: `DataRead` (what each cell gives by itself is what the data give), `SheetBounds`
 //! (what lies on a sheet, and fits), `SheetRead`, `ValuesPlaced`. *The sheet's part*:
-//! `SheetPartRead`, `SheetHeld`. *The package*: `RootsRead`, `PackageRead`, `WorkbookRead`,
-//! `StylesRead`, `SharedRead`, and with the values that are writable (`CellsValued`) and what
+//! `SheetPartRead`, `SheetHeld`. *The package*: `RootsRead`, `PackageRead`, `DerivedWritten`
+//! (which formulas of the sheet's part are derived ones), `WorkbookRead`, `StylesRead`,
+//! `SharedRead`, and with the values that are writable (`CellsValued`) and what
 //! ranges keep (`RangesPlaced`) all of it (`WholeRead`).
 #![tactic(auto)]
 
