@@ -1,102 +1,89 @@
--- The lines of lists: texts with tabs between them.
-use Rattle.std.specs.Prelude.{ℕ, ◌<◌, List, ◌++◌, codes, Option, Some, None}
-use Rattle.std.specs.List.{flat_map}
-use Rattle.cell_refs.specs.A1.{row_limit, column_limit}
-use Rattle.cell_refs.specs.Reference.{reference}
+-- The lines of lists: of each list the fields, under their keys.
+use Rattle.std.specs.Prelude.{ℕ, List, [], ◌∷◌, codes, Option}
 use Rattle.cell_refs.specs.declared.dimensions.Dimensions.{Dimensions}
-use Rattle.escaped_text.specs.Escaped.{escaped}
-
--- a field of a line behind its first
-abbrev pub next_field : List ℕ → List ℕ
-next_field field = codes "\t" ++ field
+use Rattle.list_lines.specs.Fields.{Field, keyed, line, nothing, texts, areas, word, text, marked}
+use Rattle.list_lines.specs.Fields.{optional, position, area, optional_area}
+use Rattle.list_lines.specs.declared.content.LineForm.{LineForm}
+use Rattle.list_lines.specs.declared.content.LineForm.TheVariants.{Text}
 
 -- the line of a sheet: its name, its type and its state, both in words
-abbrev pub sheet_line : List ℕ → List ℕ → List ℕ → List ℕ
-sheet_line name typ state = escaped name ++ (next_field typ ++ (next_field state ++ codes "\n"))
+abbrev pub sheet_line : LineForm → List ℕ → List ℕ → List ℕ → List ℕ
+sheet_line form name typ state =
+    line form
+    (keyed (codes "name") (text name) ∷ keyed (codes "type") (word typ)
+    ∷ keyed (codes "state") (word state) ∷ [])
+    nothing
 
 -- the line of a text alone: of the name of a part
 abbrev pub text_line : List ℕ → List ℕ
-text_line text = escaped text ++ codes "\n"
+text_line own = line Text (keyed (codes "text") (text own) ∷ []) nothing
 
--- the line of two texts: of a defined name and what it stands for, or of the sheet of a pivot table
--- and its name
-abbrev pub pair_line : List ℕ → List ℕ → List ℕ
-pair_line first second = escaped first ++ (next_field (escaped second) ++ codes "\n")
+-- the line of a defined name: the name and what it stands for
+abbrev pub name_line : LineForm → List ℕ → List ℕ → List ℕ
+name_line form name formula =
+    line form
+    (keyed (codes "name") (text name) ∷ keyed (codes "formula") (text formula) ∷ []) nothing
 
--- a text that is there, which may be empty
-abbrev pub text_field : List ℕ → List ℕ
-text_field text = codes "=" ++ escaped text
-
--- one that may be missing
-abbrev pub optional_field : Option (List ℕ) → List ℕ
-optional_field None = codes "-"
-optional_field (Some text) = text_field text
-
--- the row and the column are those of a cell of a worksheet
-abbrev pub IsCellOfWorksheet : ℕ × ℕ → Type 0
-IsCellOfWorksheet position = (position.0 < row_limit) × (position.1 < column_limit)
-
--- both corners of an area are such cells
-abbrev pub LiesInWorksheet : Dimensions → Type 0
-LiesInWorksheet area = IsCellOfWorksheet area.start × IsCellOfWorksheet area.end
-
--- an area by its two corners, as they were written
-abbrev pub area_field : Dimensions → List ℕ
-area_field area = reference area.start ++ (codes ":" ++ reference area.end)
+-- the line of a pivot table: its sheet and its name
+abbrev pub pivot_line : LineForm → List ℕ → List ℕ → List ℕ
+pivot_line form sheet name =
+    line form
+    (keyed (codes "sheet") (text sheet) ∷ keyed (codes "name") (text name) ∷ []) nothing
 
 -- the line of an area
-abbrev pub area_line : Dimensions → List ℕ
-area_line area = area_field area ++ codes "\n"
+abbrev pub area_line : LineForm → Dimensions → List ℕ
+area_line form own = line form (keyed (codes "area") (area own) ∷ []) nothing
 
 -- the line of a link: its area, its target, its location, its displayed text and its tooltip
 abbrev pub link_line :
-    Dimensions → Option (List ℕ) → Option (List ℕ) → Option (List ℕ) → Option (List ℕ) → List ℕ
-link_line area target location displayed tooltip =
-    area_field area
-    ++ (next_field (optional_field target) ++ (next_field (optional_field location)
-    ++ (next_field (optional_field displayed) ++ (next_field (optional_field tooltip)
-    ++ codes "\n"))))
+    LineForm → Dimensions → Option (List ℕ) → Option (List ℕ) → Option (List ℕ)
+    → Option (List ℕ) → List ℕ
+link_line form own target location displayed tooltip =
+    line form
+    (keyed (codes "area") (area own) ∷ keyed (codes "target") (optional target)
+    ∷ keyed (codes "location") (optional location)
+    ∷ keyed (codes "displayed") (optional displayed)
+    ∷ keyed (codes "tooltip") (optional tooltip) ∷ [])
+    nothing
 
 -- the line of a comment: the position of its cell, its author and its text
-abbrev pub comment_line : ℕ × ℕ → Option (List ℕ) → List ℕ → List ℕ
-comment_line position author text =
-    reference position
-    ++ (next_field (optional_field author) ++ (next_field (text_field text) ++ codes "\n"))
+abbrev pub comment_line : LineForm → ℕ × ℕ → Option (List ℕ) → List ℕ → List ℕ
+comment_line form cell author own =
+    line form
+    (keyed (codes "cell") (position cell) ∷ keyed (codes "author") (optional author)
+    ∷ keyed (codes "text") (marked (codes "=") own) ∷ [])
+    nothing
 
 -- the line of a property, by the name of its field and its text
-abbrev pub property_line : List ℕ → List ℕ → List ℕ
-property_line name text = name ++ (next_field (text_field text) ++ codes "\n")
+abbrev pub property_line : LineForm → List ℕ → List ℕ → List ℕ
+property_line form name own =
+    line form
+    (keyed (codes "name") (word name) ∷ keyed (codes "text") (marked (codes "=") own) ∷ [])
+    nothing
 
 -- the line of a property that a user named
-abbrev pub custom_line : List ℕ → List ℕ → List ℕ
-custom_line name text =
-    codes "custom:" ++ (escaped name ++ (next_field (text_field text) ++ codes "\n"))
-
--- an area that may be missing
-abbrev pub optional_area : Option Dimensions → List ℕ
-optional_area None = codes "-"
-optional_area (Some area) = area_field area
-
--- a field for each name of a column
-abbrev pub column_fields : List (List ℕ) → List ℕ
-column_fields columns = flat_map (λ name. next_field (escaped name)) columns
+abbrev pub custom_line : LineForm → List ℕ → List ℕ → List ℕ
+custom_line form name own =
+    line form
+    (keyed (codes "custom") (marked (codes "custom:") name)
+    ∷ keyed (codes "text") (marked (codes "=") own) ∷ [])
+    nothing
 
 -- the line of a table: its name, that of its sheet, the area of its data and the names of its
 -- columns
-abbrev pub table_line : List ℕ → List ℕ → Option Dimensions → List (List ℕ) → List ℕ
-table_line name sheet area columns =
-    escaped name
-    ++ (next_field (escaped sheet) ++ (next_field (optional_area area)
-    ++ (column_fields columns ++ codes "\n")))
-
--- a field for each area
-abbrev pub area_fields : List Dimensions → List ℕ
-area_fields areas = flat_map (λ area. next_field (area_field area)) areas
+abbrev pub table_line :
+    LineForm → List ℕ → List ℕ → Option Dimensions → List (List ℕ) → List ℕ
+table_line form name sheet own columns =
+    line form
+    (keyed (codes "name") (text name) ∷ keyed (codes "sheet") (text sheet)
+    ∷ keyed (codes "area") (optional_area own) ∷ [])
+    (texts (codes "columns") columns)
 
 -- the line of a position alone
 abbrev pub position_line : ℕ × ℕ → List ℕ
-position_line position = reference position ++ codes "\n"
+position_line own = line Text (keyed (codes "cell") (position own) ∷ []) nothing
 
 -- the line of a position and areas: of a cell and what its formula names
 abbrev pub position_areas_line : ℕ × ℕ → List Dimensions → List ℕ
-position_areas_line position areas = reference position ++ (area_fields areas ++ codes "\n")
+position_areas_line own named =
+    line Text (keyed (codes "cell") (position own) ∷ []) (areas (codes "areas") named)

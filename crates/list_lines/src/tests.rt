@@ -1,5 +1,5 @@
 use crate::{
-    push_area_line, push_comment_line, push_custom_line, push_link_line, push_pair_line,
+    LineForm, push_area_line, push_comment_line, push_custom_line, push_link_line, push_name_line,
     push_position_areas_line, push_position_line, push_property_line, push_sheet_line,
     push_table_line, push_text_line,
 };
@@ -14,10 +14,10 @@ fn lists_have_their_lines(rt: HostRuntime) -> Result<(), Fail> {
         ("tab\there\\", "chartsheet", "visible"),
         ("", "dialogsheet", "veryHidden"),
     ] {
-        push_sheet_line(&mut out, name, typ, state)?;
+        push_sheet_line(&mut out, LineForm::Text, name, typ, state)?;
     }
     for (name, text) in [("Q", "S!$A$1"), ("two\nlines", "\r"), ("", "")] {
-        push_pair_line(&mut out, name, text)?;
+        push_name_line(&mut out, LineForm::Text, name, text)?;
     }
     let wanted = "lists:\nS\tworksheet\thidden\ntab\\there\\\\\tchartsheet\tvisible\n\
         \tdialogsheet\tveryHidden\nQ\tS!$A$1\ntwo\\nlines\t\\r\n\t\n";
@@ -38,14 +38,22 @@ const TURNED: Dimensions = Dimensions {
 #[test]
 fn areas_and_links_have_their_lines(rt: HostRuntime) -> Result<(), Fail> {
     let mut out = String::from_str(rt.alloc(), "lists:\n")?;
-    push_area_line(&mut out, ONE_CELL)?;
-    push_area_line(&mut out, TURNED)?;
+    push_area_line(&mut out, LineForm::Text, ONE_CELL)?;
+    push_area_line(&mut out, LineForm::Text, TURNED)?;
     for (target, tooltip) in [
         (Some("https://example.com"), Some("a&b")),
         (None, Some("")),
         (Some("tab\there"), None),
     ] {
-        push_link_line(&mut out, ONE_CELL, target, None, Some("back\\"), tooltip)?;
+        push_link_line(
+            &mut out,
+            LineForm::Text,
+            ONE_CELL,
+            target,
+            None,
+            Some("back\\"),
+            tooltip,
+        )?;
     }
     let wanted = "lists:\nD1:D1\nXFD1048576:A1\n\
         D1:D1\t=https://example.com\t-\t=back\\\\\t=a&b\n\
@@ -59,7 +67,7 @@ fn areas_and_links_have_their_lines(rt: HostRuntime) -> Result<(), Fail> {
 fn comments_have_their_lines(rt: HostRuntime) -> Result<(), Fail> {
     let mut out = String::from_str(rt.alloc(), "lists:\n")?;
     for (author, text) in [(Some("Ann"), "two\nlines"), (Some(""), ""), (None, "-")] {
-        push_comment_line(&mut out, (1_048_575, 16_383), author, text)?;
+        push_comment_line(&mut out, LineForm::Text, (1_048_575, 16_383), author, text)?;
     }
     let wanted = "lists:\nXFD1048576\t=Ann\t=two\\nlines\nXFD1048576\t=\t=\n\
         XFD1048576\t-\t=-\n";
@@ -70,9 +78,9 @@ fn comments_have_their_lines(rt: HostRuntime) -> Result<(), Fail> {
 #[test]
 fn properties_have_their_lines(rt: HostRuntime) -> Result<(), Fail> {
     let mut out = String::from_str(rt.alloc(), "lists:\n")?;
-    push_property_line(&mut out, "creator", "Ann & Bo")?;
+    push_property_line(&mut out, LineForm::Text, "creator", "Ann & Bo")?;
     for (name, text) in [("Checked", "true"), ("two\nlines", "\r"), ("", "")] {
-        push_custom_line(&mut out, name, text)?;
+        push_custom_line(&mut out, LineForm::Text, name, text)?;
     }
     let wanted = "lists:\ncreator\t=Ann & Bo\ncustom:Checked\t=true\n\
         custom:two\\nlines\t=\\r\ncustom:\t=\n";
@@ -84,11 +92,18 @@ fn properties_have_their_lines(rt: HostRuntime) -> Result<(), Fail> {
 fn tables_have_their_lines(rt: HostRuntime) -> Result<(), Fail> {
     let mut out = String::from_str(rt.alloc(), "lists:\n")?;
     let mut columns = Vec::new(rt.alloc());
-    push_table_line(&mut out, "T1", "S", None, &columns)?;
+    push_table_line(&mut out, LineForm::Text, "T1", "S", None, &columns)?;
     for name in ["Name", "two\nlines", ""] {
         columns.push(String::from_str(rt.alloc(), name)?)?;
     }
-    push_table_line(&mut out, "tab\there", "back\\", Some(ONE_CELL), &columns)?;
+    push_table_line(
+        &mut out,
+        LineForm::Text,
+        "tab\there",
+        "back\\",
+        Some(ONE_CELL),
+        &columns,
+    )?;
     let wanted = "lists:\nT1\tS\t-\ntab\\there\tback\\\\\tD1:D1\tName\ttwo\\nlines\t\n";
     assert_eq!(rt; out.as_str(), wanted);
     Ok(())

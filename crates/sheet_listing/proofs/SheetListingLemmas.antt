@@ -33,8 +33,11 @@ use Rattle.cell_data.specs.declared.value.Data.{Data}
 use Rattle.cell_styles.specs.StyleItems.{styled_entry, style_named, RiseOnSheet}
 use Rattle.cell_styles.specs.StyleMap.{StyledCell, StyleMap, style_at}
 use Rattle.cell_styles.specs.declared.style.Style.{Style}
-use Rattle.sheet_listing.specs.SheetListing.{line_of, value_placed, formula_placed, id_placed}
-use Rattle.sheet_listing.specs.SheetListing.{lines_with, fill_field, cell_values, cell_formulas}
+use Rattle.list_lines.specs.declared.content.LineForm.{LineForm}
+use Rattle.list_lines.specs.declared.content.LineForm.TheVariants.{Text, Json}
+use Rattle.sheet_listing.specs.CellObjects.{line_in, lines_in}
+use Rattle.sheet_listing.specs.SheetListing.{value_placed, formula_placed, id_placed}
+use Rattle.sheet_listing.specs.SheetListing.{lines_with, cell_values, cell_formulas}
 use Rattle.sheet_listing.specs.SheetListing.{value_given, formula_given, id_given}
 use Rattle.sheet_listing.specs.SheetListing.{IsFirstOf, used_positions}
 
@@ -65,12 +68,17 @@ module _ {X Y Z : Type 0} where
       (used_both p (is_some f) (is_some d) (used (given p f ++ fs)) (used fs)
       (used (given p d ++ ds)) (used ds) (used_given p f fs) (used_given p d ds))
 
-module _ (style : ℕ × ℕ → ℕ → Option Style) where
+-- a position that has nothing has no line
+no_line : (form : LineForm) (p : ℕ × ℕ) (own : Option Style) → line_in form p nothing [] 0 own ≡ []
+no_line Text p own = refl
+no_line Json p own = refl
+
+module _ (form : LineForm) (style : ℕ × ℕ → ℕ → Option Style) where
   line_at : List ((ℕ × ℕ) × CellValue) → List ((ℕ × ℕ) × List ℕ) → List ((ℕ × ℕ) × ℕ) →
       ℕ × ℕ → List ℕ
   line_at values formulas ids q =
-      line_of q (value_placed q values) (formula_placed q formulas) (id_placed q ids)
-      (fill_field (style q (id_placed q ids)))
+      line_in form q (value_placed q values) (formula_placed q formulas) (id_placed q ids)
+      (style q (id_placed q ids))
 
   lines_past : (p : ℕ × ℕ) (v : Option CellValue) (f : Option (List ℕ)) (d : Option ℕ)
       (vs : List ((ℕ × ℕ) × CellValue)) (fs : List ((ℕ × ℕ) × List ℕ))
@@ -87,8 +95,8 @@ module _ (style : ℕ × ℕ → ℕ → Option Style) where
       let formula = past p f e.0 fs own in
       let id = past p d e.0 ds own in
       let rest = lines_past p v f d vs fs ds es others in
-      λ i. line_of e.0 (unwrap_or (value i) nothing) (unwrap_or (formula i) [])
-      (unwrap_or (id i) 0) (fill_field (style e.0 (unwrap_or (id i) 0))) ++ rest i
+      λ i. line_in form e.0 (unwrap_or (value i) nothing) (unwrap_or (formula i) [])
+      (unwrap_or (id i) 0) (style e.0 (unwrap_or (id i) 0)) ++ rest i
 
   some_step : (p : ℕ × ℕ) (v : Option CellValue) (f : Option (List ℕ)) (d : Option ℕ)
       (vs : List ((ℕ × ℕ) × CellValue)) (fs : List ((ℕ × ℕ) × List ℕ))
@@ -96,11 +104,11 @@ module _ (style : ℕ × ℕ → ℕ → Option Style) where
       (is_some v || (is_some f || is_some d)) ≡ true →
       below_all position_cmp p vs ≡ true → below_all position_cmp p fs ≡ true →
       below_all position_cmp p ds ≡ true →
-      lines_with style (given p v ++ vs) (given p f ++ fs) (given p d ++ ds)
-      ≡ line_of p (unwrap_or v nothing) (unwrap_or f []) (unwrap_or d 0)
-      (fill_field (style p (unwrap_or d 0)))
-      ++ lines_with style vs fs ds
-  unfolding lines_with line_at
+      lines_in form style (given p v ++ vs) (given p f ++ fs) (given p d ++ ds)
+      ≡ line_in form p (unwrap_or v nothing) (unwrap_or f []) (unwrap_or d 0)
+      (style p (unwrap_or d 0))
+      ++ lines_in form style vs fs ds
+  unfolding lines_in line_at
   some_step p v f d vs fs ds some in_values in_formulas in_ids =
       let below = below_places p vs fs ds in_values in_formulas in_ids in
       let rest : List ((ℕ × ℕ) × Unit {0}) =
@@ -115,19 +123,20 @@ module _ (style : ℕ × ℕ → ℕ → Option Style) where
       (first_entries p (is_some v || (is_some f || is_some d))
       (places (given p v ++ vs) (given p f ++ fs) (given p d ++ ds)) (places vs fs ds)
       (adds_places p v f d vs fs ds) some below)
-      ∙ (λ i. line_of p (unwrap_or (value i) nothing) (unwrap_or (formula i) [])
-      (unwrap_or (id i) 0) (fill_field (style p (unwrap_or (id i) 0))) ++ further i)
+      ∙ (λ i. line_in form p (unwrap_or (value i) nothing) (unwrap_or (formula i) [])
+      (unwrap_or (id i) 0) (style p (unwrap_or (id i) 0)) ++ further i)
 
   listing_step : (p : ℕ × ℕ) (v : Option CellValue) (f : Option (List ℕ)) (d : Option ℕ)
       (vs : List ((ℕ × ℕ) × CellValue)) (fs : List ((ℕ × ℕ) × List ℕ))
       (ds : List ((ℕ × ℕ) × ℕ)) →
       below_all position_cmp p vs ≡ true → below_all position_cmp p fs ≡ true →
       below_all position_cmp p ds ≡ true →
-      lines_with style (given p v ++ vs) (given p f ++ fs) (given p d ++ ds)
-      ≡ line_of p (unwrap_or v nothing) (unwrap_or f []) (unwrap_or d 0)
-      (fill_field (style p (unwrap_or d 0)))
-      ++ lines_with style vs fs ds
-  listing_step p None None None vs fs ds in_values in_formulas in_ids = refl
+      lines_in form style (given p v ++ vs) (given p f ++ fs) (given p d ++ ds)
+      ≡ line_in form p (unwrap_or v nothing) (unwrap_or f []) (unwrap_or d 0)
+      (style p (unwrap_or d 0))
+      ++ lines_in form style vs fs ds
+  listing_step p None None None vs fs ds in_values in_formulas in_ids =
+      ap (λ own. own ++ lines_in form style vs fs ds) (sym (no_line form p (style p 0)))
   listing_step p None None (Some d) vs fs ds in_values in_formulas in_ids =
       some_step p None None (Some d) vs fs ds refl in_values in_formulas in_ids
   listing_step p None (Some f) d vs fs ds in_values in_formulas in_ids =
@@ -144,26 +153,25 @@ formula_found p formulas found same =
 
 -- the lines of cells that are left
 abbrev pub lines_left :
-    (ℕ × ℕ → ℕ → Option Style) → List ((ℕ × ℕ) × Data) → List ((ℕ × ℕ) × String Global) →
+    LineForm → (ℕ × ℕ → ℕ → Option Style) → List ((ℕ × ℕ) × Data) → List ((ℕ × ℕ) × String Global) →
     List ((ℕ × ℕ) × ℕ) → List ℕ
-lines_left style values formulas ids =
-    lines_with style (cell_values values) (cell_formulas formulas) ids
+lines_left form style values formulas ids =
+    lines_in form style (cell_values values) (cell_formulas formulas) ids
 
-cells_step : (style : ℕ × ℕ → ℕ → Option Style) (p : ℕ × ℕ)
+cells_step : (form : LineForm) (style : ℕ × ℕ → ℕ → Option Style) (p : ℕ × ℕ)
     (v : Option Data) (f : Option (String Global)) (d : Option ℕ)
     (values vs : List ((ℕ × ℕ) × Data)) (formulas fs : List ((ℕ × ℕ) × String Global))
     (ids ds : List ((ℕ × ℕ) × ℕ)) →
     Splits p values v vs → Splits p formulas f fs → Splits p ids d ds →
-    lines_left style values formulas ids
-    ≡ line_of p (value_given v) (formula_given f) (id_given d)
-    (fill_field (style p (id_given d)))
-    ++ lines_left style vs fs ds
-cells_step style p v f d values vs formulas fs ids ds splits_v splits_f splits_d =
+    lines_left form style values formulas ids
+    ≡ line_in form p (value_given v) (formula_given f) (id_given d) (style p (id_given d))
+    ++ lines_left form style vs fs ds
+cells_step form style p v f d values vs formulas fs ids ds splits_v splits_f splits_d =
     let seen_v = ap cell_values splits_v.whole ∙ meant_given value_of_data p v vs in
     let seen_f = ap cell_formulas splits_f.whole ∙ meant_given string_bytes p f fs in
     let seen_d = splits_d.whole in
-    (λ i. lines_with style (seen_v i) (seen_f i) (seen_d i))
-    ∙ listing_step style p (option_map value_of_data v) (option_map string_bytes f) d
+    (λ i. lines_in form style (seen_v i) (seen_f i) (seen_d i))
+    ∙ listing_step form style p (option_map value_of_data v) (option_map string_bytes f) d
     (cell_values vs) (cell_formulas fs) ds (meant_below value_of_data p vs ∙ splits_v.below)
     (meant_below string_bytes p fs ∙ splits_f.below) splits_d.below
 
@@ -174,36 +182,37 @@ goes_on old new line rest left whole printed taken same =
     rw (printed, append_assoc, ← taken) same
 
 -- the same with the line of a position
-pub lines_on : (style : ℕ × ℕ → ℕ → Option Style) (p : ℕ × ℕ)
+pub lines_on : (form : LineForm) (style : ℕ × ℕ → ℕ → Option Style) (p : ℕ × ℕ)
     (v : Option Data) (f : Option (String Global)) (d : Option ℕ) (found : Option Style)
     (values vs : List ((ℕ × ℕ) × Data)) (formulas fs : List ((ℕ × ℕ) × String Global))
     (ids ds : List ((ℕ × ℕ) × ℕ)) (old new whole : List ℕ) →
     Splits p values v vs → Splits p formulas f fs → Splits p ids d ds →
     found ≡ style p (id_given d) →
-    new ≡ old ++ line_of p (value_given v) (formula_given f) (id_given d) (fill_field found) →
-    old ++ lines_left style values formulas ids ≡ whole →
-    new ++ lines_left style vs fs ds ≡ whole
-lines_on style p v f d found values vs formulas fs ids ds old new whole splits_v splits_f splits_d
+    new ≡ old ++ line_in form p (value_given v) (formula_given f) (id_given d) found →
+    old ++ lines_left form style values formulas ids ≡ whole →
+    new ++ lines_left form style vs fs ds ≡ whole
+lines_on form style p v f d found values vs formulas fs ids ds old new whole splits_v splits_f splits_d
     is printed same =
     let line : Option Style → List ℕ =
-    λ found. line_of p (value_given v) (formula_given f) (id_given d) (fill_field found) in
-    goes_on old new (line (style p (id_given d))) (lines_left style vs fs ds)
-    (lines_left style values formulas ids) whole (printed ∙ ap (λ found. old ++ line found) is)
-    (cells_step style p v f d values vs formulas fs ids ds splits_v splits_f splits_d) same
+    λ found. line_in form p (value_given v) (formula_given f) (id_given d) found in
+    goes_on old new (line (style p (id_given d))) (lines_left form style vs fs ds)
+    (lines_left form style values formulas ids) whole (printed ∙ ap (λ found. old ++ line found) is)
+    (cells_step form style p v f d values vs formulas fs ids ds splits_v splits_f splits_d) same
 
-nothing_listed : (style : ℕ × ℕ → ℕ → Option Style) → lines_with style [] [] [] ≡ []
-unfolding lines_with line_at
-nothing_listed style = ap (flat_map (line_at style [] [] [])) no_positions
+nothing_listed : (form : LineForm) (style : ℕ × ℕ → ℕ → Option Style)
+    → lines_in form style [] [] [] ≡ []
+unfolding lines_in line_at
+nothing_listed form style = ap (flat_map (line_at form style [] [] [])) no_positions
 
-pub lines_end : (style : ℕ × ℕ → ℕ → Option Style) (out whole : List ℕ)
+pub lines_end : (form : LineForm) (style : ℕ × ℕ → ℕ → Option Style) (out whole : List ℕ)
     (values : List ((ℕ × ℕ) × Data)) (formulas : List ((ℕ × ℕ) × String Global))
     (ids : List ((ℕ × ℕ) × ℕ)) →
     (values ≡ []) × (formulas ≡ []) × (ids ≡ []) →
-    out ++ lines_left style values formulas ids ≡ whole →
+    out ++ lines_left form style values formulas ids ≡ whole →
     out ≡ whole
-lines_end style out whole values formulas ids none same =
-    sym (append-nil out) ∙ (ap (λ bytes. out ++ bytes) (sym (nothing_listed style))
-    ∙ ((λ i. out ++ lines_left style (sym none.0 i) (sym none.1 i) (sym none.2 i)) ∙ same))
+lines_end form style out whole values formulas ids none same =
+    sym (append-nil out) ∙ (ap (λ bytes. out ++ bytes) (sym (nothing_listed form style))
+    ∙ ((λ i. out ++ lines_left form style (sym none.0 i) (sym none.1 i) (sym none.2 i)) ∙ same))
 
 -- each step leaves fewer cells
 pub shorter : {X Y Z : Type 0} (p : ℕ × ℕ) (values vs : List ((ℕ × ℕ) × X))
@@ -330,15 +339,22 @@ styled_order cells styled is rise = subst AreInOrder (sym is) (record {
 })
 
 -- each position has the style that its id names
-pub by_ids : (styles : StyleMap) (values : List ((ℕ × ℕ) × CellValue))
+pub by_ids : (form : LineForm) (styles : StyleMap) (values : List ((ℕ × ℕ) × CellValue))
     (formulas : List ((ℕ × ℕ) × List ℕ)) (ids : List ((ℕ × ℕ) × ℕ))
     → ((position : ℕ × ℕ) → style_named styles position (id_placed position ids)
     ≡ style_at styles position)
-    → lines_with (style_named styles) values formulas ids
-    ≡ lines_with (λ position id. style_at styles position) values formulas ids
-unfolding lines_with
-by_ids styles values formulas ids named =
+    → lines_in form (style_named styles) values formulas ids
+    ≡ lines_in form (λ position id. style_at styles position) values formulas ids
+unfolding lines_in
+by_ids form styles values formulas ids named =
     ap (λ (style : ℕ × ℕ → Option Style). flat_map
-    (λ position. line_of position (value_placed position values) (formula_placed position formulas)
-    (id_placed position ids) (fill_field (style position)))
+    (λ position. line_in form position (value_placed position values)
+    (formula_placed position formulas) (id_placed position ids) (style position))
     (used_positions values formulas ids)) (fun_ext named)
+
+-- the lines as text are those of `lines_with`
+pub as_text : (style : ℕ × ℕ → ℕ → Option Style) (values : List ((ℕ × ℕ) × CellValue))
+    (formulas : List ((ℕ × ℕ) × List ℕ)) (ids : List ((ℕ × ℕ) × ℕ))
+    → lines_in Text style values formulas ids ≡ lines_with style values formulas ids
+unfolding lines_in lines_with
+as_text style values formulas ids = refl

@@ -1,2 +1,3 @@
+pub mod CellObjects
 pub mod SampleLines
 pub mod SheetListing

@@ -1,5 +1,5 @@
 ghost use Rattle.std.specs.Prelude.{◌≡◌, ◌<◌, ◌++◌, ◌||◌, [], is_some, MatchOption, IfOk, OnOk};
-ghost use Rattle.std.specs.Prelude.{codes, string_bytes, nat_lt, option_and_then, None, OnErr, map};
+ghost use Rattle.std.specs.Prelude.{codes, string_bytes, nat_lt, None, OnErr, map};
 ghost use Rattle.std.specs.Fmt.{signed_decimal};
 ghost use Rattle.std.specs.Option.{option_copied};
 ghost use Rattle.cell_data.specs.CellValue.{value_of_data, time_value};
@@ -7,27 +7,31 @@ ghost use Rattle.cell_data.specs.Cells.{IsPlacedInSheet};
 ghost use Rattle.cell_data.specs.Range.{cells_of};
 ghost use Rattle.cell_data.specs.Splitting.{AreInOrder};
 ghost use Rattle.cell_refs.specs.Reference.{reference};
-ghost use Rattle.cell_styles.specs.Fill.{fill_color};
 ghost use Rattle.cell_styles.specs.StyleItems.{style_named};
+ghost use Rattle.cell_styles.specs.StyleMap.{style_at};
 ghost use Rattle.escaped_text.specs.Escaped.{escaped};
 ghost use Rattle.sorted_cells.specs.Placed.{placed_left};
+ghost use Rattle.sheet_listing.specs.CellObjects.{line_in, lines_in, object_listing};
 ghost use Rattle.sheet_listing.specs.SheetListing.{kind_text, calendar_text, value_field};
 ghost use Rattle.sheet_listing.specs.SheetListing.{formula_field};
-ghost use Rattle.sheet_listing.specs.SheetListing.{field, line, line_of, listing};
+ghost use Rattle.sheet_listing.specs.SheetListing.{field, line, listing};
 ghost use Rattle.sheet_listing.specs.SheetListing.{cell_values, cell_formulas};
 ghost use Rattle.sheet_listing.specs.SheetListing.{value_given, formula_given};
 ghost use Rattle.sheet_listing.specs.SheetListing.{IsFirstOf};
-ghost use Rattle.sheet_listing.specs.SheetListing.{shown_color, fill_shown, fill_field, id_given};
-ghost use Rattle.sheet_listing.specs.SheetListing.{lines_with, ids_left};
+ghost use Rattle.sheet_listing.specs.SheetListing.{fill_field, id_given};
+ghost use Rattle.sheet_listing.specs.SheetListing.{ids_left, placed_ids};
 ghost use Rattle.sheet_listing.specs.SheetListing.{value_line, value_lines, row_line};
 ghost use Rattle.sheet_listing.specs.SheetListing.{further_fields};
 
+use crate::fill::fill_shown;
+use crate::objects::{LineScratch, push_object};
 use crate::styled_left::StyledLeft;
 use cell_data::{Data, ExcelDateTime, ExcelDateTimeType, Range, earlier};
 use cell_refs::{MAX_COLUMNS, MAX_ROWS, push_reference};
-use cell_styles::{Color, Fill, Style, StyleRange};
+use cell_styles::{Style, StyleRange};
 use escaped_text::push_escaped;
 use itoa::Buffer;
+use list_lines::LineForm;
 use sorted_cells::PlacedCells;
 use std::alloc::{AllocError, Global};
 
@@ -154,23 +158,6 @@ fn has_id(id: Option<usize>) -> bool
     }
 }
 
-fn shown_color(fill: &Fill) -> Option<Color>
-    ensures { result ≡ shown_color fill.now.pattern (fill_color fill.now) }
-{
-    if fill.is_visible() {
-        fill.get_color()
-    } else {
-        None
-    }
-}
-
-fn fill_shown(style: Option<&Style>) -> Option<Color>
-    ensures { result ≡ option_and_then fill_shown (option_copied style.entry) }
-{
-    let fill = style?.fill.as_ref()?;
-    shown_color(fill)
-}
-
 fn push_fill(out: &mut String, style: Option<&Style>) -> Result<(), AllocError>
     ensures { let printed = field (fill_field (option_copied style.entry)) in
         OnOk result (string_bytes out.new ≡ string_bytes out.old ++ printed) }
@@ -293,10 +280,12 @@ fn push_fields(
     out.push_str("\n")
 }
 
-/// Appends the line of a position, counted from 0, where it has a value, a formula or a style id
-/// above 0.
+/// Appends the line of a position, counted from 0, in its form, where it has a value, a formula or a
+/// style id above 0.
 fn push_line(
     out: &mut String,
+    form: LineForm,
+    scratch: &mut LineScratch,
     position: (u32, u32),
     value: Option<&Data>,
     formula: Option<&String>,
@@ -305,15 +294,18 @@ fn push_line(
 ) -> Result<(), AllocError>
     requires in_rows { position.0 < MAX_ROWS }
     requires in_columns { position.1 < MAX_COLUMNS }
-    ensures { let printed = line_of position (value_given (option_copied value.entry))
+    ensures { let printed = line_in form position (value_given (option_copied value.entry))
         (formula_given (option_copied formula.entry)) (id_given id)
-        (fill_field (option_copied style.entry)) in
+        (option_copied style.entry) in
         OnOk result (string_bytes out.new ≡ string_bytes out.old ++ printed) }
 {
     if !has_line(value, formula, id) {
         return Ok(());
     }
-    push_fields(out, position, value, formula, style)
+    match form {
+        LineForm::Text => push_fields(out, position, value, formula, style),
+        LineForm::Json => push_object(out, scratch, position, value, formula, style),
+    }
 }
 
 /// The first position that some list has.
@@ -336,6 +328,7 @@ fn first_position(
 /// Appends the lines of the positions that some list has, row by row.
 fn push_lines(
     out: &mut String,
+    form: LineForm,
     values: PlacedCells<'_, Data>,
     formulas: PlacedCells<'_, String>,
     ids: StyledLeft<'_>,
@@ -344,11 +337,12 @@ fn push_lines(
     requires values { AreInOrder (placed_left values) }
     requires formulas { AreInOrder (placed_left formulas) }
     requires ids { AreInOrder (ids_left ids) }
-    ensures { let printed = lines_with (style_named styles.now)
+    ensures { let printed = lines_in form (style_named styles.now)
         (cell_values (placed_left values.entry)) (cell_formulas (placed_left formulas.entry))
         (ids_left ids.entry) in
         OnOk result (string_bytes out.new ≡ string_bytes out.old ++ printed) }
 {
+    let mut scratch = LineScratch::new(*out.allocator());
     let mut values_left = values;
     let mut formulas_left = formulas;
     let mut ids_left = ids;
@@ -357,14 +351,34 @@ fn push_lines(
         let formula = formulas_left.next_at(position);
         let id = ids_left.next_at(position);
         let style = styles.style_with_id(position, id.unwrap_or(0));
-        push_line(out, position, value, formula, id, style)?;
+        push_line(out, form, &mut scratch, position, value, formula, id, style)?;
     }
     Ok(())
+}
+
+/// The lines of a sheet's values, formulas and styles in their form.
+fn lines_listed(
+    alloc: Global,
+    form: LineForm,
+    values: &Range<Data>,
+    formulas: &Range<String>,
+    styles: &StyleRange,
+) -> Result<String, AllocError>
+    ensures { let printed = lines_in form (λ position id. style_at styles.now position)
+        (cell_values (cells_of values.now)) (cell_formulas (cells_of formulas.now))
+        (placed_ids styles.now) in
+        IfOk result (λ out. string_bytes out ≡ printed) }
+{
+    let ids = StyledLeft::new(styles.styled());
+    let mut out = String::new(alloc);
+    push_lines(&mut out, form, values.used(), formulas.used(), ids, styles)?;
+    Ok(out)
 }
 
 /// The lines of a sheet's values, formulas and styles: one for each position that has a value, a
 /// formula or a style id above 0, row by row (docs/FORMAT.md). It goes once over what is used of
 /// the ranges and over the runs of styles.
+#[tactic(auto, using(crate::proofs::SheetListingLemmas::as_text))]
 pub fn listing_of(
     alloc: Global,
     values: &Range<Data>,
@@ -375,10 +389,21 @@ pub fn listing_of(
         (cell_formulas (cells_of formulas.now)) styles.now in
         IfOk result (λ out. string_bytes out ≡ printed) }
 {
-    let ids = StyledLeft::new(styles.styled());
-    let mut out = String::new(alloc);
-    push_lines(&mut out, values.used(), formulas.used(), ids, styles)?;
-    Ok(out)
+    lines_listed(alloc, LineForm::Text, values, formulas, styles)
+}
+
+/// The same lines as objects of JSON, one for each of these positions.
+pub fn object_listing_of(
+    alloc: Global,
+    values: &Range<Data>,
+    formulas: &Range<String>,
+    styles: &StyleRange,
+) -> Result<String, AllocError>
+    ensures { let printed = object_listing (cell_values (cells_of values.now))
+        (cell_formulas (cells_of formulas.now)) styles.now in
+        IfOk result (λ out. string_bytes out ≡ printed) }
+{
+    lines_listed(alloc, LineForm::Json, values, formulas, styles)
 }
 
 /// Appends the lines of a sheet's values, formulas and styles. A refusal leaves the text as it was.

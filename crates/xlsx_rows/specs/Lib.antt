@@ -1,3 +1,4 @@
 pub mod CsvErrors
 pub mod RowSteps
 pub mod RowsText
+pub mod Settings

@@ -19,6 +19,8 @@ use Rattle.csv.specs.declared.parser.Terminator.{Terminator}
 use Rattle.csv.specs.declared.parser.Terminator.TheVariants as term
 use Rattle.csv.specs.declared.writer.WriterBuilder.{WriterBuilder}
 use Rattle.excel_dates.specs.IsoText.{iso_text}
+use Rattle.xlsx_rows.specs.declared.delimiter.Delimiter.{Delimiter}
+use Rattle.xlsx_rows.specs.declared.delimiter.Digits.{Digits}
 use Rattle.xlsx_rows.specs.declared.options.CsvOptions.{CsvOptions}
 
 -- the field of a truth value
@@ -31,10 +33,15 @@ abbrev pub terminator_of : Bool → Terminator
 terminator_of true = term.CRLF
 terminator_of false = term.Any 10
 
+-- the byte between two fields: a comma, where nothing else is asked for
+abbrev pub delimiter_of : Option Delimiter → ℕ
+delimiter_of None = 44
+delimiter_of (Some own) = own.byte
+
 -- how a writer is set up: a comma and LF, where no other delimiter and no CR is asked for
 abbrev pub writer_of : CsvOptions → WriterBuilder
 writer_of options =
-    with_terminator (with_delimiter default_writer (unwrap_or options.delimiter 44))
+    with_terminator (with_delimiter default_writer (delimiter_of options.delimiter))
     (terminator_of options.crlf)
 
 -- the number that a number is written as: the nearest of so many digits, where digits are asked for
@@ -53,18 +60,23 @@ abbrev pub integer_field : Option ℕ → ℤ → List ℕ
 integer_field None n = signed_decimal n
 integer_field (Some digits) n = rounded_or (signed_decimal n) digits (decimal_from (n, pos 0))
 
+-- how many digits a number is rounded to, where digits are asked for
+abbrev pub digits_of : Option Digits → Option ℕ
+digits_of None = None
+digits_of (Some own) = Some own.count
+
 -- The field of a value. A date, or a time that has passed, is the number of its days or its text.
 abbrev pub field_of : CsvOptions → CellValue → List ℕ
 field_of options nothing = []
-field_of options (integer n) = integer_field options.digits n
-field_of options (number decimal) = printed (shown_number options.digits decimal)
+field_of options (integer n) = integer_field (digits_of options.digits) n
+field_of options (number decimal) = printed (shown_number (digits_of options.digits) decimal)
 field_of options (text bytes) = bytes
 -- it is no value before its text is known
 field_of options (shared_text place) = []
 field_of options (truth holds) = truth_field holds
 field_of options (time days kind is_1904) =
     if options.dates then iso_text days kind is_1904
-    else printed (shown_number options.digits days)
+    else printed (shown_number (digits_of options.digits) days)
 field_of options (iso_time bytes) = bytes
 field_of options (failure error) = cell_error_text error
 

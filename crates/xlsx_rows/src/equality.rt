@@ -1,6 +1,7 @@
 //! What `==` and a copy of the types of this crate are.
 ghost use Rattle.equalities.specs.Equality.{IsEquality, CopiesItself};
 
+use crate::delimiter::{Delimiter, Digits};
 use crate::error::CsvError;
 use crate::options::CsvOptions;
 
@@ -13,6 +14,10 @@ pub fn equality_is_by_all_fields()
 pub fn copies_are_the_same()
     ensures error { CopiesItself ⟦<CsvError as Clone>⟧.is_clone
         ⟦<CsvError as Clone>⟧.is_infallible }
+    ensures delimiter { CopiesItself ⟦<Delimiter as Clone>⟧.is_clone
+        ⟦<Delimiter as Clone>⟧.is_infallible }
+    ensures digits { CopiesItself ⟦<Digits as Clone>⟧.is_clone
+        ⟦<Digits as Clone>⟧.is_infallible }
     ensures options { CopiesItself ⟦<CsvOptions as Clone>⟧.is_clone
         ⟦<CsvOptions as Clone>⟧.is_infallible }
 {}

@@ -20,7 +20,7 @@ fn truth_field(holds: bool) -> &'static str
 }
 
 /// The number that a number is written as, rounded where digits are asked for.
-fn shown_number(number: &Decimal, digits: Option<u8>) -> Decimal
+pub fn shown_number(number: &Decimal, digits: Option<u8>) -> Decimal
     ensures { number_of result ≡ shown_number digits (number_of number.now) }
 {
     match digits {
@@ -80,7 +80,7 @@ fn push_time(out: &mut String, time: &ExcelDateTime, options: &CsvOptions) -> Re
     if options.dates {
         time.push_iso(out)
     } else {
-        push_number(out, &time.value, options.digits)
+        push_number(out, &time.value, options.digit_count())
     }
 }
 
@@ -95,8 +95,8 @@ pub fn push_field(out: &mut String, value: &Data, options: &CsvOptions) -> Resul
     ensures err { OnErr result (string_bytes out.new ≡ string_bytes out.old) }
 {
     match value {
-        Data::Int(number) => push_integer(out, *number, options.digits),
-        Data::Decimal(number) => push_number(out, number, options.digits),
+        Data::Int(number) => push_integer(out, *number, options.digit_count()),
+        Data::Decimal(number) => push_number(out, number, options.digit_count()),
         Data::String(text) => out.push_str(text.as_str()),
         Data::Bool(holds) => out.push_str(truth_field(*holds)),
         Data::DateTime(time) => push_time(out, time, options),

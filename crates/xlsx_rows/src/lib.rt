@@ -1,6 +1,6 @@
 //! The rows of a range as CSV.
 //!
-//! Rooms: `options` (how rows are written), `field` (the field of a value), `record` (a field, the
+//! Rooms: `delimiter` (`Delimiter` and `Digits`), `options` (how rows are written), `field` (the field of a value), `record` (a field, the
 //! end of a record and a header, by the writer of the kit's `csv`), `rows` (a row, all rows,
 //! `rows_csv`), `error` (`CsvError`).
 //!
@@ -10,6 +10,7 @@
 //! and, within a record, the fields behind that (`IsInRecord`).
 #![tactic(auto)]
 
+mod delimiter;
 mod equality;
 mod error;
 mod field;
@@ -17,8 +18,9 @@ mod options;
 mod record;
 mod rows;
 
+pub use delimiter::{Delimiter, Digits};
 pub use equality::{copies_are_the_same, equality_is_by_all_fields};
 pub use error::CsvError;
-pub use field::push_field;
+pub use field::{push_field, shown_number};
 pub use options::CsvOptions;
 pub use rows::rows_csv;

@@ -1,8 +1,9 @@
 //! How rows are written.
 ghost use Rattle.std.specs.Prelude.{◌≡◌};
 ghost use Rattle.xlsx_rows.specs.RowSteps.{IsBetweenRecords};
-ghost use Rattle.xlsx_rows.specs.RowsText.{terminator_of};
+ghost use Rattle.xlsx_rows.specs.RowsText.{delimiter_of, digits_of, terminator_of};
 
+use crate::delimiter::{Delimiter, Digits};
 use csv::{Terminator, Writer, WriterBuilder};
 
 /// How rows are written. `CsvOptions::PLAIN` has none of these.
@@ -12,9 +13,9 @@ pub struct CsvOptions {
     pub dates: bool,
     /// How many significant digits a number is rounded to. The days of a date that is written by
     /// its text are not.
-    pub digits: Option<u8>,
+    pub digits: Option<Digits>,
     /// The byte between two fields, where it is no comma.
-    pub delimiter: Option<u8>,
+    pub delimiter: Option<Delimiter>,
     /// CR and LF at the end of a record, and not LF alone.
     pub crlf: bool,
     /// The three bytes of a byte order mark in front of the first record.
@@ -30,6 +31,24 @@ impl CsvOptions {
         crlf: false,
         bom: false,
     };
+
+    /// The byte between two fields.
+    fn delimiter(&self) -> u8
+        ensures { result ≡ delimiter_of self.now.delimiter }
+    {
+        match self.delimiter {
+            Some(delimiter) => delimiter.byte(),
+            None => b',',
+        }
+    }
+
+    /// How many digits a number is rounded to, where digits are asked for.
+    pub fn digit_count(&self) -> Option<u8>
+        ensures { result ≡ digits_of self.now.digits }
+    {
+        let digits = self.digits?;
+        Some(digits.count())
+    }
 
     /// What ends a record.
     fn terminator(&self) -> Terminator
@@ -47,7 +66,7 @@ impl CsvOptions {
         ensures { IsBetweenRecords self.now front.items result }
     {
         WriterBuilder::new()
-            .delimiter(self.delimiter.unwrap_or(b','))
+            .delimiter(self.delimiter())
             .terminator(self.terminator())
             .from_writer(front)
     }

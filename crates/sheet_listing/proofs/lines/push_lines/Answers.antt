@@ -37,11 +37,11 @@ positions-preserved c =
     let splits_d = next_splits p id ids ds c.positions.invariant.ids_order
     c.in-Some.ensures.before_ids c.next_at-id.ensures.value c.next_at-id.ensures.left in
     record {
-      printed = lines_on style p value formula id (option_copied c.style_with_id-style.result)
+      printed = lines_on c.args.form style p value formula id (option_copied c.style_with_id-style.result)
           values vs formulas fs ids ds (string_bytes c.positions.out)
           (string_bytes c.push_line.new.out)
           (string_bytes c.args.out.now
-          ++ lines_left style (placed_left c.args.values) (placed_left c.args.formulas)
+          ++ lines_left c.args.form style (placed_left c.args.values) (placed_left c.args.formulas)
           (ids_left c.args.ids))
           splits_v splits_f splits_d
           (c.style_with_id-style.ensures ∙ ap (style p) c.unwrap_or.ensures)
@@ -55,9 +55,9 @@ positions-preserved c =
 pub returns : goal.returns
 returns c =
     let style = style_named c.args.styles.now in
-    lines_end style (string_bytes c.positions.out)
+    lines_end c.args.form style (string_bytes c.positions.out)
     (string_bytes c.args.out.now
-    ++ lines_left style (placed_left c.args.values) (placed_left c.args.formulas)
+    ++ lines_left c.args.form style (placed_left c.args.values) (placed_left c.args.formulas)
     (ids_left c.args.ids))
     (placed_left c.positions.values_left) (placed_left c.positions.formulas_left)
     (ids_left c.positions.ids_left) c.in_default.ensures c.positions.invariant.printed

@@ -9,10 +9,10 @@ use Rattle.sheet_listing.proofs.lines.push_lines.Given as goal
 abbrev pub invariant-positions : goal.invariant-positions
 invariant-positions l = record {
   printed : string_bytes l.out
-      ++ lines_left (style_named l.styles) (placed_left l.values_left) (placed_left l.formulas_left)
+      ++ lines_left l.form (style_named l.styles) (placed_left l.values_left) (placed_left l.formulas_left)
       (ids_left l.ids_left)
       ≡ string_bytes l.fn.out
-      ++ lines_left (style_named l.styles) (placed_left l.fn.values) (placed_left l.fn.formulas)
+      ++ lines_left l.form (style_named l.styles) (placed_left l.fn.values) (placed_left l.fn.formulas)
       (ids_left l.fn.ids);
   values_order : AreInOrder (placed_left l.values_left);
   formulas_order : AreInOrder (placed_left l.formulas_left);

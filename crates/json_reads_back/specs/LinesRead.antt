@@ -1,0 +1,31 @@
+-- Lines as JSON, read back.
+use Rattle.std.specs.Prelude.{◌≡◌, ⊤, ℕ, List, Some, FitsSigned}
+use Rattle.std.specs.Int.{w64}
+use Rattle.cell_data.specs.CellValue.{CellValue, integer, number, time}
+use Rattle.cell_styles.specs.declared.style.Style.{Style}
+use Rattle.json.specs.Json.{Json, document}
+use Rattle.json_lines.specs.JsonLines.{json_text, IsOfDecimal}
+use Rattle.list_lines.specs.Fields.{Field, Series, line_value}
+use Rattle.sheet_listing.specs.CellObjects.{cell_object}
+use Rattle.std.specs.Prelude.{Option}
+
+-- the text of a value is read as the value
+abbrev pub IsReadBack : Json → Type 0
+IsReadBack value = document (json_text value) ≡ Some value
+
+-- a value that a cell holds: a whole number of 64 bits, or the number of a decimal
+abbrev pub IsHeld : CellValue → Type 0
+IsHeld (integer n) = FitsSigned w64 n
+IsHeld (number decimal) = IsOfDecimal decimal
+IsHeld (time days kind is_1904) = IsOfDecimal days
+IsHeld _ = ⊤
+
+-- each line of a list is read as the value of its fields
+abbrev pub AreListsReadBack : Type 0
+AreListsReadBack = (fields : List Field) (series : Series) → IsReadBack (line_value fields series)
+
+-- each line of a cell as its object
+abbrev pub AreCellsReadBack : Type 0
+AreCellsReadBack =
+    (position : ℕ × ℕ) (value : CellValue) (formula : List ℕ) (style : Option Style) →
+    IsHeld value → IsReadBack (cell_object position value formula style)
