@@ -9,7 +9,7 @@ use std::alloc::{AllocError, Global};
 use std::process::Abort;
 use std::test::Fail;
 use test_tables::assert_text;
-use xlsx_rows::{CsvError, CsvOptions, push_field, rows_csv};
+use xlsx_rows::{CsvError, CsvOptions, Delimiter, Digits, push_field, rows_csv};
 
 fn number(text: &str) -> Data {
     match Decimal::parse(text) {
@@ -246,7 +246,7 @@ fn refusals_of_rows_have_texts(rt: HostRuntime) -> Result<(), Fail> {
 fn rows_of_another_form_are_read_back(rt: HostRuntime) -> Result<(), Fail> {
     let alloc = rt.alloc();
     let options = CsvOptions {
-        delimiter: Some(b';'),
+        delimiter: Delimiter::new(b';'),
         crlf: true,
         ..CsvOptions::PLAIN
     };
@@ -269,7 +269,7 @@ fn dates_and_digits_are_shown(rt: HostRuntime) -> Result<(), Fail> {
     let alloc = rt.alloc();
     let options = CsvOptions {
         dates: true,
-        digits: Some(3),
+        digits: Digits::new(3),
         bom: true,
         ..CsvOptions::PLAIN
     };
@@ -285,4 +285,23 @@ fn dates_and_digits_are_shown(rt: HostRuntime) -> Result<(), Fail> {
         "\u{FEFF}2024-01-01T12:00:00,1230,-98800\n",
         "a row",
     )
+}
+
+/// Which bytes are delimiters, and how many digits there are.
+#[test]
+fn no_other_delimiters_and_digits_are_made(rt: HostRuntime) -> Result<(), Fail> {
+    for byte in [b'"', b'\r', b'\n', 128, 255] {
+        assert!(rt; Delimiter::new(byte).is_none());
+    }
+    for byte in [0, b'\t', b',', 127] {
+        assert!(rt; matches!(Delimiter::new(byte), Some(own) if own.byte() == byte));
+    }
+    assert!(rt; Delimiter::TAB.byte() == b'\t');
+    for count in [0, 39, 255] {
+        assert!(rt; Digits::new(count).is_none());
+    }
+    for count in [1, 38] {
+        assert!(rt; matches!(Digits::new(count), Some(own) if own.count() == count));
+    }
+    Ok(())
 }

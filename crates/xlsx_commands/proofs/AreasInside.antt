@@ -12,7 +12,7 @@ use Rattle.cell_refs.specs.declared.error.RefError.{RefError}
 use Rattle.cell_refs.proofs.Inside.{corner_inside}
 use Rattle.part_events.specs.Event.{Tag, Event}
 use Rattle.part_events.specs.Section.{PlacedTag, starts_by}
-use Rattle.list_lines.specs.Lines.{IsCellOfWorksheet, LiesInWorksheet}
+use Rattle.list_lines.specs.Inside.{IsCellOfWorksheet, LiesInWorksheet}
 use Rattle.xlsx_sections.specs.Answers.{and_others_if, some_answers}
 use Rattle.xlsx_sections.specs.PartSection.{PartSection, closed_section, section_in}
 use Rattle.xlsx_sections.specs.Placed.{named_by, some_placed}

@@ -112,7 +112,7 @@ lines_behind taken row =
 -- ---- what is had isn't refused
 
 -- the pivot tables of a workbook are had once
-same_pivots : (parts : List Part) (one two : List PivotSaid) → HasPivots parts one
+pub same_pivots : (parts : List Part) (one two : List PivotSaid) → HasPivots parts one
     → HasPivots parts two → one ≡ two
 same_pivots parts one two first second =
     let folder : folder_of second.opens.path ≡ folder_of first.opens.path =
@@ -136,6 +136,19 @@ lacks_never parts sheet name definitions records has lacks =
     sym lacks.none ∙ ap (λ (own : List PivotSaid). paths_of own sheet name) same ∙ has.paths in
     absurd (cc)
 
+-- the paths of a cache are had once
+pub same_cache : (parts : List Part) (sheet name definitions records others again : List ℕ)
+    → HasCache parts sheet name definitions records → HasCache parts sheet name others again
+    → (definitions ≡ others) × (records ≡ again)
+same_cache parts sheet name definitions records others again first second =
+    let same = same_pivots parts first.pivots second.pivots first.has second.has in
+    let both : Some (definitions, records) ≡ Some (others, again) =
+    sym first.paths ∙ ap (λ (own : List PivotSaid). paths_of own sheet name) same
+    ∙ second.paths in (
+      ap (λ (own : Option (List ℕ × List ℕ)). (unwrap_or own ([], [])).0) both,
+      ap (λ (own : Option (List ℕ × List ℕ)). (unwrap_or own ([], [])).1) both,
+    )
+
 -- caches that are read aren't refused, as each is
 abbrev pub CachesNever : Type 0
 CachesNever =
@@ -150,17 +163,11 @@ cache_never : (parts : List Part) (sheet name definitions records : List ℕ)
     → cache_rows parts definitions records ≡ Some rows
     → HasCacheCause parts sheet name error → ⊥
 cache_never parts sheet name definitions records rows error never has read why =
-    let same = same_pivots parts why.has.pivots has.pivots why.has.has has.has in
-    let both : Some (why.definitions, why.records) ≡ Some (definitions, records) =
-    sym why.has.paths ∙ ap (λ (own : List PivotSaid). paths_of own sheet name) same
-    ∙ has.paths in
-    let at : why.definitions ≡ definitions =
-    ap (λ (own : Option (List ℕ × List ℕ)). (unwrap_or own ([], [])).0) both in
-    let of : why.records ≡ records =
-    ap (λ (own : Option (List ℕ × List ℕ)). (unwrap_or own ([], [])).1) both in
+    let same = same_cache parts sheet name why.definitions why.records definitions records why.has
+    has in
     never parts definitions records rows error read
-    (subst (λ (own : List ℕ). CacheCause parts definitions own error) of
-    (subst (λ (own : List ℕ). CacheCause parts own why.records error) at why.cause))
+    (subst (λ (own : List ℕ). CacheCause parts definitions own error) same.1
+    (subst (λ (own : List ℕ). CacheCause parts own why.records error) same.0 why.cause))
 
 either_never : (parts : List Part) (sheet name definitions records : List ℕ)
     (rows : List (List CellValue)) (error : XlsxError) → OpeningsNever → PivotsNever

@@ -1,3 +1,4 @@
+pub mod AnswerLemmas
 pub mod AreasInside
 pub mod CachesRead
 pub mod FilesMade
@@ -5,6 +6,7 @@ pub mod LinksInside
 pub mod MemoryCalls
 pub mod NamedSheets
 pub mod OneListing
+pub mod OneOutput
 pub mod OutputLemmas
 pub mod PartsNamed
 pub mod PivotsListed
@@ -13,6 +15,7 @@ pub mod PropertiesListed
 pub mod ReadsWritable
 pub mod RowsPlaced
 pub mod SameErrors
+pub mod SheetsChosen
 pub mod SheetsOpened
 pub mod TablesListed
 pub mod TablesNamed

@@ -12,7 +12,7 @@ use Rattle.cell_refs.specs.declared.error.RefError.{RefError}
 use Rattle.part_events.specs.Event.{Event}
 use Rattle.part_events.specs.Package.{Part, part_of}
 use Rattle.part_events.specs.Section.{PlacedTag}
-use Rattle.list_lines.specs.Lines.{LiesInWorksheet}
+use Rattle.list_lines.specs.Inside.{LiesInWorksheet}
 use Rattle.xlsx_sections.specs.Placed.{placed}
 use Rattle.xlsx_sections.specs.Refusal.{Refusal}
 use Rattle.xlsx_relationships.specs.LinkTargets.{LinkTarget, link_targets, target_in}

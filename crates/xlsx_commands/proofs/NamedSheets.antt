@@ -75,7 +75,7 @@ OpeningsNever =
     (parts : List Part) (opening : Opening) (error : XlsxError)
     → OpensAs parts opening → OpeningCause parts error → ⊥
 
-same_path : (parts : List Part) (name : List ℕ) (one two : Option (List ℕ))
+pub same_path : (parts : List Part) (name : List ℕ) (one two : Option (List ℕ))
     → OpensAt parts name one → OpensAt parts name two → one ≡ two
 same_path parts name one two first second =
     sym first.named

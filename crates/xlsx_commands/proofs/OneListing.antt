@@ -2,7 +2,8 @@
 use Rattle.std.proofs.Common.{◌≡◌, ℕ, List, Bool, true, false, Option, Some, None, map, refl, sym}
 use Rattle.std.proofs.Common.{◌∙◌, ap, if◌then◌else◌}
 use mathlib.Core.Path.{fun_ext}
-use Rattle.std.specs.Prelude.{slice_get, slice_index, option_map, option_and_then}
+use Rattle.std.specs.Prelude.{slice_get, slice_index, option_map, option_and_then, is_some, ◌||◌}
+use Rattle.std.specs.Prelude.{nat_lt, codes, []}
 use Rattle.std.specs.List.{flat_map}
 use Rattle.std.proofs.lemmas.Option.{slice_get-map}
 use Rattle.cell_refs.specs.Positions.{is_in_area}
@@ -10,13 +11,22 @@ use Rattle.cell_refs.specs.declared.dimensions.Dimensions.{Dimensions}
 use Rattle.part_events.specs.Package.{Part}
 use Rattle.cell_data.specs.CellValue.{CellValue}
 use Rattle.cell_styles.specs.Color.{color_text}
+use Rattle.cell_styles.specs.declared.color.Color.{Color}
 use Rattle.cell_styles.specs.Fill.{fill_color}
 use Rattle.cell_styles.specs.StyleItems.{styled_in, styled_entry}
 use Rattle.cell_styles.specs.StyleMap.{StyleMap, place_in, style_in, style_at}
 use Rattle.cell_styles.specs.declared.style.Style.{Style}
 use Rattle.xlsx_formats.specs.Formattings.{StyleSaid, style_said}
 use Rattle.xlsx_core.specs.SheetReading.{SayTheSame, ReadsAs}
-use Rattle.xlsx_commands.specs.Outputs.{AreLinesOf}
+use Rattle.xlsx_commands.specs.Outputs.{AreLinesOf, AreCellLines}
+use Rattle.cell_refs.specs.Reference.{reference}
+use Rattle.json.specs.Json.{Json, string, object, no_members, member}
+use Rattle.json_lines.specs.JsonLines.{json_line, optional_member}
+use Rattle.list_lines.specs.declared.content.LineForm.{LineForm}
+use Rattle.list_lines.specs.declared.content.LineForm.TheVariants.{Text, Json as AsJson}
+use Rattle.sheet_listing.specs.CellObjects.{fill_json, formula_json, type_word, value_members}
+use Rattle.sheet_listing.specs.CellObjects.{lines_in, object_listing}
+use Rattle.sheet_listing.specs.SheetListing.{fill_shown, value_field, formula_field}
 use Rattle.sheet_listing.specs.SheetListing.{shown_color, fill_field, line_of, value_placed}
 use Rattle.sheet_listing.specs.SheetListing.{formula_placed, id_placed, used_positions, lines_with}
 use Rattle.sheet_listing.specs.SheetListing.{placed_ids, listing}
@@ -114,4 +124,66 @@ one_listing parts other name lines others law first second =
     ∙ ap (λ (own : List ((ℕ × ℕ) × CellValue)). listing own first.formulas first.styles) same.0
     ∙ ap (λ (own : List ((ℕ × ℕ) × List ℕ)). listing second.values own first.styles) same.1
     ∙ listing_alike second.values second.formulas first.styles second.styles same.2
+    ∙ sym second.listed
+
+-- ---- the lines as JSON
+
+fill_by_field : (style : Option Style) → fill_json style ≡ option_map string (fill_field style)
+fill_by_field None = refl
+fill_by_field (Some style) =
+    elim (fill_shown style) as (λ (color : Option Color).
+    option_map (λ own. string (color_text own)) color
+    ≡ option_map string (option_map color_text color)) [
+      | None ↦ refl
+      | Some color ↦ refl
+    ]
+
+-- the line of a position as JSON, by its fill
+abbrev object_by : ℕ × ℕ → CellValue → List ℕ → ℕ → Option Json → List ℕ
+object_by position value formula id fill =
+    if is_some (value_field value) || (is_some (formula_field formula) || nat_lt 0 id)
+    then json_line (object (member (codes "cell") (string (reference position))
+    (member (codes "type") (string (type_word value))
+    (value_members value (optional_member (codes "formula") (formula_json formula)
+    (optional_member (codes "fill") fill no_members)))))) else []
+
+objects_by_fill : (values : List ((ℕ × ℕ) × CellValue)) (formulas : List ((ℕ × ℕ) × List ℕ))
+    (ids : List ((ℕ × ℕ) × ℕ)) (one two : ℕ × ℕ → Option Style)
+    → ((position : ℕ × ℕ) → fill_field (one position) ≡ fill_field (two position))
+    → lines_in AsJson (λ position id. one position) values formulas ids
+    ≡ lines_in AsJson (λ position id. two position) values formulas ids
+unfolding lines_in
+objects_by_fill values formulas ids one two same =
+    ap (λ (fill : ℕ × ℕ → Option Json). flat_map
+    (λ position. object_by position (value_placed position values)
+    (formula_placed position formulas) (id_placed position ids) (fill position))
+    (used_positions values formulas ids))
+    (fun_ext (λ position. fill_by_field (one position) ∙ ap (option_map string) (same position)
+    ∙ sym (fill_by_field (two position))))
+
+objects_alike : (values : List ((ℕ × ℕ) × CellValue)) (formulas : List ((ℕ × ℕ) × List ℕ))
+    (one two : StyleMap) → SayTheSame one two
+    → object_listing values formulas one ≡ object_listing values formulas two
+objects_alike values formulas one two same =
+    objects_by_fill values formulas (placed_ids one) (style_at one) (style_at two)
+    (fill_alike one two same)
+    ∙ ap (λ (area : Option Dimensions). lines_in AsJson (λ position id. style_at two position)
+    values formulas (map styled_entry (styled_in area one.ids))) same.bounds
+    ∙ ap (λ (ids : List ℕ). lines_in AsJson (λ position id. style_at two position) values formulas
+    (map styled_entry (styled_in two.bounds ids))) same.ids
+
+-- so a sheet has one listing of either form
+pub one_form : (form : LineForm) (parts other : List Part) (name lines others : List ℕ)
+    → AreReadAlike parts other name → AreCellLines form parts name lines
+    → AreCellLines form other name others → lines ≡ others
+one_form Text parts other name lines others law first second =
+    one_listing parts other name lines others law first second
+one_form AsJson parts other name lines others law first second =
+    let same = law first.values second.values first.formulas second.formulas first.styles
+    second.styles first.reads second.reads in
+    first.listed
+    ∙ ap (λ (own : List ((ℕ × ℕ) × CellValue)). object_listing own first.formulas first.styles)
+    same.0
+    ∙ ap (λ (own : List ((ℕ × ℕ) × List ℕ)). object_listing second.values own first.styles) same.1
+    ∙ objects_alike second.values second.formulas first.styles second.styles same.2
     ∙ sym second.listed

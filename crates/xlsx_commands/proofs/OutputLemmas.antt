@@ -5,6 +5,9 @@ use Rattle.part_events.specs.Package.{Part}
 use Rattle.cell_data.specs.CellValue.{CellValue}
 use Rattle.cell_data.specs.Pairs.{value_pairs, formula_pairs}
 use Rattle.cell_styles.specs.StyleMap.{StyleMap}
+use Rattle.list_lines.specs.declared.content.LineForm.{LineForm}
+use Rattle.list_lines.specs.declared.content.LineForm.TheVariants.{Text, Json}
+use Rattle.sheet_listing.specs.CellObjects.{object_listing}
 use Rattle.sheet_listing.specs.SheetListing.{listing}
 use Rattle.xlsx_error.specs.declared.error.XlsxError.{XlsxError}
 use Rattle.xlsx_areas.specs.Hyperlinks.{Link}
@@ -20,7 +23,7 @@ use Rattle.xlsx_commands.specs.declared.asked_rows.AskedRows.{AskedRows}
 use Rattle.xlsx_commands.specs.Command.{Command, cells, sheets, names, merges, links, props, csv}
 use Rattle.xlsx_commands.specs.Command.{csv_table, tables, table, pivots, pivot, precedents}
 use Rattle.xlsx_commands.specs.Command.{dependents, check, part, upgrade, resave, sample, comments}
-use Rattle.xlsx_commands.specs.Command.{resave_file}
+use Rattle.xlsx_commands.specs.Command.{resave_file, row_arrays}
 use Rattle.xlsx_commands.specs.Outputs.{IsOutput, RefusedWorkbookCause, IsTooLarge, OutputCause}
 use Rattle.xlsx_commands.specs.Outputs.{HasOutput, IsUnwritable}
 use Rattle.xlsx_commands.specs.ResavedFile.{fits_file}
@@ -37,7 +40,8 @@ use Rattle.xlsx_commands.proofs.PartsNamed.{path_never}
 use Rattle.xlsx_commands.proofs.PivotsListed.{PivotsNever, pivots_never}
 use Rattle.xlsx_commands.proofs.PropertiesListed.{PropertiesNever, listed_never}
 use Rattle.xlsx_commands.proofs.OneListing.{AreReadAlike}
-use Rattle.xlsx_commands.proofs.RowsPlaced.{rows_or_large, rows_never}
+use Rattle.xlsx_commands.proofs.RowsPlaced.{rows_or_large, rows_never, arrays_never}
+use Rattle.xlsx_commands.proofs.RowsPlaced.{read_by_row_values}
 use Rattle.xlsx_commands.proofs.TablesListed.{TablesNever, tables_never}
 use Rattle.xlsx_commands.proofs.TablesNamed.{AreasNever, table_never}
 use Rattle.xlsx_commands.proofs.TablesPlaced.{records_or_large, records_never, values_of_table}
@@ -54,10 +58,10 @@ err_at {A = A} {E = E} result e P is holds = subst (λ (r : Result A E). IfErr r
 
 -- ---- cells
 
-pub lines_of_readable : (parts : List Part) (name : List ℕ)
-    → IsReadable parts name → HasOutput (cells name) parts
+pub lines_of_readable : (form : LineForm) (parts : List Part) (name : List ℕ)
+    → IsReadable parts name → HasOutput (cells form name) parts
 unfolding IsOutput
-lines_of_readable parts name (values, formulas, styles, reads) = (
+lines_of_readable Text parts name (values, formulas, styles, reads) = (
   listing values formulas styles,
   record {
     values = values;
@@ -67,11 +71,23 @@ lines_of_readable parts name (values, formulas, styles, reads) = (
     listed = refl;
   },
 )
+lines_of_readable Json parts name (values, formulas, styles, reads) = (
+  object_listing values formulas styles,
+  record {
+    values = values;
+    formulas = formulas;
+    styles = styles;
+    reads = reads;
+    listed = refl;
+  },
+)
 
-pub readable_by_lines : (parts : List Part) (name : List ℕ)
-    → HasOutput (cells name) parts → IsReadable parts name
+pub readable_by_lines : (form : LineForm) (parts : List Part) (name : List ℕ)
+    → HasOutput (cells form name) parts → IsReadable parts name
 unfolding IsOutput
-readable_by_lines parts name (output, lines) =
+readable_by_lines Text parts name (output, lines) =
+    (lines.values, lines.formulas, lines.styles, lines.reads)
+readable_by_lines Json parts name (output, lines) =
     (lines.values, lines.formulas, lines.styles, lines.reads)
 
 -- a sheet that is read isn't refused, as each is
@@ -92,12 +108,13 @@ pub readable_by_rows : (parts : List Part) (name : List ℕ) (asked : AskedRows)
     → HasOutput (csv name asked) parts → IsReadable parts name
 unfolding IsOutput
 readable_by_rows parts name asked (output, rows) =
-    (rows.values, rows.formulas, rows.styles, rows.reads)
+    read_by_row_values asked.shown parts name rows.values rows.reads
 
 pub readable_by_area : (parts : List Part) (name : List ℕ) (asked : AskedRows)
     → IsTooLarge (csv name asked) parts → IsReadable parts name
 unfolding IsTooLarge
-readable_by_area parts name asked large = (large.values, large.formulas, large.styles, large.reads)
+readable_by_area parts name asked large =
+    read_by_row_values asked.shown parts name large.values large.reads
 
 pub records_of_values : (parts : List Part) (name : List ℕ) (options : CsvOptions)
     → HasOutput (table name) parts
@@ -118,24 +135,26 @@ values_by_area parts name options large = values_of_table parts name large.table
 
 -- ---- sheets and names
 
-pub lists_of_opened : (parts : List Part)
-    → OpensSoundly parts → HasOutput sheets parts × HasOutput names parts
+pub lists_of_opened : (form : LineForm) (parts : List Part)
+    → OpensSoundly parts → HasOutput (sheets form) parts × HasOutput (names form) parts
 unfolding IsOutput
-lists_of_opened parts (opening, opens) = (
+lists_of_opened form parts (opening, opens) = (
   (
-    sheet_lines (map without_path opening.sheets),
+    sheet_lines form (map without_path opening.sheets),
     record { opening = opening; opens = opens; listed = refl },
   ),
-  (name_lines opening.names, record { opening = opening; opens = opens; listed = refl }),
+  (name_lines form opening.names, record { opening = opening; opens = opens; listed = refl }),
 )
 
-pub opens_by_sheets : (parts : List Part) → HasOutput sheets parts → OpensSoundly parts
+pub opens_by_sheets : (form : LineForm) (parts : List Part) → HasOutput (sheets form) parts
+    → OpensSoundly parts
 unfolding IsOutput
-opens_by_sheets parts (output, lines) = (lines.opening, lines.opens)
+opens_by_sheets form parts (output, lines) = (lines.opening, lines.opens)
 
-pub opens_by_names : (parts : List Part) → HasOutput names parts → OpensSoundly parts
+pub opens_by_names : (form : LineForm) (parts : List Part) → HasOutput (names form) parts
+    → OpensSoundly parts
 unfolding IsOutput
-opens_by_names parts (output, lines) = (lines.opening, lines.opens)
+opens_by_names form parts (output, lines) = (lines.opening, lines.opens)
 
 -- ---- links
 
@@ -184,38 +203,46 @@ workbook_never :
     AreNever → (command : Command) (parts : List Part) (output : List ℕ) (error : XlsxError)
     → IsOutput command parts output → RefusedWorkbookCause command parts error → ⊥
 unfolding IsOutput RefusedWorkbookCause
-workbook_never never (cells name) parts output error prints cause =
+workbook_never never (cells Text name) parts output error prints cause =
     never.sheets parts name prints.values prints.formulas prints.styles error prints.reads cause
-workbook_never never sheets parts output error prints cause =
+workbook_never never (cells Json name) parts output error prints cause =
+    never.sheets parts name prints.values prints.formulas prints.styles error prints.reads cause
+workbook_never never (sheets form) parts output error prints cause =
     never.openings parts prints.opening error prints.opens cause
-workbook_never never names parts output error prints cause =
+workbook_never never (names form) parts output error prints cause =
     never.openings parts prints.opening error prints.opens cause
-workbook_never never (merges name) parts output error prints cause =
+workbook_never never (merges form name) parts output error prints cause =
     let (path, opens, taken) = prints.has in
     named_never (MergesPathCause name) parts name path error never.openings opens
     (merges_never name path parts prints.areas error never.merges taken) cause
-workbook_never never (links name) parts output error prints cause =
+workbook_never never (links form name) parts output error prints cause =
     let (path, opens, taken) = prints.has in
     named_never (PlacedLinksCause name) parts name path error never.openings opens
     (never.links name path parts prints.links error taken) cause
-workbook_never never (comments name) parts output error prints cause =
+workbook_never never (comments form name) parts output error prints cause =
     let (path, opens, taken) = prints.has in
     named_never (CommentsPathCause name) parts name path error never.openings opens
     (comments_never never.comments name path parts prints.all error taken) cause
-workbook_never never props parts output error prints cause =
+workbook_never never (props form) parts output error prints cause =
     listed_never parts prints.texts (text_of_name prints.customs) error never.openings
     never.properties prints.opens prints.say cause
 workbook_never never (csv name asked) parts output error prints cause =
-    never.sheets parts name prints.values prints.formulas prints.styles error prints.reads cause
+    let (values, formulas, styles, reads) =
+    read_by_row_values asked.shown parts name prints.values prints.reads in
+    never.sheets parts name values formulas styles error reads cause
 workbook_never never (csv_table name options) parts output error prints cause =
     table_never parts name prints.table error never.openings never.tables never.areas prints.has
     cause
-workbook_never never tables parts output error prints cause =
+workbook_never never (row_arrays name asked) parts output error prints cause =
+    let (values, formulas, styles, reads) =
+    read_by_row_values asked.shown parts name prints.values prints.reads in
+    never.sheets parts name values formulas styles error reads cause
+workbook_never never (tables form) parts output error prints cause =
     tables_never parts prints.tables error never.openings never.tables prints.has cause
 workbook_never never (table name) parts output error prints cause =
     table_never parts name prints.table error never.openings never.tables never.areas prints.has
     cause
-workbook_never never pivots parts output error prints cause =
+workbook_never never (pivots form) parts output error prints cause =
     pivots_never parts prints.pivots error never.openings never.pivots prints.has cause
 workbook_never never (pivot sheet name) parts output error prints cause =
     rows_never_refused parts sheet name prints.definitions prints.records prints.rows error
@@ -247,6 +274,8 @@ large_never never (csv name asked) parts output prints large =
     rows_never parts name asked output (never.alike parts name) prints large
 large_never never (csv_table name options) parts output prints large =
     records_never parts name options output prints large
+large_never never (row_arrays name asked) parts output prints large =
+    arrays_never parts name asked output (never.alike parts name) prints large
 large_never never _ parts output prints large = absurd large
 
 -- a sheet that a workbook file holds isn't one that none can hold

@@ -27,7 +27,12 @@ use Rattle.cell_refs.specs.declared.dimensions.Dimensions.{Dimensions}
 use Rattle.csv.specs.Writing.{row_text}
 use Rattle.part_events.specs.Package.{Part}
 use Rattle.sheet_listing.specs.SheetListing.{value_placed}
-use Rattle.xlsx_core.specs.SheetReading.{ReadsValuesAs, IsReadable}
+use Rattle.json_rows.specs.RowValues.{row_line, data_line, array_lines}
+use Rattle.xlsx_core.specs.Agreement.{HaveSameSheet}
+use Rattle.xlsx_core.specs.SheetReading.{IsReadable}
+use Rattle.xlsx_core.specs.ShownSheet.{ShownAs}
+use Rattle.xlsx_core.proofs.Agreeing.{reads_over}
+use Rattle.xlsx_core.proofs.ShownLaws.{shown_where_read, read_where_shown, one_shown, shown_over}
 use Rattle.cell_data.specs.Pairs.{with_meaning, value_pairs}
 use Rattle.xlsx_core.specs.Worksheets.{HasLeastRange}
 use Rattle.xlsx_error.specs.declared.error.XlsxError.{XlsxError}
@@ -38,8 +43,10 @@ use Rattle.xlsx_rows.specs.declared.options.CsvOptions.{CsvOptions}
 use Rattle.xlsx_rows.specs.declared.error.CsvError.{CsvError}
 use Rattle.xlsx_rows.specs.declared.error.CsvError.TheVariants.{BoxTooLarge, OutOfMemory}
 use Rattle.xlsx_commands.specs.Outputs.{CallFails, RowsFail}
+use Rattle.xlsx_commands.specs.RowArrays.{values_placed, arrays_placed, AreArraysOf}
 use Rattle.xlsx_commands.specs.SheetRows.{fields_placed, rows_placed, area_count, AreRowsOf}
 use Rattle.xlsx_commands.specs.SheetRows.{HasLargeArea, asked_area, from_first, rows_asked}
+use Rattle.xlsx_commands.specs.SheetRows.{HasRowValues}
 use Rattle.xlsx_commands.specs.declared.asked_rows.AskedRows.{AskedRows}
 use Rattle.xlsx_commands.specs.Status.{of_workbook, of_rows}
 use Rattle.xlsx_commands.specs.declared.error.ToolError.{ToolError}
@@ -90,6 +97,29 @@ rows_meant options header range is =
     ∙ ap (λ (record_at : ℕ → List ℕ). flat_map record_at rows)
     (fun_ext (λ row. ap (row_text (writer_of options)) (fields_meant options range row is))))
 
+values_meant : (range : Range Data) (row : ℕ) → value_of_data (blank_of range) ≡ nothing
+    → map value_of_data (row_values range row 0)
+    ≡ values_placed (value_pairs range) (bounds_of range) row
+values_meant range row is =
+    let start = start_of (bounds_of range) in
+    let width = width_of (bounds_of range) in
+    let whole : width - 0 ≡ width = omega arith in
+    ap (λ (n : ℕ). map value_of_data
+    (map (λ k. filled range (row, k)) (range_with_len 0 n))) whole
+    ∙ map-map value_of_data (λ k. filled range (row, k)) (range_with_len 0 width)
+    ∙ ap (λ (own : ℕ → CellValue). map own (range_with_len 0 width))
+    (fun_ext (λ k. meant_there (start.0 + row, start.1 + k) (cells_of range) (blank_of range) is))
+
+arrays_meant : (options : CsvOptions) (range : Range Data)
+    → value_of_data (blank_of range) ≡ nothing
+    → array_lines options range ≡ arrays_placed options (value_pairs range) (bounds_of range)
+unfolding array_lines
+arrays_meant options range is =
+    let rows = range_with_len 0 (height_of (bounds_of range)) in
+    flat_map-map (data_line options) (λ row. row_values range row 0) rows
+    ∙ ap (λ (line_at : ℕ → List ℕ). flat_map line_at rows)
+    (fun_ext (λ row. ap (row_line options) (values_meant range row is)))
+
 -- the same cells in the area that is asked for
 pub record IsAskedRange (from_a1 : Bool) (values range : Range Data) : Type 0 where
   pub cells : cells_of range ≡ cells_of values
@@ -120,41 +150,55 @@ all_kept area (cell ∷ cells) inside =
 
 -- ---- a sheet that is read
 
-module _ (parts : List Part) (name : List ℕ) (values : Range Data)
-    (reads : ReadsValuesAs parts name (value_pairs values))
-    (least : HasLeastRange values) (from_a1 : Bool) (range : Range Data)
-    (same : IsAskedRange from_a1 values range) where
+module _ (parts : List Part) (name : List ℕ) (asked : AskedRows) (values : Range Data)
+    (reads : HasRowValues asked.shown parts name (value_pairs values))
+    (least : HasLeastRange values) (range : Range Data)
+    (same : IsAskedRange asked.from_a1 values range) where
   -- the range has the area that is asked for
-  area_asked : bounds_of range ≡ asked_area from_a1 (least_area (value_pairs values))
-  area_asked = same.bounds ∙ ap (asked_area from_a1) least.bounds
+  area_asked : bounds_of range ≡ asked_area asked.from_a1 (least_area (value_pairs values))
+  area_asked = same.bounds ∙ ap (asked_area asked.from_a1) least.bounds
 
-  pub rows_of_sheet : (options : CsvOptions) (rows : List ℕ) → box_count range ≤ 16777216
-      → rows ≡ rows_text options None range
-      → AreRowsOf parts name (record { options = options; from_a1 = from_a1 }) rows
-  rows_of_sheet options rows fits is = record {
-    values = value_pairs values;
-    formulas = reads.0;
-    styles = reads.1;
-    reads = reads.2;
-    fits = subst (λ (area : Option Dimensions). area_count area ≤ 16777216) area_asked fits;
-    listed = is
-        ∙ rows_meant options None range (ap value_of_data same.blank ∙ least.blank)
-        ∙ ap (λ (front : List ℕ). front
-        ++ rows_placed options (value_pairs range) (bounds_of range))
-        (append-nil (bom_text options.bom))
-        ∙ ap (λ (own : List ((ℕ × ℕ) × CellValue)). bom_text options.bom
-        ++ rows_placed options own (bounds_of range))
-        (ap (map (with_meaning value_of_data)) same.cells)
-        ∙ ap (λ (area : Option Dimensions). bom_text options.bom
-        ++ rows_placed options (value_pairs values) area) area_asked;
-  }
+  pub rows_of_sheet : (rows : List ℕ) → box_count range ≤ 16777216
+      → rows ≡ rows_text asked.options None range → AreRowsOf parts name asked rows
+  rows_of_sheet rows fits is =
+      let options = asked.options in
+      record {
+        values = value_pairs values;
+        reads = reads;
+        fits = subst (λ (area : Option Dimensions). area_count area ≤ 16777216) area_asked fits;
+        listed = is
+            ∙ rows_meant options None range (ap value_of_data same.blank ∙ least.blank)
+            ∙ ap (λ (front : List ℕ). front
+            ++ rows_placed options (value_pairs range) (bounds_of range))
+            (append-nil (bom_text options.bom))
+            ∙ ap (λ (own : List ((ℕ × ℕ) × CellValue)). bom_text options.bom
+            ++ rows_placed options own (bounds_of range))
+            (ap (map (with_meaning value_of_data)) same.cells)
+            ∙ ap (λ (area : Option Dimensions). bom_text options.bom
+            ++ rows_placed options (value_pairs values) area) area_asked;
+      }
 
-  pub large_of_sheet : 16777216 < box_count range → HasLargeArea parts name from_a1
+  pub arrays_of_sheet : (rows : List ℕ) → box_count range ≤ 16777216
+      → rows ≡ array_lines asked.options range → AreArraysOf parts name asked rows
+  arrays_of_sheet rows fits is =
+      let options = asked.options in
+      record {
+        values = value_pairs values;
+        reads = reads;
+        fits = subst (λ (area : Option Dimensions). area_count area ≤ 16777216) area_asked fits;
+        listed = is
+            ∙ arrays_meant options range (ap value_of_data same.blank ∙ least.blank)
+            ∙ ap (λ (own : List ((ℕ × ℕ) × CellValue)).
+            arrays_placed options own (bounds_of range))
+            (ap (map (with_meaning value_of_data)) same.cells)
+            ∙ ap (λ (area : Option Dimensions). arrays_placed options (value_pairs values) area)
+            area_asked;
+      }
+
+  pub large_of_sheet : 16777216 < box_count range → HasLargeArea parts name asked
   large_of_sheet large = record {
     values = value_pairs values;
-    formulas = reads.0;
-    styles = reads.1;
-    reads = reads.2;
+    reads = reads;
     large = subst (λ (area : Option Dimensions). 16777216 < area_count area) area_asked large;
   }
 
@@ -183,55 +227,104 @@ refused_alike cause large error fails = fails
 
 -- ---- the laws
 
+-- the values of rows are there where the sheet is read
+row_values_read : (shown : Bool) (parts : List Part) (name : List ℕ) → IsReadable parts name
+    → (values : List ((ℕ × ℕ) × CellValue)) × HasRowValues shown parts name values
+row_values_read false parts name (values, formulas, styles, reads) =
+    (values, (formulas, styles, reads))
+row_values_read true parts name readable = shown_where_read parts name readable
+
+pub read_by_row_values : (shown : Bool) (parts : List Part) (name : List ℕ)
+    (values : List ((ℕ × ℕ) × CellValue)) → HasRowValues shown parts name values
+    → IsReadable parts name
+read_by_row_values false parts name values reads = (values, reads.0, reads.1, reads.2)
+read_by_row_values true parts name values reads = read_where_shown parts name values reads
+
+-- and there are none but these
+abbrev pub HaveSameRowValues : List Part → List Part → List ℕ → Type 0
+HaveSameRowValues parts other name =
+    (shown : Bool) (values more : List ((ℕ × ℕ) × CellValue)) → HasRowValues shown parts name values
+    → HasRowValues shown other name more → values ≡ more
+
+pub row_values_alike : (parts other : List Part) (name : List ℕ) → AreReadAlike parts other name
+    → ((values more : List ((ℕ × ℕ) × CellValue)) → ShownAs parts name values
+    → ShownAs other name more → values ≡ more)
+    → HaveSameRowValues parts other name
+row_values_alike parts other name law shows false values more one two =
+    (law values more one.0 two.0 one.1 two.1 one.2 two.2).0
+row_values_alike parts other name law shows true values more one two = shows values more one two
+
+-- they are those of another package that has the same parts where the sheet is read from
+pub row_values_over : (shown : Bool) (one two : List Part) (name : List ℕ)
+    (values : List ((ℕ × ℕ) × CellValue)) → HaveSameSheet one two name
+    → HasRowValues shown one name values → HasRowValues shown two name values
+row_values_over false one two name values same reads =
+    (reads.0, reads.1, reads_over one two name values reads.0 reads.1 same reads.2)
+row_values_over true one two name values same reads = shown_over one two name values same reads
+
 -- a sheet that is read has rows, or too large an area
 pub rows_or_large : (parts : List Part) (name : List ℕ) (asked : AskedRows)
     → IsReadable parts name
-    → ((rows : List ℕ) × AreRowsOf parts name asked rows) ⊎ HasLargeArea parts name asked.from_a1
-rows_or_large parts name asked (values, formulas, styles, reads) =
+    → ((rows : List ℕ) × AreRowsOf parts name asked rows) ⊎ HasLargeArea parts name asked
+rows_or_large parts name asked readable =
+    let (values, reads) = row_values_read asked.shown parts name readable in
     elim (cases_lt 16777216 (area_count (asked_area asked.from_a1 (least_area values)))) [
-      | inl large ↦ inr (record {
-        values = values;
-        formulas = formulas;
-        styles = styles;
-        reads = reads;
-        large = large;
-      })
+      | inl large ↦ inr (record { values = values; reads = reads; large = large })
       | inr fits ↦ inl (
         rows_asked asked values (least_area values),
-        record {
-          values = values;
-          formulas = formulas;
-          styles = styles;
-          reads = reads;
-          fits = fits;
-          listed = refl;
-        },
+        record { values = values; reads = reads; fits = fits; listed = refl },
       )
     ]
 
--- sheets that are read in one way have one text of rows
+-- sheets with the same values have one text of rows
 pub same_rows : (parts other : List Part) (name : List ℕ) (asked : AskedRows)
-    (rows others : List ℕ) → AreReadAlike parts other name → AreRowsOf parts name asked rows
+    (rows others : List ℕ) → HaveSameRowValues parts other name → AreRowsOf parts name asked rows
     → AreRowsOf other name asked others → rows ≡ others
 same_rows parts other name asked rows others law first second =
-    let same = law first.values second.values first.formulas second.formulas first.styles
-    second.styles first.reads second.reads in
     first.listed
-    ∙ ap (λ (own : List ((ℕ × ℕ) × CellValue)). rows_asked asked own (least_area own)) same.0
+    ∙ ap (λ (own : List ((ℕ × ℕ) × CellValue)). rows_asked asked own (least_area own))
+    (law asked.shown first.values second.values first.reads second.reads)
+    ∙ sym second.listed
+
+-- the same of rows as JSON
+pub same_arrays : (parts other : List Part) (name : List ℕ) (asked : AskedRows)
+    (rows others : List ℕ) → HaveSameRowValues parts other name
+    → AreArraysOf parts name asked rows → AreArraysOf other name asked others → rows ≡ others
+same_arrays parts other name asked rows others law first second =
+    first.listed
+    ∙ ap (λ (own : List ((ℕ × ℕ) × CellValue)).
+    arrays_placed asked.options own (asked_area asked.from_a1 (least_area own)))
+    (law asked.shown first.values second.values first.reads second.reads)
     ∙ sym second.listed
 
 pub not_both : (one two : ℕ) → one ≡ two → one ≤ 16777216 → 16777216 < two → ⊥
 not_both one two same fits large = omega arith
 
--- and an area that is too large or isn't
-pub rows_never : (parts : List Part) (name : List ℕ) (asked : AskedRows) (rows : List ℕ)
-    → AreReadAlike parts parts name → AreRowsOf parts name asked rows
-    → HasLargeArea parts name asked.from_a1 → ⊥
-rows_never parts name asked rows law prints has =
-    let same = law prints.values has.values prints.formulas has.formulas prints.styles has.styles
-    prints.reads has.reads in
-    not_both (area_count (asked_area asked.from_a1 (least_area prints.values)))
+-- the values of rows that are printed lie in one area, too large or not
+area_never : (parts : List Part) (name : List ℕ) (asked : AskedRows)
+    (values : List ((ℕ × ℕ) × CellValue)) → AreReadAlike parts parts name
+    → HasRowValues asked.shown parts name values
+    → area_count (asked_area asked.from_a1 (least_area values)) ≤ 16777216
+    → HasLargeArea parts name asked → ⊥
+area_never parts name asked values law reads fits has =
+    not_both (area_count (asked_area asked.from_a1 (least_area values)))
     (area_count (asked_area asked.from_a1 (least_area has.values)))
     (ap (λ (own : List ((ℕ × ℕ) × CellValue)). area_count
-    (asked_area asked.from_a1 (least_area own))) same.0)
-    prints.fits has.large
+    (asked_area asked.from_a1 (least_area own)))
+    (row_values_alike parts parts name law (one_shown parts name) asked.shown values has.values
+    reads has.reads))
+    fits has.large
+
+-- so rows have no area that is too large
+pub rows_never : (parts : List Part) (name : List ℕ) (asked : AskedRows) (rows : List ℕ)
+    → AreReadAlike parts parts name → AreRowsOf parts name asked rows
+    → HasLargeArea parts name asked → ⊥
+rows_never parts name asked rows law prints has =
+    area_never parts name asked prints.values law prints.reads prints.fits has
+
+-- the same of rows as JSON
+pub arrays_never : (parts : List Part) (name : List ℕ) (asked : AskedRows) (rows : List ℕ)
+    → AreReadAlike parts parts name → AreArraysOf parts name asked rows
+    → HasLargeArea parts name asked → ⊥
+arrays_never parts name asked rows law prints has =
+    area_never parts name asked prints.values law prints.reads prints.fits has

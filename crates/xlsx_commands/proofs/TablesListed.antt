@@ -8,7 +8,9 @@ use Rattle.cell_refs.specs.Positions.{are_sheet_bounds}
 use Rattle.cell_refs.specs.declared.TheConstants.{MAX_ROWS, MAX_COLUMNS}
 use Rattle.cell_refs.specs.declared.dimensions.Dimensions.{Dimensions}
 use Rattle.cell_refs.proofs.PositionOrder.{and_both}
-use Rattle.list_lines.specs.Lines.{LiesInWorksheet, table_line}
+use Rattle.list_lines.specs.Inside.{LiesInWorksheet}
+use Rattle.list_lines.specs.Lines.{table_line}
+use Rattle.list_lines.specs.declared.content.LineForm.{LineForm}
 use Rattle.cell_data.specs.declared.value.HeaderRow.TheVariants.{FirstNonEmptyRow}
 use Rattle.input_package.specs.Told.{Told}
 use Rattle.part_events.specs.Package.{Part, SameParts}
@@ -108,14 +110,14 @@ next_table (own ∷ tables) (suc index) name rest is =
     }
 
 -- the line of the table at an index
-pub line_at : (tables : List SheetTable) (index : ℕ) (own : SheetTable)
+pub line_at : (form : LineForm) (tables : List SheetTable) (index : ℕ) (own : SheetTable)
     (name sheet : List ℕ) (area : Option Dimensions) (columns : List (List ℕ))
     → slice_get tables index ≡ Some own → own.table.name ≡ name
     → Some sheet ≡ option_map (λ (one : SheetTable). one.sheet) (slice_get tables index)
     → Some area ≡ option_map (λ (one : SheetTable). one.table.area) (slice_get tables index)
     → Some columns ≡ option_map (λ (one : SheetTable). one.table.columns) (slice_get tables index)
-    → table_line name sheet area columns ≡ line_of_table own
-line_at tables index own name sheet area columns there named on at with =
+    → table_line form name sheet area columns ≡ line_of_table form own
+line_at form tables index own name sheet area columns there named on at with =
     let sheets : Some sheet ≡ Some own.sheet =
     on ∙ ap (option_map (λ (one : SheetTable). one.sheet)) there in
     let areas : Some area ≡ Some own.table.area =
@@ -125,20 +127,21 @@ line_at tables index own name sheet area columns there named on at with =
     let one : sheet ≡ own.sheet = cc in
     let two : area ≡ own.table.area = cc in
     let three : columns ≡ own.table.columns = cc in
-    ap (λ (text : List ℕ). table_line text sheet area columns) (sym named)
-    ∙ ap (λ (text : List ℕ). table_line own.table.name text area columns) one
-    ∙ ap (λ (there : Option Dimensions). table_line own.table.name own.sheet there columns) two
-    ∙ ap (table_line own.table.name own.sheet own.table.area) three
+    ap (λ (text : List ℕ). table_line form text sheet area columns) (sym named)
+    ∙ ap (λ (text : List ℕ). table_line form own.table.name text area columns) one
+    ∙ ap (λ (there : Option Dimensions). table_line form own.table.name own.sheet there columns)
+    two
+    ∙ ap (table_line form own.table.name own.sheet own.table.area) three
 
 -- a line more
-pub lines_more : (tables : List SheetTable) (index : ℕ) (own : SheetTable)
+pub lines_more : (form : LineForm) (tables : List SheetTable) (index : ℕ) (own : SheetTable)
     (old new whole : List ℕ) → drop index tables ≡ own ∷ drop (suc index) tables
-    → new ≡ old ++ line_of_table own → old ++ table_lines (drop index tables) ≡ whole
-    → new ++ table_lines (drop (suc index) tables) ≡ whole
-lines_more tables index own old new whole first pushed so_far =
-    ap (λ (text : List ℕ). text ++ table_lines (drop (suc index) tables)) pushed
-    ∙ append_assoc old (line_of_table own) (table_lines (drop (suc index) tables))
-    ∙ ap (λ (left : List SheetTable). old ++ table_lines left) (sym first)
+    → new ≡ old ++ line_of_table form own → old ++ table_lines form (drop index tables) ≡ whole
+    → new ++ table_lines form (drop (suc index) tables) ≡ whole
+lines_more form tables index own old new whole first pushed so_far =
+    ap (λ (text : List ℕ). text ++ table_lines form (drop (suc index) tables)) pushed
+    ∙ append_assoc old (line_of_table form own) (table_lines form (drop (suc index) tables))
+    ∙ ap (λ (left : List SheetTable). old ++ table_lines form left) (sym first)
     ∙ so_far
 
 -- where the names end, so do the tables

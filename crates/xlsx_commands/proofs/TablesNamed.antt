@@ -173,7 +173,7 @@ area_never areas grounds header name (Some area) path parts range error there re
     areas grounds header name area path parts range error reads cause
 
 -- the tables of a workbook are had once
-same_tables : (parts : List Part) (one two : List SheetTable) → HasTables parts one
+pub same_tables : (parts : List Part) (one two : List SheetTable) → HasTables parts one
     → HasTables parts two → one ≡ two
 same_tables parts one two first second =
     let sheets = same_sheets parts first.opening second.opening first.opens second.opens in

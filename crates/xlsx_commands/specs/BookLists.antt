@@ -2,7 +2,8 @@
 use Rattle.std.specs.Prelude.{◌≡◌, ℕ, List, codes, map}
 use Rattle.std.specs.List.{flat_map}
 use Rattle.part_events.specs.Package.{Part}
-use Rattle.list_lines.specs.Lines.{sheet_line, pair_line}
+use Rattle.list_lines.specs.Lines.{sheet_line, name_line}
+use Rattle.list_lines.specs.declared.content.LineForm.{LineForm}
 use Rattle.xlsx_workbook.specs.KeptContents.{pair_of}
 use Rattle.xlsx_workbook.specs.declared.sheet.Metadata.{Metadata}
 use Rattle.xlsx_workbook.specs.declared.sheet.SheetType.{SheetType}
@@ -25,26 +26,26 @@ state_word Hidden = codes "hidden"
 state_word VeryHidden = codes "veryHidden"
 
 -- a line for each sheet, and one for each defined name
-abbrev pub sheet_lines : List ListedSheet → List ℕ
-sheet_lines sheets =
+abbrev pub sheet_lines : LineForm → List ListedSheet → List ℕ
+sheet_lines form sheets =
     flat_map
-    (λ sheet. sheet_line sheet.name (type_word sheet.typ) (state_word sheet.visible)) sheets
+    (λ sheet. sheet_line form sheet.name (type_word sheet.typ) (state_word sheet.visible)) sheets
 
 -- the lines of defined names
-abbrev pub name_lines : List (List ℕ × List ℕ) → List ℕ
-name_lines names = flat_map (λ name. pair_line name.0 name.1) names
+abbrev pub name_lines : LineForm → List (List ℕ × List ℕ) → List ℕ
+name_lines form names = flat_map (λ name. name_line form name.0 name.1) names
 
 -- the workbook opens, and these are the lines of its sheets
-pub record AreSheetLines (parts : List Part) (lines : List ℕ) : Type 0 where
+pub record AreSheetLines (form : LineForm) (parts : List Part) (lines : List ℕ) : Type 0 where
   pub opening : Opening
   pub opens : OpensAs parts opening
-  pub listed : lines ≡ sheet_lines (map without_path opening.sheets)
+  pub listed : lines ≡ sheet_lines form (map without_path opening.sheets)
 
 -- the workbook opens, and these are the lines of its defined names
-pub record AreNameLines (parts : List Part) (lines : List ℕ) : Type 0 where
+pub record AreNameLines (form : LineForm) (parts : List Part) (lines : List ℕ) : Type 0 where
   pub opening : Opening
   pub opens : OpensAs parts opening
-  pub listed : lines ≡ name_lines opening.names
+  pub listed : lines ≡ name_lines form opening.names
 
 -- the workbook opens, and has these sheets and these names
 pub record HasMetadata (parts : List Part) (metadata : Metadata) : Type 0 where

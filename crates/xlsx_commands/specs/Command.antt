@@ -6,11 +6,14 @@ use Rattle.std.specs.Str.{bytes_eq}
 use Rattle.std.specs.declared.alloc.Global.{Global}
 use Rattle.cell_refs.specs.A1.{corner}
 use Rattle.cell_refs.specs.declared.error.RefError.{RefError}
+use Rattle.list_lines.specs.declared.content.LineForm.{LineForm}
+use Rattle.list_lines.specs.declared.content.LineForm.TheVariants.{Text, Json}
 use Rattle.part_events.specs.Package.{Part}
 use Rattle.xlsx_sample.specs.Sample.{sample_parts}
 use Rattle.xlsx_sections.specs.NumberText.{number_text}
 use Rattle.xlsx_rows.specs.declared.options.CsvOptions.{CsvOptions}
 use Rattle.xlsx_commands.specs.AskedRows.{options_asked, plain_rows, table_rows_asked}
+use Rattle.xlsx_commands.specs.AskedArrays.{arrays_asked}
 use Rattle.xlsx_commands.specs.declared.asked_rows.AskedRows.{AskedRows}
 use Rattle.xlsx_commands.specs.declared.command.Command.{Command as Asked}
 use Rattle.xlsx_commands.specs.declared.command.Command.TheVariants as asked
@@ -21,18 +24,19 @@ texts words = map string_bytes words
 
 -- what is asked for
 pub data Command : Type 0 where
-  cells : List ℕ → Command
-  sheets : Command
-  names : Command
-  merges : List ℕ → Command
-  links : List ℕ → Command
-  comments : List ℕ → Command
-  props : Command
+  cells : LineForm → List ℕ → Command
+  sheets : LineForm → Command
+  names : LineForm → Command
+  merges : LineForm → List ℕ → Command
+  links : LineForm → List ℕ → Command
+  comments : LineForm → List ℕ → Command
+  props : LineForm → Command
   csv : List ℕ → AskedRows → Command
   csv_table : List ℕ → CsvOptions → Command
-  tables : Command
+  row_arrays : List ℕ → AskedRows → Command
+  tables : LineForm → Command
   table : List ℕ → Command
-  pivots : Command
+  pivots : LineForm → Command
   pivot : List ℕ → List ℕ → Command
   precedents : List ℕ → Command
   dependents : List ℕ → ℕ × ℕ → Command
@@ -45,18 +49,19 @@ pub data Command : Type 0 where
 
 -- the command that was asked, by the texts of its names
 abbrev pub command_meant : Asked → Command
-command_meant (asked.Cells name) = cells name.now
-command_meant asked.Sheets = sheets
-command_meant asked.Names = names
-command_meant (asked.Merges name) = merges name.now
-command_meant (asked.Links name) = links name.now
-command_meant (asked.Comments name) = comments name.now
-command_meant asked.Props = props
+command_meant (asked.Cells form name) = cells form name.now
+command_meant (asked.Sheets form) = sheets form
+command_meant (asked.Names form) = names form
+command_meant (asked.Merges form name) = merges form name.now
+command_meant (asked.Links form name) = links form name.now
+command_meant (asked.Comments form name) = comments form name.now
+command_meant (asked.Props form) = props form
 command_meant (asked.Csv name rows) = csv name.now rows
 command_meant (asked.CsvTable name options) = csv_table name.now options
-command_meant asked.Tables = tables
+command_meant (asked.Rows name own) = row_arrays name.now own
+command_meant (asked.Tables form) = tables form
 command_meant (asked.Table name) = table name.now
-command_meant asked.Pivots = pivots
+command_meant (asked.Pivots form) = pivots form
 command_meant (asked.Pivot sheet name) = pivot sheet.now name.now
 command_meant (asked.Precedents name) = precedents name.now
 command_meant (asked.Dependents name position) = dependents name.now position
@@ -84,24 +89,46 @@ if_position (Err error) = None
 abbrev pub position_asked : List ℕ → Option (ℕ × ℕ)
 position_asked word = if_position (corner word)
 
+-- a list of the workbook, in its form
+abbrev pub book_list : LineForm → List ℕ → Option Command
+book_list form word =
+    if bytes_eq word (codes "sheets") then Some (sheets form)
+    else (if bytes_eq word (codes "names") then Some (names form)
+    else (if bytes_eq word (codes "props") then Some (props form)
+    else (if bytes_eq word (codes "tables") then Some (tables form)
+    else (if bytes_eq word (codes "pivots") then Some (pivots form) else None))))
+
+-- a list of the sheet of a name, in its form
+abbrev pub sheet_list : LineForm → List ℕ → List ℕ → Option Command
+sheet_list form word name =
+    if bytes_eq word (codes "cells") then Some (cells form name)
+    else (if bytes_eq word (codes "merges") then Some (merges form name)
+    else (if bytes_eq word (codes "links") then Some (links form name)
+    else (if bytes_eq word (codes "comments") then Some (comments form name) else None)))
+
+-- a list as JSON, where the word behind it asks for that
+abbrev pub if_json : List ℕ → Option Command → Option Command
+if_json option command = if bytes_eq option (codes "--json") then command else None
+
 -- a command of one word
 abbrev pub bare_command : List ℕ → Option Command
 bare_command word =
-    if bytes_eq word (codes "sheets") then Some sheets
-    else (if bytes_eq word (codes "names") then Some names
-    else (if bytes_eq word (codes "props") then Some props
-    else (if bytes_eq word (codes "tables") then Some tables
-    else (if bytes_eq word (codes "pivots") then Some pivots
-    else (if bytes_eq word (codes "upgrade") then Some upgrade else None)))))
+    if bytes_eq word (codes "upgrade") then Some upgrade else book_list Text word
+
+-- this command, or else the other
+abbrev pub or_command : Option Command → Option Command → Option Command
+or_command None other = other
+or_command (Some command) other = Some command
+
+-- a list of the sheet of a name, or one of the workbook as JSON
+abbrev pub listed_command : List ℕ → List ℕ → Option Command
+listed_command word name =
+    or_command (sheet_list Text word name) (if_json name (book_list Json word))
 
 -- a command of two
 abbrev pub named_command : List ℕ → List ℕ → Option Command
 named_command word name =
-    if bytes_eq word (codes "cells") then Some (cells name)
-    else (if bytes_eq word (codes "merges") then Some (merges name)
-    else (if bytes_eq word (codes "links") then Some (links name)
-    else (if bytes_eq word (codes "comments") then Some (comments name)
-    else (if bytes_eq word (codes "csv") then Some (csv name plain_rows)
+    if bytes_eq word (codes "csv") then Some (csv name plain_rows)
     else (if bytes_eq word (codes "csv-table") then Some (csv_table name plain_rows.options)
     else (if bytes_eq word (codes "table") then Some (table name)
     else (if bytes_eq word (codes "precedents") then Some (precedents name)
@@ -109,7 +136,7 @@ named_command word name =
     else (if bytes_eq word (codes "part") then Some (part name)
     else (if bytes_eq word (codes "resave") then Some (resave name)
     else (if bytes_eq word (codes "sample") then option_map sample (rows_asked name)
-    else None)))))))))))
+    else listed_command word name)))))))
 
 -- the workbook file of the sheet of a name, where the word behind the name asks for one
 abbrev pub resave_asked : List ℕ → List ℕ → Option Command
@@ -121,7 +148,8 @@ placed_command word sheet name =
     if bytes_eq word (codes "pivot") then Some (pivot sheet name)
     else (if bytes_eq word (codes "dependents")
     then option_map (dependents sheet) (position_asked name)
-    else (if bytes_eq word (codes "resave") then resave_asked sheet name else None))
+    else (if bytes_eq word (codes "resave") then resave_asked sheet name
+    else if_json name (sheet_list Json word sheet)))
 
 -- a command of three, by the word behind its name
 abbrev pub three_words : List ℕ → List ℕ → List (List ℕ) → Option Command
@@ -134,29 +162,36 @@ abbrev pub asked_command : List ℕ → List ℕ → List (List ℕ) → Option 
 asked_command word name words =
     if bytes_eq word (codes "csv") then option_map (csv name) (options_asked plain_rows words)
     else (if bytes_eq word (codes "csv-table")
-    then option_map (csv_table name) (table_rows_asked words) else three_words word name words)
+    then option_map (csv_table name) (table_rows_asked words)
+    else (if bytes_eq word (codes "rows") then option_map (row_arrays name) (arrays_asked words)
+    else three_words word name words))
+
+-- a command of a word and a name, with the words behind them
+abbrev pub command_on : List ℕ → List ℕ → List (List ℕ) → Option Command
+command_on word name [] = named_command word name
+command_on word name (further ∷ words) = asked_command word name (further ∷ words)
 
 -- the command that words are; no other words are one
 abbrev pub command_of : List (List ℕ) → Option Command
 command_of [] = None
 command_of (word ∷ []) = bare_command word
-command_of (word ∷ name ∷ []) = named_command word name
-command_of (word ∷ name ∷ further ∷ words) = asked_command word name (further ∷ words)
+command_of (word ∷ name ∷ words) = command_on word name words
 
 -- the parts that a command works on where it reads no input
 unfoldable pub own_parts : Command → Option (List Part)
-own_parts (cells name) = None
-own_parts sheets = None
-own_parts names = None
-own_parts (merges name) = None
-own_parts (links name) = None
-own_parts (comments name) = None
-own_parts props = None
+own_parts (cells form name) = None
+own_parts (sheets form) = None
+own_parts (names form) = None
+own_parts (merges form name) = None
+own_parts (links form name) = None
+own_parts (comments form name) = None
+own_parts (props form) = None
 own_parts (csv name rows) = None
 own_parts (csv_table name options) = None
-own_parts tables = None
+own_parts (row_arrays name asked) = None
+own_parts (tables form) = None
 own_parts (table name) = None
-own_parts pivots = None
+own_parts (pivots form) = None
 own_parts (pivot sheet name) = None
 own_parts (precedents name) = None
 own_parts (dependents name position) = None

@@ -1,12 +1,17 @@
+pub mod AskedArrays
 pub mod AskedRows
 pub mod BookLists
 pub mod CacheRows
+pub mod ChosenSheets
 pub mod Command
 pub mod FormulaLists
 pub mod Outputs
 pub mod PartNames
 pub mod PivotLists
 pub mod PropertyLists
+pub mod Request
+pub mod ResavedFile
+pub mod RowArrays
 pub mod SampleLines
 pub mod SheetLists
 pub mod SheetRows
@@ -16,4 +21,3 @@ pub mod Status
 pub mod TableLists
 pub mod TableRows
 pub mod TablesOpened
-pub mod ResavedFile

@@ -4,6 +4,9 @@ use Rattle.part_events.specs.Package.{Part}
 use Rattle.xlsx_error.specs.declared.error.XlsxError.{XlsxError}
 use Rattle.cell_data.specs.CellValue.{CellValue}
 use Rattle.cell_styles.specs.StyleMap.{StyleMap}
+use Rattle.list_lines.specs.declared.content.LineForm.{LineForm}
+use Rattle.list_lines.specs.declared.content.LineForm.TheVariants.{Text, Json}
+use Rattle.sheet_listing.specs.CellObjects.{object_listing}
 use Rattle.sheet_listing.specs.SheetListing.{listing}
 use Rattle.package_text.specs.WrittenPackage.{written_package}
 use Rattle.xlsx_open.specs.Opening.{OpeningCause}
@@ -15,12 +18,13 @@ use Rattle.xlsx_commands.specs.Command.{Command, cells, sheets, names, merges, l
 use Rattle.xlsx_commands.specs.CacheRows.{ArePivotRows, NamedPivotCause}
 use Rattle.xlsx_commands.specs.Command.{csv_table, tables, table, pivots, pivot, precedents}
 use Rattle.xlsx_commands.specs.Command.{dependents, check, part, upgrade, resave, sample, comments}
-use Rattle.xlsx_commands.specs.Command.{resave_file}
+use Rattle.xlsx_commands.specs.Command.{resave_file, row_arrays}
 use Rattle.xlsx_commands.specs.FormulaLists.{ArePrecedentLines, AreDependentLines, AreCheckLines}
 use Rattle.xlsx_commands.specs.PartNames.{IsPartLine, NamedPartCause}
 use Rattle.xlsx_commands.specs.PivotLists.{ArePivotLines, ListedPivotsCause}
 use Rattle.xlsx_commands.specs.ResavedFile.{IsResavedFile, HasNoFile}
 use Rattle.xlsx_commands.specs.PropertyLists.{ArePropertyLines, ListedPropertiesCause}
+use Rattle.xlsx_commands.specs.RowArrays.{AreArraysOf}
 use Rattle.xlsx_commands.specs.SampleLines.{AreSampleLines, sample_name}
 use Rattle.xlsx_commands.specs.SheetLists.{AreMergeLines, NamedMergesCause, AreLinkLines}
 use Rattle.xlsx_commands.specs.SheetLists.{NamedLinksCause, AreCommentLines, NamedCommentsCause}
@@ -40,6 +44,19 @@ pub record AreLinesOf (parts : List Part) (name lines : List ℕ) : Type 0 where
   pub reads : ReadsAs parts name values formulas styles
   pub listed : lines ≡ listing values formulas styles
 
+-- these are the objects of JSON of that sheet, each in a line
+pub record AreObjectsOf (parts : List Part) (name lines : List ℕ) : Type 0 where
+  pub values : List ((ℕ × ℕ) × CellValue)
+  pub formulas : List ((ℕ × ℕ) × List ℕ)
+  pub styles : StyleMap
+  pub reads : ReadsAs parts name values formulas styles
+  pub listed : lines ≡ object_listing values formulas styles
+
+-- these are the lines of that sheet in their form
+abbrev pub AreCellLines : LineForm → List Part → List ℕ → List ℕ → Type 0
+AreCellLines Text parts name lines = AreLinesOf parts name lines
+AreCellLines Json parts name lines = AreObjectsOf parts name lines
+
 -- the text of the package in version 2, and a line feed
 abbrev pub IsUpgrade : List Part → List ℕ → Type 0
 IsUpgrade parts output = output ≡ written_package parts ++ 10 ∷ []
@@ -57,18 +74,19 @@ pub record IsResaved (parts : List Part) (name output : List ℕ) : Type 0 where
 
 -- these bytes are the output of a command on a package of these parts
 unfoldable pub IsOutput : Command → List Part → List ℕ → Type 0
-IsOutput (cells name) parts output = AreLinesOf parts name output
-IsOutput sheets parts output = AreSheetLines parts output
-IsOutput names parts output = AreNameLines parts output
-IsOutput (merges name) parts output = AreMergeLines parts name output
-IsOutput (links name) parts output = AreLinkLines parts name output
-IsOutput (comments name) parts output = AreCommentLines parts name output
-IsOutput props parts output = ArePropertyLines parts output
+IsOutput (cells form name) parts output = AreCellLines form parts name output
+IsOutput (sheets form) parts output = AreSheetLines form parts output
+IsOutput (names form) parts output = AreNameLines form parts output
+IsOutput (merges form name) parts output = AreMergeLines form parts name output
+IsOutput (links form name) parts output = AreLinkLines form parts name output
+IsOutput (comments form name) parts output = AreCommentLines form parts name output
+IsOutput (props form) parts output = ArePropertyLines form parts output
 IsOutput (csv name asked) parts output = AreRowsOf parts name asked output
 IsOutput (csv_table name options) parts output = AreTableRows parts name options output
-IsOutput tables parts output = AreTableLines parts output
+IsOutput (row_arrays name asked) parts output = AreArraysOf parts name asked output
+IsOutput (tables form) parts output = AreTableLines form parts output
 IsOutput (table name) parts output = AreTableValueLines parts name output
-IsOutput pivots parts output = ArePivotLines parts output
+IsOutput (pivots form) parts output = ArePivotLines form parts output
 IsOutput (pivot sheet name) parts output = ArePivotRows parts sheet name output
 IsOutput (precedents name) parts output = ArePrecedentLines parts name output
 IsOutput (dependents name position) parts output = AreDependentLines parts name position output
@@ -81,18 +99,19 @@ IsOutput (sample rows) parts output = AreSampleLines rows parts output
 
 -- why its workbook refuses it
 unfoldable pub RefusedWorkbookCause : Command → List Part → XlsxError → Type 0
-RefusedWorkbookCause (cells name) parts error = SheetCause parts name error
-RefusedWorkbookCause sheets parts error = OpeningCause parts error
-RefusedWorkbookCause names parts error = OpeningCause parts error
-RefusedWorkbookCause (merges name) parts error = NamedMergesCause parts name error
-RefusedWorkbookCause (links name) parts error = NamedLinksCause parts name error
-RefusedWorkbookCause (comments name) parts error = NamedCommentsCause parts name error
-RefusedWorkbookCause props parts error = ListedPropertiesCause parts error
+RefusedWorkbookCause (cells form name) parts error = SheetCause parts name error
+RefusedWorkbookCause (sheets form) parts error = OpeningCause parts error
+RefusedWorkbookCause (names form) parts error = OpeningCause parts error
+RefusedWorkbookCause (merges form name) parts error = NamedMergesCause parts name error
+RefusedWorkbookCause (links form name) parts error = NamedLinksCause parts name error
+RefusedWorkbookCause (comments form name) parts error = NamedCommentsCause parts name error
+RefusedWorkbookCause (props form) parts error = ListedPropertiesCause parts error
 RefusedWorkbookCause (csv name asked) parts error = SheetCause parts name error
 RefusedWorkbookCause (csv_table name options) parts error = NamedTableCause parts name error
-RefusedWorkbookCause tables parts error = ListedTablesCause parts error
+RefusedWorkbookCause (row_arrays name asked) parts error = SheetCause parts name error
+RefusedWorkbookCause (tables form) parts error = ListedTablesCause parts error
 RefusedWorkbookCause (table name) parts error = NamedTableCause parts name error
-RefusedWorkbookCause pivots parts error = ListedPivotsCause parts error
+RefusedWorkbookCause (pivots form) parts error = ListedPivotsCause parts error
 RefusedWorkbookCause (pivot sheet name) parts error = NamedPivotCause parts sheet name error
 RefusedWorkbookCause (precedents name) parts error = SheetCause parts name error
 RefusedWorkbookCause (dependents name position) parts error = SheetCause parts name error
@@ -105,8 +124,9 @@ RefusedWorkbookCause (sample rows) parts error = SheetCause parts sample_name er
 
 -- why it is refused because an area has too many cells
 unfoldable pub IsTooLarge : Command → List Part → Type 0
-IsTooLarge (csv name asked) parts = HasLargeArea parts name asked.from_a1
+IsTooLarge (csv name asked) parts = HasLargeArea parts name asked
 IsTooLarge (csv_table name options) parts = HasLargeTable parts name
+IsTooLarge (row_arrays name asked) parts = HasLargeArea parts name asked
 IsTooLarge _ parts = ⊥
 
 -- why it is refused because no workbook file can hold what is read

@@ -1,7 +1,8 @@
 -- What `pivots` prints of a workbook, and why it can't.
 use Rattle.std.specs.Prelude.{◌≡◌, ℕ, List, Some}
 use Rattle.std.specs.List.{flat_map}
-use Rattle.list_lines.specs.Lines.{pair_line}
+use Rattle.list_lines.specs.Lines.{pivot_line}
+use Rattle.list_lines.specs.declared.content.LineForm.{LineForm}
 use Rattle.part_events.specs.Package.{Part}
 use Rattle.xlsx_error.specs.declared.error.XlsxError.{XlsxError}
 use Rattle.xlsx_relationships.specs.Paths.{folder_of}
@@ -22,11 +23,11 @@ abbrev pub ListedPivotsCause : List Part → XlsxError → Type 0
 ListedPivotsCause parts error = ListedCause PivotsCause parts error
 
 -- the line of each pivot table, by the name of its sheet and its own
-abbrev pub pivot_lines : List (List ℕ × List ℕ) → List ℕ
-pivot_lines pairs = flat_map (λ pair. pair_line pair.0 pair.1) pairs
+abbrev pub pivot_lines : LineForm → List (List ℕ × List ℕ) → List ℕ
+pivot_lines form pairs = flat_map (λ pair. pivot_line form pair.0 pair.1) pairs
 
 -- these are the lines of the pivot tables
-pub record ArePivotLines (parts : List Part) (lines : List ℕ) : Type 0 where
+pub record ArePivotLines (form : LineForm) (parts : List Part) (lines : List ℕ) : Type 0 where
   pub pivots : List PivotSaid
   pub has : HasPivots parts pivots
-  pub listed : lines ≡ pivot_lines (pairs_of pivots)
+  pub listed : lines ≡ pivot_lines form (pairs_of pivots)

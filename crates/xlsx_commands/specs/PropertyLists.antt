@@ -8,6 +8,7 @@ use Rattle.std.specs.Map.{keys_of, lookup}
 use Rattle.std.specs.Ordering.{nat_cmp}
 use Rattle.part_events.specs.Package.{Part}
 use Rattle.list_lines.specs.Lines.{property_line, custom_line}
+use Rattle.list_lines.specs.declared.content.LineForm.{LineForm}
 use Rattle.xlsx_error.specs.declared.error.XlsxError.{XlsxError}
 use Rattle.xlsx_properties.specs.Kept.{held, custom_held}
 use Rattle.xlsx_properties.specs.Parts.{SayProperties, PropertiesCause}
@@ -27,21 +28,22 @@ abbrev pub AreByName : List (List ℕ × List ℕ) → Type 0
 AreByName customs = IsStrictlySortedBy (slice_cmp nat_cmp) (keys_of customs)
 
 -- the line of a property, where the workbook says its text
-abbrev pub line_if_said : List ℕ → Option (List ℕ) → List ℕ
-line_if_said name None = []
-line_if_said name (Some text) = property_line name text
+abbrev pub line_if_said : LineForm → List ℕ → Option (List ℕ) → List ℕ
+line_if_said form name None = []
+line_if_said form name (Some text) = property_line form name text
 
 -- a line for each of these that the workbook says
-abbrev pub lines_said : (Property → Option (List ℕ)) → List (List ℕ × Property) → List ℕ
-lines_said texts all = flat_map (λ own. line_if_said own.0 (texts own.1)) all
+abbrev pub lines_said :
+    LineForm → (Property → Option (List ℕ)) → List (List ℕ × Property) → List ℕ
+lines_said form texts all = flat_map (λ own. line_if_said form own.0 (texts own.1)) all
 
 -- and for each of all, in their order
-abbrev pub property_lines : (Property → Option (List ℕ)) → List ℕ
-property_lines texts = lines_said texts named_properties
+abbrev pub property_lines : LineForm → (Property → Option (List ℕ)) → List ℕ
+property_lines form texts = lines_said form texts named_properties
 
 -- and one for each that users named
-abbrev pub custom_lines : List (List ℕ × List ℕ) → List ℕ
-custom_lines customs = flat_map (λ own. custom_line own.0 own.1) customs
+abbrev pub custom_lines : LineForm → List (List ℕ × List ℕ) → List ℕ
+custom_lines form customs = flat_map (λ own. custom_line form own.0 own.1) customs
 
 -- the workbook opens, and these are the properties that its parts say
 pub record HasProperties (parts : List Part) (kept : WorkbookProperties) : Type 0 where
@@ -49,13 +51,13 @@ pub record HasProperties (parts : List Part) (kept : WorkbookProperties) : Type 
   pub say : SayProperties parts (λ own. held own kept) (λ name. custom_held name kept)
 
 -- the workbook opens, and these are the lines of its properties
-pub record ArePropertyLines (parts : List Part) (lines : List ℕ) : Type 0 where
+pub record ArePropertyLines (form : LineForm) (parts : List Part) (lines : List ℕ) : Type 0 where
   pub texts : Property → Option (List ℕ)
   pub customs : List (List ℕ × List ℕ)
   pub opens : OpensSoundly parts
   pub say : SayProperties parts texts (text_of_name customs)
   pub by_name : AreByName customs
-  pub listed : lines ≡ property_lines texts ++ custom_lines customs
+  pub listed : lines ≡ property_lines form texts ++ custom_lines form customs
 
 -- why there are none
 abbrev pub ListedPropertiesCause : List Part → XlsxError → Type 0

@@ -3,7 +3,9 @@ use Rattle.std.specs.Prelude.{◌≡◌, ◌⊎◌, ℕ, List, Option, Some}
 use Rattle.std.specs.List.{flat_map}
 use Rattle.cell_refs.specs.declared.dimensions.Dimensions.{Dimensions}
 use Rattle.part_events.specs.Package.{Part}
-use Rattle.list_lines.specs.Lines.{area_line, comment_line, link_line, LiesInWorksheet}
+use Rattle.list_lines.specs.Inside.{LiesInWorksheet}
+use Rattle.list_lines.specs.Lines.{area_line, comment_line, link_line}
+use Rattle.list_lines.specs.declared.content.LineForm.{LineForm}
 use Rattle.xlsx_error.specs.declared.error.XlsxError.{XlsxError}
 use Rattle.xlsx_error.specs.declared.error.XlsxError.TheVariants.{WorksheetNotFound}
 use Rattle.xlsx_areas.specs.Hyperlinks.{Link, link_said}
@@ -56,14 +58,14 @@ abbrev pub NamedMergesCause : List Part → List ℕ → XlsxError → Type 0
 NamedMergesCause parts name error = NamedCause (MergesPathCause name) parts name error
 
 -- the lines of merged cells
-abbrev pub merge_lines : List Dimensions → List ℕ
-merge_lines areas = flat_map area_line areas
+abbrev pub merge_lines : LineForm → List Dimensions → List ℕ
+merge_lines form areas = flat_map (area_line form) areas
 
 -- these are the lines of the merged cells of that sheet
-pub record AreMergeLines (parts : List Part) (name lines : List ℕ) : Type 0 where
+pub record AreMergeLines (form : LineForm) (parts : List Part) (name lines : List ℕ) : Type 0 where
   pub areas : List Dimensions
   pub has : HasMerges parts name areas
-  pub listed : lines ≡ merge_lines areas
+  pub listed : lines ≡ merge_lines form areas
 
 -- ---- links
 
@@ -76,18 +78,19 @@ abbrev pub NamedLinksCause : List Part → List ℕ → XlsxError → Type 0
 NamedLinksCause parts name error = NamedCause (PlacedLinksCause name) parts name error
 
 -- the line of a link
-abbrev pub line_of_link : Link → List ℕ
-line_of_link own = link_line own.range own.target own.location own.displayed_text own.tooltip
+abbrev pub line_of_link : LineForm → Link → List ℕ
+line_of_link form own =
+    link_line form own.range own.target own.location own.displayed_text own.tooltip
 
 -- the lines of links
-abbrev pub link_lines : List Link → List ℕ
-link_lines links = flat_map line_of_link links
+abbrev pub link_lines : LineForm → List Link → List ℕ
+link_lines form links = flat_map (line_of_link form) links
 
 -- these are the lines of the links of that sheet
-pub record AreLinkLines (parts : List Part) (name lines : List ℕ) : Type 0 where
+pub record AreLinkLines (form : LineForm) (parts : List Part) (name lines : List ℕ) : Type 0 where
   pub links : List Link
   pub has : HasLinks parts name links
-  pub listed : lines ≡ link_lines links
+  pub listed : lines ≡ link_lines form links
 
 -- the cells of a link lie in a worksheet
 abbrev pub IsLinkInside : Link → Type 0
@@ -113,19 +116,20 @@ abbrev pub NamedCommentsCause : List Part → List ℕ → XlsxError → Type 0
 NamedCommentsCause parts name error = NamedCause (CommentsPathCause name) parts name error
 
 -- the line of a comment of a part
-abbrev pub line_of_comment : CommentsSaid → CommentSaid → List ℕ
-line_of_comment part own = comment_line own.position (author_of part own) own.text
+abbrev pub line_of_comment : LineForm → CommentsSaid → CommentSaid → List ℕ
+line_of_comment form part own = comment_line form own.position (author_of part own) own.text
 
 -- the lines of the comments of a part
-abbrev pub part_lines : CommentsSaid → List ℕ
-part_lines part = flat_map (line_of_comment part) part.comments
+abbrev pub part_lines : LineForm → CommentsSaid → List ℕ
+part_lines form part = flat_map (line_of_comment form part) part.comments
 
 -- those of all parts
-abbrev pub comment_lines : List CommentsSaid → List ℕ
-comment_lines all = flat_map part_lines all
+abbrev pub comment_lines : LineForm → List CommentsSaid → List ℕ
+comment_lines form all = flat_map (part_lines form) all
 
 -- these are the lines of the comments of that sheet
-pub record AreCommentLines (parts : List Part) (name lines : List ℕ) : Type 0 where
+pub record AreCommentLines (form : LineForm) (parts : List Part) (name lines : List ℕ)
+    : Type 0 where
   pub all : List CommentsSaid
   pub has : HasComments parts name all
-  pub listed : lines ≡ comment_lines all
+  pub listed : lines ≡ comment_lines form all

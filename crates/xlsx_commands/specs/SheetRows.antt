@@ -1,16 +1,16 @@
 -- What `csv` prints of the values of a sheet, and when their area has too many cells for it.
-use Rattle.std.specs.Prelude.{◌≡◌, ◌≤◌, ◌<◌, ℕ, ◌+◌, ◌*◌, List, ◌++◌, map, Option, option_map, Bool}
-use Rattle.std.specs.Prelude.{if◌then◌else◌}
+use Rattle.std.specs.Prelude.{◌≡◌, ◌≤◌, ◌<◌, ℕ, ◌+◌, ◌*◌, List, ◌++◌, map, Option, option_map}
+use Rattle.std.specs.Prelude.{Bool, true, false, if◌then◌else◌}
 use Rattle.std.specs.List.{flat_map, range_with_len}
 use Rattle.cell_data.specs.CellValue.{CellValue}
 use Rattle.cell_data.specs.Range.{start_of, width_of, height_of}
 use Rattle.cell_refs.specs.Positions.{least_area}
 use Rattle.cell_refs.specs.declared.dimensions.Dimensions.{Dimensions}
-use Rattle.cell_styles.specs.StyleMap.{StyleMap}
 use Rattle.csv.specs.Writing.{row_text}
 use Rattle.part_events.specs.Package.{Part}
 use Rattle.sheet_listing.specs.SheetListing.{value_placed}
-use Rattle.xlsx_core.specs.SheetReading.{ReadsAs}
+use Rattle.xlsx_core.specs.SheetReading.{ReadsValuesAs}
+use Rattle.xlsx_core.specs.ShownSheet.{ShownAs}
 use Rattle.xlsx_rows.specs.RowsText.{bom_text, field_of, writer_of}
 use Rattle.xlsx_rows.specs.declared.options.CsvOptions.{CsvOptions}
 use Rattle.xlsx_commands.specs.declared.asked_rows.AskedRows.{AskedRows}
@@ -48,21 +48,22 @@ rows_asked asked values area =
 abbrev pub area_count : Option Dimensions → ℕ
 area_count area = height_of area * width_of area
 
+-- the sheet of this name is read, and these are its values: as they are, or each as it is shown
+abbrev pub HasRowValues : Bool → List Part → List ℕ → List ((ℕ × ℕ) × CellValue) → Type 0
+HasRowValues false parts name values = ReadsValuesAs parts name values
+HasRowValues true parts name values = ShownAs parts name values
+
 -- the sheet of this name is read, and these are the rows of its values, in the least area that has
 -- them all or from A1
 pub record AreRowsOf
     (parts : List Part) (name : List ℕ) (asked : AskedRows) (rows : List ℕ) : Type 0 where
   pub values : List ((ℕ × ℕ) × CellValue)
-  pub formulas : List ((ℕ × ℕ) × List ℕ)
-  pub styles : StyleMap
-  pub reads : ReadsAs parts name values formulas styles
+  pub reads : HasRowValues asked.shown parts name values
   pub fits : area_count (asked_area asked.from_a1 (least_area values)) ≤ 16777216
   pub listed : rows ≡ rows_asked asked values (least_area values)
 
 -- it is read, and that area has more cells than are written
-pub record HasLargeArea (parts : List Part) (name : List ℕ) (from_a1 : Bool) : Type 0 where
+pub record HasLargeArea (parts : List Part) (name : List ℕ) (asked : AskedRows) : Type 0 where
   pub values : List ((ℕ × ℕ) × CellValue)
-  pub formulas : List ((ℕ × ℕ) × List ℕ)
-  pub styles : StyleMap
-  pub reads : ReadsAs parts name values formulas styles
-  pub large : 16777216 < area_count (asked_area from_a1 (least_area values))
+  pub reads : HasRowValues asked.shown parts name values
+  pub large : 16777216 < area_count (asked_area asked.from_a1 (least_area values))

@@ -11,6 +11,10 @@ use Rattle.xlsx_commands.specs.declared.error.ToolError.TheVariants.{FileTooLarg
 use Rattle.xlsx_commands.specs.declared.error.ToolError.TheVariants.{NotAWorkbookFile, Workbook}
 use Rattle.xlsx_commands.specs.declared.error.ToolError.TheVariants.{WriteFault, OutOfMemory}
 use Rattle.xlsx_commands.specs.declared.error.ToolError.TheVariants.{BoxTooLarge, Unwritable}
+use Rattle.xlsx_commands.specs.declared.error.ToolError.TheVariants.{NotChosen}
+use Rattle.xlsx_commands.specs.declared.sheet_choice.SheetFault.{SheetFault}
+use Rattle.xlsx_commands.specs.declared.sheet_choice.SheetFault.TheVariants.{NoSheet, NamedBefore}
+use Rattle.xlsx_commands.specs.declared.sheet_choice.SheetFault.TheVariants.{NoWorksheet}
 use Rattle.xlsx_rows.specs.declared.error.CsvError.{CsvError}
 use Rattle.xlsx_rows.specs.declared.error.CsvError.TheVariants as rows
 use Rattle.zip_archive.specs.declared.fault.ArchiveFault.{ArchiveFault}
@@ -35,12 +39,22 @@ status_of WriteFault = 7
 status_of OutOfMemory = 8
 status_of BoxTooLarge = 10
 status_of Unwritable = 15
+status_of (NotChosen fault) = 6
 
 -- why the input is no workbook file. The byte is counted from 0
 abbrev pub fault_text : ArchiveFault → List ℕ
 fault_text NoArchive = codes "no record of the end of an archive"
 fault_text Compound = codes "a compound file, as of .xls or encrypted ones"
 fault_text (Damaged at) = codes "no header in the directory at byte " ++ decimal at
+
+-- why no sheet is chosen. Sheets are counted from 1
+abbrev pub choice_text : SheetFault → List ℕ
+choice_text (NoSheet number count) =
+    codes "there is no sheet " ++ (decimal number
+    ++ (codes ": the number of sheets is " ++ decimal count))
+choice_text (NamedBefore number) =
+    codes "sheet " ++ (decimal number ++ codes " has the name of an earlier sheet")
+choice_text NoWorksheet = codes "the workbook has no worksheet"
 
 -- the text of an error of the program
 abbrev pub error_text : ToolError → List ℕ
@@ -55,6 +69,7 @@ error_text WriteFault = codes "write fault"
 error_text OutOfMemory = codes "out of memory"
 error_text BoxTooLarge = codes "box too large"
 error_text Unwritable = codes "no workbook file can hold it"
+error_text (NotChosen fault) = choice_text fault
 
 -- what the refusal of a workbook becomes
 abbrev pub of_workbook : XlsxError → ToolError
@@ -79,6 +94,7 @@ pub data SeenError : Type 0 where
   out_of_memory : SeenError
   box_too_large : SeenError
   unwritable : SeenError
+  not_chosen : SheetFault → SeenError
 
 -- what is seen of an error
 abbrev pub error_seen : ToolError → SeenError
@@ -93,3 +109,4 @@ error_seen WriteFault = write_fault
 error_seen OutOfMemory = out_of_memory
 error_seen BoxTooLarge = box_too_large
 error_seen Unwritable = unwritable
+error_seen (NotChosen fault) = not_chosen fault

@@ -6,6 +6,7 @@ use Rattle.cell_data.specs.declared.table.Table.{Table}
 use Rattle.cell_data.specs.declared.value.Data.{Data}
 use Rattle.cell_data.specs.declared.value.HeaderRow.TheVariants.{FirstNonEmptyRow}
 use Rattle.list_lines.specs.Lines.{table_line}
+use Rattle.list_lines.specs.declared.content.LineForm.{LineForm}
 use Rattle.part_events.specs.Package.{Part}
 use Rattle.sheet_listing.specs.SheetListing.{value_lines}
 use Rattle.xlsx_cells.specs.CellsReader.{values_alone}
@@ -32,18 +33,19 @@ ListedTablesCause parts error = ListedCause TablesCause parts error
 -- ---- their list
 
 -- the line of a table
-abbrev pub line_of_table : SheetTable → List ℕ
-line_of_table own = table_line own.table.name own.sheet own.table.area own.table.columns
+abbrev pub line_of_table : LineForm → SheetTable → List ℕ
+line_of_table form own =
+    table_line form own.table.name own.sheet own.table.area own.table.columns
 
 -- the lines of tables
-abbrev pub table_lines : List SheetTable → List ℕ
-table_lines tables = flat_map line_of_table tables
+abbrev pub table_lines : LineForm → List SheetTable → List ℕ
+table_lines form tables = flat_map (line_of_table form) tables
 
 -- these are the lines of the tables
-pub record AreTableLines (parts : List Part) (lines : List ℕ) : Type 0 where
+pub record AreTableLines (form : LineForm) (parts : List Part) (lines : List ℕ) : Type 0 where
   pub tables : List SheetTable
   pub has : HasTables parts tables
-  pub listed : lines ≡ table_lines tables
+  pub listed : lines ≡ table_lines form tables
 
 -- ---- the values of one
 

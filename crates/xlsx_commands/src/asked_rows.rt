@@ -1,12 +1,13 @@
 //! What is asked of rows behind the name of a sheet or of a table.
 ghost use Rattle.std.specs.Prelude.{◌≡◌, map, string_bytes, option_map};
-ghost use Rattle.xlsx_commands.specs.AskedRows.{behind, is_delimiter, one_delimiter};
+ghost use Rattle.xlsx_commands.specs.AskedRows.{behind, are_spelled, one_delimiter};
 ghost use Rattle.xlsx_commands.specs.AskedRows.{delimiter_asked, one_digit, two_digits};
 ghost use Rattle.xlsx_commands.specs.AskedRows.{digits_asked, unless, delimiter_given};
 ghost use Rattle.xlsx_commands.specs.AskedRows.{digits_given, setting_asked, option_asked};
+ghost use Rattle.xlsx_commands.specs.AskedRows.{written_asked};
 ghost use Rattle.xlsx_commands.specs.AskedRows.{options_asked, plain_rows, table_rows_asked};
 
-use xlsx_rows::CsvOptions;
+use xlsx_rows::{CsvOptions, Delimiter, Digits};
 
 /// How rows are written, and where their area begins.
 #[derive(Clone, Copy)]
@@ -14,6 +15,8 @@ pub struct AskedRows {
     pub options: CsvOptions,
     /// The area begins in A1, and not in its least corner.
     pub from_a1: bool,
+    /// Each value as a spreadsheet program shows it.
+    pub shown: bool,
 }
 
 impl AskedRows {
@@ -21,6 +24,7 @@ impl AskedRows {
     pub const PLAIN: AskedRows = AskedRows {
         options: CsvOptions::PLAIN,
         from_a1: false,
+        shown: false,
     };
 }
 
@@ -31,60 +35,47 @@ fn behind<'a>(text: &'a [u8], front: &[u8]) -> Option<&'a [u8]>
     text.strip_prefix(front)
 }
 
-fn is_delimiter(byte: u8) -> bool
-    ensures { result ≡ is_delimiter byte }
-{
-    byte < 128 && byte != b'"' && byte != b'\r' && byte != b'\n'
-}
-
-fn one_delimiter(text: &[u8]) -> Option<u8>
+fn one_delimiter(text: &[u8]) -> Option<Delimiter>
     ensures { result ≡ one_delimiter text.now }
 {
     match text {
-        [byte] => {
-            if is_delimiter(*byte) {
-                Some(*byte)
-            } else {
-                None
-            }
-        }
+        [byte] => Delimiter::new(*byte),
         _ => None,
     }
 }
 
 /// The delimiter that stands behind `--delimiter=`: one ASCII character that is no quotation mark,
 /// CR or LF, or a tab by its name.
-fn delimiter_asked(text: &[u8]) -> Option<u8>
+fn delimiter_asked(text: &[u8]) -> Option<Delimiter>
     ensures { result ≡ delimiter_asked text.now }
 {
     match text {
-        b"tab" => Some(b'\t'),
+        b"tab" => Some(Delimiter::TAB),
         _ => one_delimiter(text),
     }
 }
 
-fn one_digit(unit: u8) -> Option<u8>
+fn one_digit(unit: u8) -> Option<Digits>
     ensures { result ≡ one_digit unit }
 {
-    if unit.is_ascii_digit() && unit != b'0' {
-        Some(unit - b'0')
+    if unit.is_ascii_digit() {
+        Digits::new(unit - b'0')
     } else {
         None
     }
 }
 
-fn two_digits(ten: u8, unit: u8) -> Option<u8>
+fn two_digits(ten: u8, unit: u8) -> Option<Digits>
     ensures { result ≡ two_digits ten unit }
 {
     if !ten.is_ascii_digit() || ten == b'0' || !unit.is_ascii_digit() {
         return None;
     }
-    let number = (ten - b'0') * 10 + (unit - b'0');
-    if number <= 38 { Some(number) } else { None }
+    Digits::new((ten - b'0') * 10 + (unit - b'0'))
 }
 
 /// The number that stands behind `--digits=`: from 1 to 38, without a zero in front.
-fn digits_asked(text: &[u8]) -> Option<u8>
+fn digits_asked(text: &[u8]) -> Option<Digits>
     ensures { result ≡ digits_asked text.now }
 {
     match text {
@@ -124,7 +115,7 @@ fn digits_given(asked: AskedRows, text: &[u8]) -> Option<AskedRows>
         ..asked.options
     };
     unless(
-        asked.options.digits.is_some(),
+        asked.options.digits.is_some() || asked.shown,
         AskedRows { options, ..asked },
     )
 }
@@ -140,28 +131,51 @@ fn setting_asked(asked: AskedRows, word: &[u8]) -> Option<AskedRows>
     digits_given(asked, text)
 }
 
-/// What a word asks further. None where it asks nothing, or what was asked before.
+/// Whether what is shown was asked for, or how numbers and dates are written that aren't shown.
+fn are_spelled(asked: AskedRows) -> bool
+    ensures { result ≡ are_spelled asked }
+{
+    asked.shown || asked.options.dates || asked.options.digits.is_some()
+}
+
+/// What a word asks further of how rows are written and where they begin. None where it asks
+/// nothing, what was asked before, or what goes against that.
+fn written_asked(asked: AskedRows, word: &str) -> Option<AskedRows>
+    ensures { result ≡ written_asked asked word.now }
+{
+    let mut next = asked;
+    let given = match word {
+        "--dates" => {
+            next.options.dates = true;
+            asked.options.dates || asked.shown
+        }
+        "--crlf" => {
+            next.options.crlf = true;
+            asked.options.crlf
+        }
+        "--bom" => {
+            next.options.bom = true;
+            asked.options.bom
+        }
+        "--from-a1" => {
+            next.from_a1 = true;
+            asked.from_a1
+        }
+        _ => return setting_asked(asked, word.as_bytes()),
+    };
+    unless(given, next)
+}
+
+/// What a word asks further. None where it asks nothing, what was asked before, or what goes
+/// against that.
 fn option_asked(asked: AskedRows, word: &str) -> Option<AskedRows>
     ensures { result ≡ option_asked asked word.now }
 {
-    let AskedRows { options, from_a1 } = asked;
-    let (given, options, from_a1) = match word {
-        "--dates" => {
-            let dates = true;
-            (options.dates, CsvOptions { dates, ..options }, from_a1)
-        }
-        "--crlf" => {
-            let crlf = true;
-            (options.crlf, CsvOptions { crlf, ..options }, from_a1)
-        }
-        "--bom" => {
-            let bom = true;
-            (options.bom, CsvOptions { bom, ..options }, from_a1)
-        }
-        "--from-a1" => (from_a1, options, true),
-        _ => return setting_asked(asked, word.as_bytes()),
-    };
-    unless(given, AskedRows { options, from_a1 })
+    if word == "--shown" {
+        let shown = true;
+        return unless(are_spelled(asked), AskedRows { shown, ..asked });
+    }
+    written_asked(asked, word)
 }
 
 /// What words ask of the rows of a sheet, each at most once, in any order. None where a word asks
@@ -176,12 +190,13 @@ pub fn rows_asked_by(words: &[String]) -> Option<AskedRows>
     Some(asked)
 }
 
-/// What words ask of the rows of a table, whose area has its own corner.
+/// What words ask of the rows of a table, whose area has its own corner, and whose values are not
+/// shown.
 pub fn table_rows_asked(words: &[String]) -> Option<CsvOptions>
     ensures { result ≡ table_rows_asked (map string_bytes words.now) }
 {
     let asked = rows_asked_by(words)?;
-    if asked.from_a1 {
+    if asked.from_a1 || asked.shown {
         return None;
     }
     Some(asked.options)

@@ -7,7 +7,7 @@ ghost use Rattle.xlsx_commands.specs.Outputs.{CallFails};
 
 use crate::error::ToolError;
 use input_package::InputPackage;
-use list_lines::{push_pair_line, push_sheet_line};
+use list_lines::{LineForm, push_name_line, push_sheet_line};
 use part_events::XlReader;
 use std::alloc::{AllocError, Global};
 use xlsx_open::{Metadata, Opened, Sheet, SheetType, SheetVisible, open};
@@ -32,15 +32,16 @@ fn state_word(visible: SheetVisible) -> &'static str
     }
 }
 
-fn lines_of_sheets(alloc: Global, sheets: &[Sheet]) -> Result<String, AllocError>
+fn lines_of_sheets(alloc: Global, form: LineForm, sheets: &[Sheet]) -> Result<String, AllocError>
     ensures { IfOk result (λ out.
-        string_bytes out ≡ sheet_lines (map listed_sheet sheets.now)) }
+        string_bytes out ≡ sheet_lines form (map listed_sheet sheets.now)) }
 {
     let mut out = String::new(alloc);
     for sheet in sheets {
         let typ = type_word(sheet.typ);
         push_sheet_line(
             &mut out,
+            form,
             sheet.name.as_str(),
             typ,
             state_word(sheet.visible),
@@ -49,24 +50,32 @@ fn lines_of_sheets(alloc: Global, sheets: &[Sheet]) -> Result<String, AllocError
     Ok(out)
 }
 
-fn lines_of_names(alloc: Global, names: &[(String, String)]) -> Result<String, AllocError>
-    ensures { IfOk result (λ out. string_bytes out ≡ name_lines (map pair_of names.now)) }
+fn lines_of_names(
+    alloc: Global,
+    form: LineForm,
+    names: &[(String, String)],
+) -> Result<String, AllocError>
+    ensures { IfOk result (λ out. string_bytes out ≡ name_lines form (map pair_of names.now)) }
 {
     let mut out = String::new(alloc);
     for name in names {
-        push_pair_line(&mut out, name.0.as_str(), name.1.as_str())?;
+        push_name_line(&mut out, form, name.0.as_str(), name.1.as_str())?;
     }
     Ok(out)
 }
 
-/// The sheets and the defined names of the workbook.
-fn metadata_of(alloc: Global, package: InputPackage) -> Result<Metadata, ToolError>
-    ensures ok { IfOk result (HasMetadata «package».parts) }
+/// The sheets and the defined names of the workbook, and the package.
+pub fn metadata_beside(
+    alloc: Global,
+    package: InputPackage,
+) -> Result<(Metadata, InputPackage), ToolError>
+    ensures ok { IfOk result (λ found.
+        HasMetadata «package».parts found.0 × (found.1.parts ≡ «package».parts)) }
     ensures err { IfErr result (CallFails (OpeningCause «package».parts)) }
 {
     let mut xml = XlReader::new(alloc, package);
     let opened = open(&mut xml);
-    drop(xml.into_package());
+    let package = xml.into_package();
     let opened = opened?;
     let Opened {
         metadata,
@@ -75,23 +84,41 @@ fn metadata_of(alloc: Global, package: InputPackage) -> Result<Metadata, ToolErr
         shared: _,
         is_1904: _,
     } = opened;
+    Ok((metadata, package))
+}
+
+/// The sheets and the defined names of the workbook of a package that is needed no more.
+fn metadata_of(alloc: Global, package: InputPackage) -> Result<Metadata, ToolError>
+    ensures ok { IfOk result (HasMetadata «package».parts) }
+    ensures err { IfErr result (CallFails (OpeningCause «package».parts)) }
+{
+    let (metadata, package) = metadata_beside(alloc, package)?;
+    drop(package);
     Ok(metadata)
 }
 
 /// A line for each sheet of the workbook.
-pub fn sheet_lines(alloc: Global, package: InputPackage) -> Result<Vec<u8>, ToolError>
-    ensures ok { IfOk result (λ output. AreSheetLines «package».parts output.items) }
+pub fn sheet_lines(
+    alloc: Global,
+    package: InputPackage,
+    form: LineForm,
+) -> Result<Vec<u8>, ToolError>
+    ensures ok { IfOk result (λ output. AreSheetLines form «package».parts output.items) }
     ensures err { IfErr result (CallFails (OpeningCause «package».parts)) }
 {
     let metadata = metadata_of(alloc, package)?;
-    Ok(lines_of_sheets(alloc, &metadata.sheets)?.into_bytes())
+    Ok(lines_of_sheets(alloc, form, &metadata.sheets)?.into_bytes())
 }
 
 /// A line for each defined name of the workbook.
-pub fn name_lines(alloc: Global, package: InputPackage) -> Result<Vec<u8>, ToolError>
-    ensures ok { IfOk result (λ output. AreNameLines «package».parts output.items) }
+pub fn name_lines(
+    alloc: Global,
+    package: InputPackage,
+    form: LineForm,
+) -> Result<Vec<u8>, ToolError>
+    ensures ok { IfOk result (λ output. AreNameLines form «package».parts output.items) }
     ensures err { IfErr result (CallFails (OpeningCause «package».parts)) }
 {
     let metadata = metadata_of(alloc, package)?;
-    Ok(lines_of_names(alloc, &metadata.names)?.into_bytes())
+    Ok(lines_of_names(alloc, form, &metadata.names)?.into_bytes())
 }

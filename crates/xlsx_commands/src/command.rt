@@ -4,42 +4,51 @@ ghost use Rattle.xlsx_commands.specs.Command.{rows_asked, sample, placed_command
 ghost use Rattle.xlsx_commands.specs.AskedRows.{options_asked, plain_rows, table_rows_asked};
 ghost use Rattle.xlsx_commands.specs.Command.{position_asked, dependents, csv, csv_table};
 ghost use Rattle.xlsx_commands.specs.Command.{three_words, asked_command, resave_asked};
+ghost use Rattle.xlsx_commands.specs.Command.{book_list, sheet_list, if_json, listed_command};
+ghost use Rattle.xlsx_commands.specs.AskedArrays.{of_json, arrays_asked};
+ghost use Rattle.xlsx_commands.specs.Command.{row_arrays};
+ghost use Rattle.list_lines.specs.declared.content.LineForm.TheVariants as json;
+ghost use Rattle.xlsx_commands.specs.Command.{command_on};
 
 use crate::asked_rows::{AskedRows, rows_asked_by, table_rows_asked};
 use cell_refs::get_row_column;
+use list_lines::LineForm;
 use xlsx_rows::CsvOptions;
 use xlsx_sections::number_text;
 
 /// The most rows of a sample.
 const MOST_ROWS: u64 = 20_000;
 
-/// What the words ask for.
+/// What the words ask for. A list has the form of its lines.
 #[derive(Clone, Copy)]
 pub enum Command<'a> {
     /// The cells of the worksheet of this name.
-    Cells(&'a str),
+    Cells(LineForm, &'a str),
     /// The workbook's sheets.
-    Sheets,
+    Sheets(LineForm),
     /// The workbook's defined names.
-    Names,
+    Names(LineForm),
     /// The merged cells of the worksheet of this name.
-    Merges(&'a str),
+    Merges(LineForm, &'a str),
     /// The links of the worksheet of this name.
-    Links(&'a str),
+    Links(LineForm, &'a str),
     /// The comments of the worksheet of this name.
-    Comments(&'a str),
+    Comments(LineForm, &'a str),
     /// The workbook's properties.
-    Props,
+    Props(LineForm),
     /// The rows of the values of the worksheet of this name, as CSV, and what is asked of them.
     Csv(&'a str, AskedRows),
     /// The columns and the rows of the table of this name, as CSV, and how they are written.
     CsvTable(&'a str, CsvOptions),
+    /// The rows of the values of the worksheet of this name, as arrays of JSON, and what is asked
+    /// of them.
+    Rows(&'a str, AskedRows),
     /// The workbook's tables.
-    Tables,
+    Tables(LineForm),
     /// The values in the table of this name.
     Table(&'a str),
     /// The workbook's pivot tables.
-    Pivots,
+    Pivots(LineForm),
     /// The rows of the cache of the pivot table of the second name, on the worksheet of the first.
     Pivot(&'a str, &'a str),
     /// The formulas of the worksheet of this name, with the areas that each names.
@@ -72,17 +81,73 @@ fn rows_asked(word: &str) -> Option<u32>
     None
 }
 
+/// A list of the workbook, in its form.
+fn book_list<'a>(form: LineForm, word: &str) -> Option<Command<'a>>
+    ensures { option_map (λ command. command_meant command) result ≡ book_list form word.now }
+{
+    match word {
+        "sheets" => Some(Command::Sheets(form)),
+        "names" => Some(Command::Names(form)),
+        "props" => Some(Command::Props(form)),
+        "tables" => Some(Command::Tables(form)),
+        "pivots" => Some(Command::Pivots(form)),
+        _ => None,
+    }
+}
+
+/// A list of the worksheet of a name, in its form.
+fn sheet_list<'a>(form: LineForm, word: &str, name: &'a str) -> Option<Command<'a>>
+    ensures { option_map (λ command. command_meant command) result
+        ≡ sheet_list form word.now name.now }
+{
+    match word {
+        "cells" => Some(Command::Cells(form, name)),
+        "merges" => Some(Command::Merges(form, name)),
+        "links" => Some(Command::Links(form, name)),
+        "comments" => Some(Command::Comments(form, name)),
+        _ => None,
+    }
+}
+
 fn bare_command(word: &str) -> Option<Command<'_>>
     ensures { option_map (λ command. command_meant command) result ≡ bare_command word.now }
 {
     match word {
-        "sheets" => Some(Command::Sheets),
-        "names" => Some(Command::Names),
-        "props" => Some(Command::Props),
-        "tables" => Some(Command::Tables),
-        "pivots" => Some(Command::Pivots),
         "upgrade" => Some(Command::Upgrade),
+        _ => book_list(LineForm::Text, word),
+    }
+}
+
+/// A list of the workbook as JSON, where the word behind it asks for that.
+fn book_in_json<'a>(word: &str, option: &str) -> Option<Command<'a>>
+    ensures { option_map (λ command. command_meant command) result
+        ≡ if_json option.now (book_list json.Json word.now) }
+{
+    match option {
+        "--json" => book_list(LineForm::Json, word),
         _ => None,
+    }
+}
+
+/// A list of the worksheet of a name as JSON, where the word behind the name asks for that.
+fn sheet_in_json<'a>(word: &str, name: &'a str, option: &str) -> Option<Command<'a>>
+    ensures { option_map (λ command. command_meant command) result
+        ≡ if_json option.now (sheet_list json.Json word.now name.now) }
+{
+    match option {
+        "--json" => sheet_list(LineForm::Json, word, name),
+        _ => None,
+    }
+}
+
+/// A list of the worksheet of a name, or one of the workbook as JSON.
+fn listed_command<'a>(word: &str, name: &'a str) -> Option<Command<'a>>
+    ensures { option_map (λ command. command_meant command) result
+        ≡ listed_command word.now name.now }
+{
+    match sheet_list(LineForm::Text, word, name) {
+        Some(command) => Some(command),
+        None => book_in_json(word, name),
     }
 }
 
@@ -117,10 +182,6 @@ fn named_command<'a>(word: &str, name: &'a str) -> Option<Command<'a>>
         ≡ named_command word.now name.now }
 {
     match word {
-        "cells" => Some(Command::Cells(name)),
-        "merges" => Some(Command::Merges(name)),
-        "links" => Some(Command::Links(name)),
-        "comments" => Some(Command::Comments(name)),
         "csv" => Some(Command::Csv(name, AskedRows::PLAIN)),
         "csv-table" => Some(Command::CsvTable(name, CsvOptions::PLAIN)),
         "table" => Some(Command::Table(name)),
@@ -129,7 +190,7 @@ fn named_command<'a>(word: &str, name: &'a str) -> Option<Command<'a>>
         "part" => Some(Command::Part(name)),
         "resave" => Some(Command::Resave(name)),
         "sample" => sample_command(name),
-        _ => None,
+        _ => listed_command(word, name),
     }
 }
 
@@ -152,7 +213,7 @@ fn placed_command<'a>(word: &str, sheet: &'a str, name: &'a str) -> Option<Comma
         "pivot" => Some(Command::Pivot(sheet, name)),
         "dependents" => dependents_command(sheet, name),
         "resave" => resave_command(sheet, name),
-        _ => None,
+        _ => sheet_in_json(word, sheet, name),
     }
 }
 
@@ -170,6 +231,41 @@ fn csv_table_command<'a>(name: &'a str, words: &[String]) -> Option<Command<'a>>
 {
     let options = table_rows_asked(words)?;
     Some(Command::CsvTable(name, options))
+}
+
+/// What is asked, where it says nothing of the bytes of CSV.
+fn of_json(asked: AskedRows) -> Option<AskedRows>
+    ensures { result ≡ of_json asked }
+{
+    let CsvOptions {
+        delimiter,
+        crlf,
+        bom,
+        ..
+    } = asked.options;
+    if delimiter.is_some() || crlf || bom {
+        return None;
+    }
+    Some(asked)
+}
+
+/// What the words ask of rows as JSON: `--json` first, and behind it what is asked of rows, but for
+/// the options of CSV alone.
+fn arrays_asked(words: &[String]) -> Option<AskedRows>
+    ensures { result ≡ arrays_asked (texts words.now) }
+{
+    match words {
+        [word, words @ ..] if word.as_str() == "--json" => of_json(rows_asked_by(words)?),
+        _ => None,
+    }
+}
+
+fn rows_command<'a>(name: &'a str, words: &[String]) -> Option<Command<'a>>
+    ensures { option_map (λ command. command_meant command) result
+        ≡ option_map (row_arrays name.now) (arrays_asked (texts words.now)) }
+{
+    let asked = arrays_asked(words)?;
+    Some(Command::Rows(name, asked))
 }
 
 fn three_words<'a>(word: &str, name: &'a str, words: &'a [String]) -> Option<Command<'a>>
@@ -190,7 +286,20 @@ fn asked_command<'a>(word: &str, name: &'a str, words: &'a [String]) -> Option<C
     match word {
         "csv" => csv_command(name, words),
         "csv-table" => csv_table_command(name, words),
+        "rows" => rows_command(name, words),
         _ => three_words(word, name, words),
+    }
+}
+
+/// A command of a word and a name, with the words behind them.
+pub(crate) fn command_on<'a>(word: &str, name: &'a str, words: &'a [String]) -> Option<Command<'a>>
+    ensures { option_map (λ command. command_meant command) result
+        ≡ command_on word.now name.now (texts words.now) }
+{
+    if words.is_empty() {
+        named_command(word, name)
+    } else {
+        asked_command(word, name, words)
     }
 }
 
@@ -200,8 +309,7 @@ pub fn command_of(words: &[String]) -> Option<Command<'_>>
 {
     match words {
         [word] => bare_command(word.as_str()),
-        [word, name] => named_command(word.as_str(), name.as_str()),
-        [word, name, words @ ..] => asked_command(word.as_str(), name.as_str(), words),
+        [word, name, words @ ..] => command_on(word.as_str(), name.as_str(), words),
         _ => None,
     }
 }

@@ -9,7 +9,7 @@ ghost use Rattle.xlsx_commands.specs.SheetLists.{AreCommentLines};
 use crate::error::ToolError;
 use crate::named_sheet::{OfSheet, of_sheet};
 use input_package::InputPackage;
-use list_lines::push_comment_line;
+use list_lines::{LineForm, push_comment_line};
 use std::alloc::{AllocError, Global};
 use xlsx_core::{Comment, Comments, Xlsx};
 use xlsx_error::XlsxError;
@@ -27,12 +27,18 @@ impl OfSheet for Vec<Comments> {
 }
 
 /// Appends the line of a comment of a part.
-fn push_comment(out: &mut String, part: &Comments, comment: &Comment) -> Result<(), AllocError>
+fn push_comment(
+    out: &mut String,
+    form: LineForm,
+    part: &Comments,
+    comment: &Comment,
+) -> Result<(), AllocError>
     ensures { OnOk result (string_bytes out.new ≡ string_bytes out.old
-        ++ line_of_comment (comments_kept part.now) (comment_kept comment.now)) }
+        ++ line_of_comment form (comments_kept part.now) (comment_kept comment.now)) }
 {
     push_comment_line(
         out,
+        form,
         comment.position(),
         part.author(comment),
         comment.text(),
@@ -40,32 +46,39 @@ fn push_comment(out: &mut String, part: &Comments, comment: &Comment) -> Result<
 }
 
 /// Appends the lines of the comments of a part.
-fn push_part(out: &mut String, part: &Comments) -> Result<(), AllocError>
+fn push_part(out: &mut String, form: LineForm, part: &Comments) -> Result<(), AllocError>
     ensures { OnOk result
-        (string_bytes out.new ≡ string_bytes out.old ++ part_lines (comments_kept part.now)) }
+        (string_bytes out.new ≡ string_bytes out.old ++ part_lines form (comments_kept part.now)) }
 {
     let comments = part.comments();
     for comment in comments {
-        push_comment(out, part, comment)?;
+        push_comment(out, form, part, comment)?;
     }
     Ok(())
 }
 
-fn lines_of_comments(alloc: Global, all: &[Comments]) -> Result<String, AllocError>
-    ensures { IfOk result (λ out. string_bytes out ≡ comment_lines (map comments_kept all.now)) }
+fn lines_of_comments(alloc: Global, form: LineForm, all: &[Comments]) -> Result<String, AllocError>
+    ensures { IfOk result (λ out.
+        string_bytes out ≡ comment_lines form (map comments_kept all.now)) }
 {
     let mut out = String::new(alloc);
     for part in all {
-        push_part(&mut out, part)?;
+        push_part(&mut out, form, part)?;
     }
     Ok(out)
 }
 
 /// A line for each comment of the first sheet of this name.
-pub fn comment_lines(alloc: Global, package: InputPackage, name: &str) -> Result<Vec<u8>, ToolError>
-    ensures ok { IfOk result (λ output. AreCommentLines «package».parts name.now output.items) }
+pub fn comment_lines(
+    alloc: Global,
+    package: InputPackage,
+    form: LineForm,
+    name: &str,
+) -> Result<Vec<u8>, ToolError>
+    ensures ok { IfOk result (λ output.
+        AreCommentLines form «package».parts name.now output.items) }
     ensures err { IfErr result (CallFails (NamedCommentsCause «package».parts name.now)) }
 {
     let all: Vec<Comments> = of_sheet(alloc, package, name)?;
-    Ok(lines_of_comments(alloc, &all)?.into_bytes())
+    Ok(lines_of_comments(alloc, form, &all)?.into_bytes())
 }

@@ -1,6 +1,7 @@
 ghost use Rattle.std.specs.Prelude.{◌≡◌};
 ghost use Rattle.xlsx_commands.specs.Status.{file_status, status_of};
 
+use crate::sheet_choice::SheetFault;
 use input_package::InputPackage;
 use std::alloc::{AllocError, AllocFailed};
 use std::error::Error;
@@ -34,6 +35,8 @@ pub enum ToolError {
     BoxTooLarge,
     /// What is read can't be written as a workbook file.
     Unwritable,
+    /// The words choose a sheet without telling its name, and none is chosen.
+    NotChosen(SheetFault),
 }
 
 /// The status that the program ends with where its input is no workbook file.
@@ -57,7 +60,7 @@ impl ToolError {
             ToolError::InputTooLarge | ToolError::FileTooLarge => 4,
             ToolError::NotAPackage => 5,
             ToolError::NotAWorkbookFile(fault) => file_status(fault),
-            ToolError::Workbook(_) => 6,
+            ToolError::Workbook(_) | ToolError::NotChosen(_) => 6,
             ToolError::WriteFault => 7,
             ToolError::OutOfMemory => 8,
             ToolError::BoxTooLarge => 10,
@@ -96,6 +99,7 @@ impl fmt::Display for ToolError {
             ToolError::OutOfMemory => f.write_str("out of memory"),
             ToolError::BoxTooLarge => f.write_str("box too large"),
             ToolError::Unwritable => f.write_str("no workbook file can hold it"),
+            ToolError::NotChosen(fault) => write!(f, "{fault}"),
         }
     }
 }

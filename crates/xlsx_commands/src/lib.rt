@@ -4,15 +4,18 @@
 //! Rooms: `command` (the words that ask for a command), `asked_rows` (the words that ask more of
 //! rows), `cell_lines`, `book_lists`, `merge_lines`, `link_lines`, `comment_lines`,
 //! `property_lines`, `table_lines`, `pivot_lines`, `pivot_rows`, `sheet_rows`, `table_rows`,
-//! `formula_lines`, `part_line`, `upgraded_text`, `resaved_text`, `resaved_file` and `sample_lines`
-//! (what each command prints), `named_sheet` (what is asked of the first sheet of a name), `output` (each
-//! command's own package, where it has one, and its output), `laws`, and `error` (`ToolError`).
+//! `row_arrays`, `formula_lines`, `part_line`, `upgraded_text`, `resaved_text`, `resaved_file` and
+//! `sample_lines` (what each command prints), `named_sheet` (what is asked of the first sheet of a
+//! name), `output` (each command's own package, where it has one, and its output), `request` and
+//! `sheet_choice` (what words ask for that choose a sheet and tell no name), `chosen_sheet` (the
+//! sheet that is chosen, and the answer), `laws`, `chosen_laws`, and `error` (`ToolError`).
 //!
 //! **A command is a row of a few tables**: of the words that ask for it (`command_of`), of the
 //! package that it works on where it reads no input (`own_parts`), of its output (`IsOutput`), of
 //! why its workbook refuses it (`RefusedWorkbookCause`), of why an area does that has too many
 //! cells (`IsTooLarge`), and of the law that an output and a cause exclude each other
-//! (`causes_leave_no_output`). The tables are closed to what stands above, so that a further
+//! (`causes_leave_no_output`), and of the law that two outputs are one
+//! (`commands_have_one_output`). The tables are closed to what stands above, so that a further
 //! command changes none of its clauses, definitions and proofs.
 //!
 //! What a command asks of the first sheet of a name is said by the path of its part (`OpensAt`),
@@ -38,6 +41,8 @@
 mod asked_rows;
 mod book_lists;
 mod cell_lines;
+mod chosen_laws;
+mod chosen_sheet;
 mod command;
 mod comment_lines;
 mod equality;
@@ -52,21 +57,29 @@ mod part_line;
 mod pivot_lines;
 mod pivot_rows;
 mod property_lines;
+mod request;
 mod resaved_file;
 mod resaved_text;
+mod row_arrays;
 mod sample_lines;
+mod sheet_choice;
 mod sheet_rows;
 mod table_lines;
 mod table_rows;
 mod upgraded_text;
 
 pub use asked_rows::AskedRows;
+pub use chosen_laws::{causes_leave_no_answer, chosen_sheets_answer_by_their_names};
+pub use chosen_sheet::{answer_of, package_of_request};
 pub use command::{Command, command_of};
 pub use equality::{copies_are_the_same, equality_is_by_all_fields};
 pub use error::ToolError;
 pub use laws::{
-    causes_leave_no_output, readable_sheets_have_lines, readable_sheets_have_rows,
-    sheets_have_one_listing, sheets_have_one_text_of_rows, sheets_that_are_read_can_be_written,
-    tables_with_values_have_rows, workbooks_that_open_have_lists,
+    causes_leave_no_output, commands_have_one_output, readable_sheets_have_lines,
+    readable_sheets_have_rows, sheets_have_one_listing, sheets_have_one_text_of_rows,
+    sheets_that_are_read_can_be_written, tables_with_values_have_rows,
+    workbooks_that_open_have_lists,
 };
 pub use output::{output_of, own_package};
+pub use request::{Request, request_of};
+pub use sheet_choice::{SheetChoice, SheetFault};

@@ -10,7 +10,7 @@ ghost use Rattle.xlsx_commands.specs.SheetLists.{line_of_link, link_lines, AreLi
 use crate::error::ToolError;
 use crate::named_sheet::{OfSheet, of_sheet};
 use input_package::InputPackage;
-use list_lines::push_link_line;
+use list_lines::{LineForm, push_link_line};
 use std::alloc::{AllocError, Global};
 use xlsx_core::{Hyperlink, Xlsx};
 use xlsx_error::XlsxError;
@@ -36,13 +36,14 @@ fn text_of(text: &Option<String>) -> Option<&str>
     }
 }
 
-fn push_link(out: &mut String, link: &Hyperlink) -> Result<(), AllocError>
+fn push_link(out: &mut String, form: LineForm, link: &Hyperlink) -> Result<(), AllocError>
     requires { IsKeptInside link.now }
     ensures { OnOk result
-        (string_bytes out.new ≡ string_bytes out.old ++ line_of_link (link_said link.now)) }
+        (string_bytes out.new ≡ string_bytes out.old ++ line_of_link form (link_said link.now)) }
 {
     push_link_line(
         out,
+        form,
         link.range,
         text_of(&link.target),
         text_of(&link.location),
@@ -51,22 +52,27 @@ fn push_link(out: &mut String, link: &Hyperlink) -> Result<(), AllocError>
     )
 }
 
-fn lines_of_links(alloc: Global, links: &[Hyperlink]) -> Result<String, AllocError>
+fn lines_of_links(alloc: Global, form: LineForm, links: &[Hyperlink]) -> Result<String, AllocError>
     requires { All IsKeptInside links.now }
-    ensures { IfOk result (λ out. string_bytes out ≡ link_lines (map link_said links.now)) }
+    ensures { IfOk result (λ out. string_bytes out ≡ link_lines form (map link_said links.now)) }
 {
     let mut out = String::new(alloc);
     for link in links {
-        push_link(&mut out, link)?;
+        push_link(&mut out, form, link)?;
     }
     Ok(out)
 }
 
 /// A line for each link of the first sheet of this name.
-pub fn link_lines(alloc: Global, package: InputPackage, name: &str) -> Result<Vec<u8>, ToolError>
-    ensures ok { IfOk result (λ output. AreLinkLines «package».parts name.now output.items) }
+pub fn link_lines(
+    alloc: Global,
+    package: InputPackage,
+    form: LineForm,
+    name: &str,
+) -> Result<Vec<u8>, ToolError>
+    ensures ok { IfOk result (λ output. AreLinkLines form «package».parts name.now output.items) }
     ensures err { IfErr result (CallFails (NamedLinksCause «package».parts name.now)) }
 {
     let links: Vec<Hyperlink> = of_sheet(alloc, package, name)?;
-    Ok(lines_of_links(alloc, &links)?.into_bytes())
+    Ok(lines_of_links(alloc, form, &links)?.into_bytes())
 }

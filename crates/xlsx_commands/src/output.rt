@@ -16,6 +16,7 @@ use crate::pivot_rows::pivot_rows;
 use crate::property_lines::property_lines;
 use crate::resaved_file::resaved_file;
 use crate::resaved_text::resaved_text;
+use crate::row_arrays::row_arrays;
 use crate::sample_lines::sample_lines;
 use crate::sheet_rows::sheet_rows;
 use crate::table_lines::{table_lines, table_value_lines};
@@ -32,18 +33,19 @@ pub fn own_package(alloc: Global, command: Command<'_>) -> Result<Option<InputPa
         option_map (λ held. held.parts) found ≡ own_parts (command_meant command.entry)) }
 {
     let package = match command {
-        Command::Cells(_) => None,
-        Command::Sheets => None,
-        Command::Names => None,
-        Command::Merges(_) => None,
-        Command::Links(_) => None,
-        Command::Comments(_) => None,
-        Command::Props => None,
+        Command::Cells(_, _) => None,
+        Command::Sheets(_) => None,
+        Command::Names(_) => None,
+        Command::Merges(_, _) => None,
+        Command::Links(_, _) => None,
+        Command::Comments(_, _) => None,
+        Command::Props(_) => None,
         Command::Csv(_, _) => None,
         Command::CsvTable(_, _) => None,
-        Command::Tables => None,
+        Command::Rows(_, _) => None,
+        Command::Tables(_) => None,
         Command::Table(_) => None,
-        Command::Pivots => None,
+        Command::Pivots(_) => None,
         Command::Pivot(_, _) => None,
         Command::Precedents(_) => None,
         Command::Dependents(_, _) => None,
@@ -69,18 +71,19 @@ pub fn output_of(
     ensures err { IfErr result (OutputFails (command_meant command.entry) «package».parts) }
 {
     match command {
-        Command::Cells(name) => cell_lines(alloc, package, name),
-        Command::Sheets => sheet_lines(alloc, package),
-        Command::Names => name_lines(alloc, package),
-        Command::Merges(name) => merge_lines(alloc, package, name),
-        Command::Links(name) => link_lines(alloc, package, name),
-        Command::Comments(name) => comment_lines(alloc, package, name),
-        Command::Props => property_lines(alloc, package),
+        Command::Cells(form, name) => cell_lines(alloc, package, form, name),
+        Command::Sheets(form) => sheet_lines(alloc, package, form),
+        Command::Names(form) => name_lines(alloc, package, form),
+        Command::Merges(form, name) => merge_lines(alloc, package, form, name),
+        Command::Links(form, name) => link_lines(alloc, package, form, name),
+        Command::Comments(form, name) => comment_lines(alloc, package, form, name),
+        Command::Props(form) => property_lines(alloc, package, form),
         Command::Csv(name, asked) => sheet_rows(alloc, package, name, asked),
         Command::CsvTable(name, options) => table_rows(alloc, package, name, options),
-        Command::Tables => table_lines(alloc, package),
+        Command::Rows(name, asked) => row_arrays(alloc, package, name, asked),
+        Command::Tables(form) => table_lines(alloc, package, form),
         Command::Table(name) => table_value_lines(alloc, package, name),
-        Command::Pivots => pivot_lines(alloc, package),
+        Command::Pivots(form) => pivot_lines(alloc, package, form),
         Command::Pivot(sheet, name) => pivot_rows(alloc, package, sheet, name),
         Command::Precedents(name) => precedent_lines(alloc, package, name),
         Command::Dependents(name, position) => dependent_lines(alloc, package, name, position),

@@ -8,17 +8,21 @@ ghost use Rattle.xlsx_commands.specs.SheetsRefused.{ListingFails};
 
 use crate::error::ToolError;
 use input_package::InputPackage;
-use list_lines::push_pair_line;
+use list_lines::{LineForm, push_pivot_line};
 use std::alloc::{AllocError, Global};
 use xlsx_core::{PivotTables, Xlsx};
 
-fn lines_of_pivots(alloc: Global, pivots: &PivotTables) -> Result<String, AllocError>
+fn lines_of_pivots(
+    alloc: Global,
+    form: LineForm,
+    pivots: &PivotTables,
+) -> Result<String, AllocError>
     ensures { IfOk result (λ out.
-        string_bytes out ≡ pivot_lines (pairs_of (pivots_kept pivots.now))) }
+        string_bytes out ≡ pivot_lines form (pairs_of (pivots_kept pivots.now))) }
 {
     let mut out = String::new(alloc);
     'pivots: for pair in pivots.get_pivot_tables_by_name_and_sheet() {
-        push_pair_line(&mut out, pair.0, pair.1)?;
+        push_pivot_line(&mut out, form, pair.0, pair.1)?;
     }
     Ok(out)
 }
@@ -39,10 +43,14 @@ pub fn find_pivots(
 }
 
 /// A line for each pivot table of the workbook.
-pub fn pivot_lines(alloc: Global, package: InputPackage) -> Result<Vec<u8>, ToolError>
-    ensures ok { IfOk result (λ output. ArePivotLines «package».parts output.items) }
+pub fn pivot_lines(
+    alloc: Global,
+    package: InputPackage,
+    form: LineForm,
+) -> Result<Vec<u8>, ToolError>
+    ensures ok { IfOk result (λ output. ArePivotLines form «package».parts output.items) }
     ensures err { IfErr result (CallFails (ListedPivotsCause «package».parts)) }
 {
     let (pivots, _package) = find_pivots(alloc, package)?;
-    Ok(lines_of_pivots(alloc, &pivots)?.into_bytes())
+    Ok(lines_of_pivots(alloc, form, &pivots)?.into_bytes())
 }

@@ -1,12 +1,14 @@
 ghost use Rattle.std.specs.Prelude.{◌≡◌, option_map, IfOk, IfErr};
+ghost use Rattle.cell_data.specs.Pairs.{value_pairs};
 ghost use Rattle.cell_data.specs.Range.{cells_of, bounds_of, blank_of};
 ghost use Rattle.xlsx_core.specs.SheetReading.{SheetCause};
-ghost use Rattle.xlsx_commands.specs.Outputs.{RowsFail};
-ghost use Rattle.xlsx_commands.specs.SheetRows.{AreRowsOf, HasLargeArea};
+ghost use Rattle.xlsx_core.specs.Worksheets.{HasLeastRange};
+ghost use Rattle.xlsx_commands.specs.Outputs.{CallFails, RowsFail};
+ghost use Rattle.xlsx_commands.specs.SheetRows.{AreRowsOf, HasLargeArea, HasRowValues};
 ghost use Rattle.xlsx_commands.specs.SheetRows.{from_first, asked_area};
 
 use crate::asked_rows::AskedRows;
-use crate::cell_lines::values_of;
+use crate::cell_lines::{shown_values_of, values_of};
 use crate::error::ToolError;
 use cell_data::{Data, Range};
 use input_package::InputPackage;
@@ -26,7 +28,7 @@ fn from_first_cell(values: Range<Data>) -> Range<Data>
 }
 
 /// The same values in the area that is asked for.
-fn in_asked_area(values: Range<Data>, from_a1: bool) -> Range<Data>
+pub(crate) fn in_asked_area(values: Range<Data>, from_a1: bool) -> Range<Data>
     ensures cells { cells_of result ≡ cells_of values }
     ensures bounds { bounds_of result ≡ asked_area from_a1 (bounds_of values) }
     ensures blank { blank_of result ≡ blank_of values }
@@ -35,6 +37,25 @@ fn in_asked_area(values: Range<Data>, from_a1: bool) -> Range<Data>
         from_first_cell(values)
     } else {
         values
+    }
+}
+
+/// The values of the sheet of this name, as they are or as they are shown.
+pub(crate) fn row_values(
+    alloc: Global,
+    package: InputPackage,
+    name: &str,
+    shown: bool,
+) -> Result<Range<Data>, ToolError>
+    ensures ok { IfOk result (λ values.
+        HasRowValues shown «package».parts name.now (value_pairs values)) }
+    ensures range { IfOk result HasLeastRange }
+    ensures err { IfErr result (CallFails (SheetCause «package».parts name.now)) }
+{
+    if shown {
+        shown_values_of(alloc, package, name)
+    } else {
+        values_of(alloc, package, name)
     }
 }
 
@@ -47,9 +68,9 @@ pub fn sheet_rows(
 ) -> Result<Vec<u8>, ToolError>
     ensures ok { IfOk result (λ output. AreRowsOf «package».parts name.now asked output.items) }
     ensures err { IfErr result (RowsFail (SheetCause «package».parts name.now)
-        (HasLargeArea «package».parts name.now asked.from_a1)) }
+        (HasLargeArea «package».parts name.now asked)) }
 {
-    let read = values_of(alloc, package, name)?;
+    let read = row_values(alloc, package, name, asked.shown)?;
     let values = in_asked_area(read, asked.from_a1);
     Ok(rows_csv(alloc, None, &values, &asked.options)?)
 }

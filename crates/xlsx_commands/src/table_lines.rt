@@ -12,7 +12,7 @@ ghost use Rattle.xlsx_commands.specs.TablesOpened.{OpensWithTables};
 use crate::error::ToolError;
 use cell_data::{Data, Table};
 use input_package::InputPackage;
-use list_lines::push_table_line;
+use list_lines::{LineForm, push_table_line};
 use sheet_listing::value_lines_of;
 use std::alloc::{AllocError, Global};
 use xlsx_core::Xlsx;
@@ -36,6 +36,7 @@ fn with_tables(alloc: Global, package: InputPackage) -> Result<Xlsx<InputPackage
 /// Appends the line of the table at this index, by its name.
 fn push_table(
     out: &mut String,
+    form: LineForm,
     xlsx: &Xlsx<InputPackage>,
     index: usize,
     name: &str,
@@ -44,33 +45,41 @@ fn push_table(
     requires index { index < length (loaded_tables xlsx.now) }
     ensures { (own : SheetTable) → slice_get (loaded_tables xlsx.now) index ≡ Some own →
         own.table.name ≡ name.now → OnOk result
-        (string_bytes out.new ≡ string_bytes out.old ++ line_of_table own) }
+        (string_bytes out.new ≡ string_bytes out.old ++ line_of_table form own) }
 {
     let sheet = xlsx.table_sheet(index);
     let area = xlsx.table_area(index);
-    push_table_line(out, name, sheet, area, xlsx.table_columns(index))
+    push_table_line(out, form, name, sheet, area, xlsx.table_columns(index))
 }
 
-fn lines_of_tables(alloc: Global, xlsx: &Xlsx<InputPackage>) -> Result<String, AllocError>
+fn lines_of_tables(
+    alloc: Global,
+    form: LineForm,
+    xlsx: &Xlsx<InputPackage>,
+) -> Result<String, AllocError>
     requires { IsSome xlsx.now.lists.tables }
-    ensures { IfOk result (λ out. string_bytes out ≡ table_lines (loaded_tables xlsx.now)) }
+    ensures { IfOk result (λ out. string_bytes out ≡ table_lines form (loaded_tables xlsx.now)) }
 {
     let mut out = String::new(alloc);
     let mut index = 0;
     'tables: for name in xlsx.table_names() {
-        push_table(&mut out, xlsx, index, name)?;
+        push_table(&mut out, form, xlsx, index, name)?;
         index += 1;
     }
     Ok(out)
 }
 
 /// A line for each table of the workbook.
-pub fn table_lines(alloc: Global, package: InputPackage) -> Result<Vec<u8>, ToolError>
-    ensures ok { IfOk result (λ output. AreTableLines «package».parts output.items) }
+pub fn table_lines(
+    alloc: Global,
+    package: InputPackage,
+    form: LineForm,
+) -> Result<Vec<u8>, ToolError>
+    ensures ok { IfOk result (λ output. AreTableLines form «package».parts output.items) }
     ensures err { IfErr result (CallFails (ListedTablesCause «package».parts)) }
 {
     let xlsx = with_tables(alloc, package)?;
-    Ok(lines_of_tables(alloc, &xlsx)?.into_bytes())
+    Ok(lines_of_tables(alloc, form, &xlsx)?.into_bytes())
 }
 
 /// The first table of this name, with its data.

@@ -1,26 +1,32 @@
 -- A run, from what its steps give.
 use Rattle.std.proofs.Common.{◌≡◌, ℕ, List, ◌++◌, length, take, drop, refl, sym, ◌∙◌, ap}
-use Rattle.std.proofs.Common.{subst, append_assoc}
+use Rattle.std.proofs.Common.{subst, append_assoc, inl, inr}
 use Rattle.std.proofs.Common.{true≢false, true, false, arith, Option, Some, None, Bool, ◌≤◌}
 use Rattle.std.specs.Prelude.{◌≢◌, Result, Ok, Err, IfErr, OnOk}
 use Rattle.std.proofs.lemmas.List.{take-append-drop, length-append}
 use Rattle.part_events.specs.Package.{Part}
-use Rattle.xlsx_commands.specs.Command.{Command, command_of, own_parts}
-use Rattle.xlsx_commands.specs.Outputs.{IsOutput, OutputCause, OutputFails, HasOutput}
+use Rattle.xlsx_commands.specs.ChosenSheets.{ChoiceCause}
+use Rattle.xlsx_commands.specs.Command.{Command}
+use Rattle.xlsx_commands.specs.Outputs.{OutputCause}
+use Rattle.xlsx_commands.specs.Request.{Request, request_of, request_parts}
+use Rattle.xlsx_commands.specs.Request.{told, chosen, on_sheet}
+use Rattle.xlsx_commands.specs.Request.{IsAnswer, AnswerCause, AnswerFails, HasAnswer}
 use Rattle.input_package.specs.Reading.{begins_as_file, longest, package_in}
 use Rattle.xlsx_tool.specs.Input.{PastLimit}
 use Rattle.xlsx_tool.proofs.InputLemmas.{begin_alike, limit_by}
-use Rattle.xlsx_tool.specs.Run.{Streams, Spells, Succeeds, HasOutputCause}
-use Rattle.xlsx_tool.specs.Run.{TellsInput, GivesParts, IsFed, PackageFed, FeedingFails, OutputRead}
+use Rattle.xlsx_tool.specs.Run.{Streams, Spells, Succeeds, HasAnswerCause}
+use Rattle.xlsx_tool.specs.Run.{TellsInput, GivesParts, IsFed, PackageFed, FeedingFails, AnswerRead}
 use Rattle.xlsx_tool.specs.Run.{ReadingFails, Refuses, AnswersExactly}
 use Rattle.xlsx_tool.specs.Source.{SourceState}
 use Rattle.xlsx_commands.specs.declared.error.ToolError.{ToolError}
+use Rattle.xlsx_commands.specs.declared.sheet_choice.SheetChoice.{SheetChoice}
 use Rattle.xlsx_commands.specs.declared.error.ToolError.TheVariants.{Usage, ReadFault}
 use Rattle.xlsx_commands.specs.declared.error.ToolError.TheVariants.{InputTooLarge}
 use Rattle.xlsx_commands.specs.declared.error.ToolError.TheVariants.{FileTooLarge, NotAPackage}
 use Rattle.xlsx_commands.specs.declared.error.ToolError.TheVariants.{NotAWorkbookFile, Workbook}
 use Rattle.xlsx_commands.specs.declared.error.ToolError.TheVariants.{WriteFault, OutOfMemory}
 use Rattle.xlsx_commands.specs.declared.error.ToolError.TheVariants.{BoxTooLarge, Unwritable}
+use Rattle.xlsx_commands.specs.declared.error.ToolError.TheVariants.{NotChosen}
 
 -- ---- the output of a command on what a source spells
 
@@ -30,36 +36,69 @@ given_by :
 given_by (Some own) parts old new fed = fed.0
 given_by None parts old new fed = fed.0
 
+-- no answer is refused for what refuses no output and no choice
+never_answered :
+    (request : Request) (parts : List Part) (error : ToolError)
+    → ((command : Command) → OutputCause command parts error → ⊥)
+    → ((choice : SheetChoice) → ChoiceCause choice parts error → ⊥)
+    → AnswerCause request parts error → ⊥
+never_answered (told command) parts error outputs choices cause = outputs command cause
+never_answered (chosen choice command) parts error outputs choices (inl cause) =
+    choices choice cause
+never_answered (chosen choice command) parts error outputs choices (inr (name, chooses, cause)) =
+    outputs (on_sheet name command) cause
+
 pub from_output :
-    (command : Command) (parts : List Part) (old new : SourceState) (error : ToolError)
-    → PackageFed command parts old new → OutputFails command parts error
-    → ReadingFails command old new error
-from_output command parts old new (Workbook error) feeds fails = (
+    (request : Request) (parts : List Part) (old new : SourceState) (error : ToolError)
+    → PackageFed request parts old new → AnswerFails request parts error
+    → ReadingFails request old new error
+from_output request parts old new (Workbook error) feeds fails = (
   feeds.faults,
   record {
     parts = parts;
     cause = fails;
-    fed = λ tells. given_by (own_parts command) parts old new (feeds.fed tells);
+    fed = λ tells. given_by (request_parts request) parts old new (feeds.fed tells);
   },
 )
-from_output command parts old new OutOfMemory feeds fails = feeds.faults
-from_output command parts old new BoxTooLarge feeds fails = (
+from_output request parts old new OutOfMemory feeds fails = feeds.faults
+from_output request parts old new BoxTooLarge feeds fails = (
   feeds.faults,
   record {
     parts = parts;
     cause = fails;
-    fed = λ tells. given_by (own_parts command) parts old new (feeds.fed tells);
+    fed = λ tells. given_by (request_parts request) parts old new (feeds.fed tells);
   },
 )
-from_output command parts old new Unwritable feeds fails = (
+from_output request parts old new Unwritable feeds fails = (
   feeds.faults,
   record {
     parts = parts;
     cause = fails;
-    fed = λ tells. given_by (own_parts command) parts old new (feeds.fed tells);
+    fed = λ tells. given_by (request_parts request) parts old new (feeds.fed tells);
   },
 )
-from_output command parts old new _ feeds fails = absurd fails
+from_output request parts old new (NotChosen fault) feeds fails = (
+  feeds.faults,
+  record {
+    parts = parts;
+    cause = fails;
+    fed = λ tells. given_by (request_parts request) parts old new (feeds.fed tells);
+  },
+)
+from_output request parts old new Usage feeds fails =
+    absurd (never_answered request parts Usage (λ command cause. cause) (λ choice cause. cause) fails)
+from_output request parts old new ReadFault feeds fails =
+    absurd (never_answered request parts ReadFault (λ command cause. cause) (λ choice cause. cause) fails)
+from_output request parts old new InputTooLarge feeds fails =
+    absurd (never_answered request parts InputTooLarge (λ command cause. cause) (λ choice cause. cause) fails)
+from_output request parts old new FileTooLarge feeds fails =
+    absurd (never_answered request parts FileTooLarge (λ command cause. cause) (λ choice cause. cause) fails)
+from_output request parts old new NotAPackage feeds fails =
+    absurd (never_answered request parts NotAPackage (λ command cause. cause) (λ choice cause. cause) fails)
+from_output request parts old new (NotAWorkbookFile fault) feeds fails =
+    absurd (never_answered request parts (NotAWorkbookFile fault) (λ command cause. cause) (λ choice cause. cause) fails)
+from_output request parts old new WriteFault feeds fails =
+    absurd (never_answered request parts WriteFault (λ command cause. cause) (λ choice cause. cause) fails)
 
 -- ---- the sink
 
@@ -98,16 +137,16 @@ same_some x y found first second = ap (some_of x) (sym first ∙ second)
 -- an output and a cause of a refusal exclude each other
 abbrev pub NeverBoth : Type 0
 NeverBoth =
-    (command : Command) (parts : List Part) (output : List ℕ) (error : ToolError)
-    → IsOutput command parts output → OutputCause command parts error → ⊥
+    (request : Request) (parts : List Part) (output : List ℕ) (error : ToolError)
+    → IsAnswer request parts output → AnswerCause request parts error → ⊥
 
 -- the words are a command on a package of these parts
-record IsCommand
-    (words : List (List ℕ)) (source : SourceState) (command : Command) (parts : List Part)
+record IsRequest
+    (words : List (List ℕ)) (source : SourceState) (request : Request) (parts : List Part)
     : Type 0 where
-  asked : command_of words ≡ Some command
-  tells : TellsInput (own_parts command) source
-  gives : GivesParts (own_parts command) source parts
+  asked : request_of words ≡ Some request
+  tells : TellsInput (request_parts request) source
+  gives : GivesParts (request_parts request) source parts
 
 same_package :
     (own : Option (List Part)) (source : SourceState) (parts others : List Part)
@@ -126,24 +165,24 @@ told_input None source parts none tells gives = (tells, gives)
 
 -- a package that has an output has no cause of a refusal
 no_cause :
-    NeverBoth → (words : List (List ℕ)) (source : SourceState) (command asked : Command)
+    NeverBoth → (words : List (List ℕ)) (source : SourceState) (request asked : Request)
     (parts : List Part) (output : List ℕ) (error : ToolError)
-    → IsCommand words source command parts → IsOutput command parts output
-    → command_of words ≡ Some asked → HasOutputCause asked source error → ⊥
-no_cause never words source command asked parts output error is prints same cause =
-    let command_is = same_some asked command (command_of words) same is.asked in
-    let own = subst (λ (command : Command). HasOutputCause command source error) command_is cause in
-    let package_is = same_package (own_parts command) source own.parts parts (own.fed is.tells)
+    → IsRequest words source request parts → IsAnswer request parts output
+    → request_of words ≡ Some asked → HasAnswerCause asked source error → ⊥
+no_cause never words source request asked parts output error is prints same cause =
+    let request_is = same_some asked request (request_of words) same is.asked in
+    let own = subst (λ (request : Request). HasAnswerCause request source error) request_is cause in
+    let package_is = same_package (request_parts request) source own.parts parts (own.fed is.tells)
     is.gives in
-    never command parts output error prints
-    (subst (λ (parts : List Part). OutputCause command parts error) package_is own.cause)
+    never request parts output error prints
+    (subst (λ (parts : List Part). AnswerCause request parts error) package_is own.cause)
 
 -- an input that spells a package isn't past its limit
 never_past :
     (is_file : Bool) (old new : SourceState) (parts : List Part) → PastLimit is_file old new
     → old.is_told ≡ true → Spells old.left parts → ⊥
-never_past is_file old new parts past told spells =
-    let took = past.took told in
+never_past is_file old new parts past tells spells =
+    let took = past.took tells in
     let long = length-append took.taken new.left in
     let eight : 8 ≤ length took.taken = omega (arith, took.many, (limit_by is_file).0) in
     let begins = ap begins_as_file took.from ∙ begin_alike took.taken new.left eight
@@ -152,73 +191,76 @@ never_past is_file old new parts past told spells =
 
 -- a package that has an output was not refused for any cause of its own
 not_refused :
-    NeverBoth → (words : List (List ℕ)) (old new : Streams) (command : Command)
+    NeverBoth → (words : List (List ℕ)) (old new : Streams) (request : Request)
     (parts : List Part) (output : List ℕ) (error : ToolError)
-    → IsCommand words old.source command parts → IsOutput command parts output
+    → IsRequest words old.source request parts → IsAnswer request parts output
     → (error ≢ OutOfMemory) × (error ≢ ReadFault) × (error ≢ WriteFault)
     → Refuses words old new error → ⊥
-not_refused never words old new command parts output Usage is prints own refuses =
-    not_some command (command_of words) is.asked refuses.0
-not_refused never words old new command parts output ReadFault is prints own refuses = own.1 refl
-not_refused never words old new command parts output InputTooLarge is prints own refuses =
-    let command_is = same_some refuses.command command (command_of words) refuses.asked is.asked in
+not_refused never words old new request parts output Usage is prints own refuses =
+    not_some request (request_of words) is.asked refuses.0
+not_refused never words old new request parts output ReadFault is prints own refuses = own.1 refl
+not_refused never words old new request parts output InputTooLarge is prints own refuses =
+    let request_is = same_some refuses.request request (request_of words) refuses.asked is.asked in
     let fails = subst
-    (λ (command : Command). FeedingFails command old.source new.source InputTooLarge) command_is
+    (λ (request : Request). FeedingFails request old.source new.source InputTooLarge) request_is
     refuses.cause in
-    let input = told_input (own_parts command) old.source parts fails.0 is.tells is.gives in
+    let input = told_input (request_parts request) old.source parts fails.0 is.tells is.gives in
     never_past false old.source new.source parts fails.1 input.0 input.1
-not_refused never words old new command parts output FileTooLarge is prints own refuses =
-    let command_is = same_some refuses.command command (command_of words) refuses.asked is.asked in
+not_refused never words old new request parts output FileTooLarge is prints own refuses =
+    let request_is = same_some refuses.request request (request_of words) refuses.asked is.asked in
     let fails = subst
-    (λ (command : Command). FeedingFails command old.source new.source FileTooLarge) command_is
+    (λ (request : Request). FeedingFails request old.source new.source FileTooLarge) request_is
     refuses.cause in
-    let input = told_input (own_parts command) old.source parts fails.0 is.tells is.gives in
+    let input = told_input (request_parts request) old.source parts fails.0 is.tells is.gives in
     never_past true old.source new.source parts fails.1 input.0 input.1
-not_refused never words old new command parts output NotAPackage is prints own refuses =
-    let command_is = same_some refuses.command command (command_of words) refuses.asked is.asked in
+not_refused never words old new request parts output NotAPackage is prints own refuses =
+    let request_is = same_some refuses.request request (request_of words) refuses.asked is.asked in
     let fails = subst
-    (λ (command : Command). FeedingFails command old.source new.source NotAPackage) command_is
+    (λ (request : Request). FeedingFails request old.source new.source NotAPackage) request_is
     refuses.cause in
-    let input = told_input (own_parts command) old.source parts fails.0 is.tells is.gives in
+    let input = told_input (request_parts request) old.source parts fails.0 is.tells is.gives in
     not_some parts (package_in old.source.left) input.1.spelled (fails.1.cause input.0).none
 not_refused
-    never words old new command parts output (NotAWorkbookFile fault) is prints own refuses =
+    never words old new request parts output (NotAWorkbookFile fault) is prints own refuses =
     let error : ToolError = NotAWorkbookFile fault in
-    let command_is = same_some refuses.command command (command_of words) refuses.asked is.asked in
+    let request_is = same_some refuses.request request (request_of words) refuses.asked is.asked in
     let fails = subst
-    (λ (command : Command). FeedingFails command old.source new.source error) command_is
+    (λ (request : Request). FeedingFails request old.source new.source error) request_is
     refuses.cause in
-    let input = told_input (own_parts command) old.source parts fails.0 is.tells is.gives in
+    let input = told_input (request_parts request) old.source parts fails.0 is.tells is.gives in
     not_some parts (package_in old.source.left) input.1.spelled (fails.1.cause input.0).none
-not_refused never words old new command parts output (Workbook error) is prints own refuses =
-    no_cause never words old.source command refuses.command parts output (Workbook error) is prints
+not_refused never words old new request parts output (Workbook error) is prints own refuses =
+    no_cause never words old.source request refuses.request parts output (Workbook error) is prints
     refuses.asked refuses.cause.1
-not_refused never words old new command parts output BoxTooLarge is prints own refuses =
-    no_cause never words old.source command refuses.command parts output BoxTooLarge is prints
+not_refused never words old new request parts output BoxTooLarge is prints own refuses =
+    no_cause never words old.source request refuses.request parts output BoxTooLarge is prints
     refuses.asked refuses.cause.1
-not_refused never words old new command parts output Unwritable is prints own refuses =
-    no_cause never words old.source command refuses.command parts output Unwritable is prints
+not_refused never words old new request parts output Unwritable is prints own refuses =
+    no_cause never words old.source request refuses.request parts output Unwritable is prints
     refuses.asked refuses.cause.1
-not_refused never words old new command parts output WriteFault is prints own refuses = own.2 refl
-not_refused never words old new command parts output OutOfMemory is prints own refuses = own.0 refl
+not_refused never words old new request parts output (NotChosen fault) is prints own refuses =
+    no_cause never words old.source request refuses.request parts output (NotChosen fault) is prints
+    refuses.asked refuses.cause.1
+not_refused never words old new request parts output WriteFault is prints own refuses = own.2 refl
+not_refused never words old new request parts output OutOfMemory is prints own refuses = own.0 refl
 
 -- a command whose output was written has one
 has_output :
-    (words : List (List ℕ)) (old new : Streams) (command : Command) (parts : List Part)
-    → IsCommand words old.source command parts → Succeeds words old new
-    → HasOutput command parts
-has_output words old new command parts is succeeds =
-    let command_is = same_some succeeds.command command (command_of words) succeeds.asked is.asked
+    (words : List (List ℕ)) (old new : Streams) (request : Request) (parts : List Part)
+    → IsRequest words old.source request parts → Succeeds words old new
+    → HasAnswer request parts
+has_output words old new request parts is succeeds =
+    let request_is = same_some succeeds.request request (request_of words) succeeds.asked is.asked
     in
     let read = subst
-    (λ (command : Command). OutputRead command succeeds.output old.source new.source) command_is
+    (λ (request : Request). AnswerRead request succeeds.output old.source new.source) request_is
     succeeds.reads in
-    let gives = given_by (own_parts command) read.parts old.source new.source
+    let gives = given_by (request_parts request) read.parts old.source new.source
     (read.fed.fed is.tells) in
     let package_is =
-    same_package (own_parts command) old.source read.parts parts gives is.gives in (
+    same_package (request_parts request) old.source read.parts parts gives is.gives in (
       succeeds.output,
-      subst (λ (parts : List Part). IsOutput command parts succeeds.output) package_is
+      subst (λ (parts : List Part). IsAnswer request parts succeeds.output) package_is
           read.is_output,
     )
 
@@ -227,21 +269,21 @@ pub answers :
     → OnOk result (Succeeds words old new) → IfErr result (Refuses words old new)
     → AnswersExactly words old.source result
 answers never words old new (Ok x) ok err = record {
-  exactly = λ command parts asked tells gives memory read write. (
-      let is : IsCommand words old.source command parts =
+  exactly = λ request parts asked tells gives memory read write. (
+      let is : IsRequest words old.source request parts =
       record { asked = asked; tells = tells; gives = gives }
       in
-      (λ _. has_output words old new command parts is ok, λ _. refl)
+      (λ _. has_output words old new request parts is ok, λ _. refl)
       );
 }
 answers never words old new (Err error) ok err = record {
-  exactly = λ command parts asked tells gives memory read write. (
-      let is : IsCommand words old.source command parts =
+  exactly = λ request parts asked tells gives memory read write. (
+      let is : IsRequest words old.source request parts =
       record { asked = asked; tells = tells; gives = gives }
       in (
         λ is_ok. absurd (true≢false (sym is_ok)),
         λ printed. absurd (
-            not_refused never words old new command parts printed.0 error is printed.1
+            not_refused never words old new request parts printed.0 error is printed.1
             (λ is. memory (ap Err is), λ is. read (ap Err is), λ is. write (ap Err is)) err
             ),
       )

@@ -2,7 +2,7 @@
 use Rattle.std.specs.Prelude.{◌≡◌, ℕ, List, [], ◌∷◌, ◌++◌, Result, Ok, Err, Option, Some, None}
 use Rattle.std.specs.Prelude.{codes, if◌then◌else◌, ◌⊎◌, IfSome, Bool, ◌||◌, is_some}
 use Rattle.std.specs.Str.{bytes_eq}
-use Rattle.xlsx_commands.specs.Command.{command_of}
+use Rattle.xlsx_commands.specs.Request.{request_of}
 use Rattle.xlsx_commands.specs.Status.{status_of, error_text}
 use Rattle.xlsx_commands.specs.declared.error.ToolError.{ToolError}
 use Rattle.xlsx_commands.specs.declared.error.ToolError.TheVariants.{WriteFault, OutOfMemory}
@@ -12,27 +12,30 @@ use Rattle.xlsx_tool.specs.Sink.{SinkState}
 -- the help page
 unfoldable pub help_text : List ℕ
 help_text =
-    codes "Usage: xlsx_tool cells NAME < INPUT\n"
-    ++ (codes "       xlsx_tool merges NAME < INPUT\n"
-    ++ (codes "       xlsx_tool links NAME < INPUT\n"
-    ++ (codes "       xlsx_tool comments NAME < INPUT\n"
+    codes "Usage: xlsx_tool cells NAME [--json] < INPUT\n"
+    ++ (codes "       xlsx_tool merges NAME [--json] < INPUT\n"
+    ++ (codes "       xlsx_tool links NAME [--json] < INPUT\n"
+    ++ (codes "       xlsx_tool comments NAME [--json] < INPUT\n"
     ++ (codes "       xlsx_tool csv NAME [OPTION].. < INPUT\n"
     ++ (codes "       xlsx_tool csv-table NAME [OPTION].. < INPUT\n"
+    ++ (codes "       xlsx_tool rows NAME --json [OPTION].. < INPUT\n"
     ++ (codes "       xlsx_tool table NAME < INPUT\n"
     ++ (codes "       xlsx_tool pivot SHEET NAME < INPUT\n"
     ++ (codes "       xlsx_tool precedents NAME < INPUT\n"
     ++ (codes "       xlsx_tool dependents NAME REF < INPUT\n"
     ++ (codes "       xlsx_tool check NAME < INPUT\n"
     ++ (codes "       xlsx_tool part NAME < INPUT\n"
-    ++ (codes "       xlsx_tool sheets < INPUT\n"
-    ++ (codes "       xlsx_tool names < INPUT\n"
-    ++ (codes "       xlsx_tool tables < INPUT\n"
-    ++ (codes "       xlsx_tool pivots < INPUT\n"
-    ++ (codes "       xlsx_tool props < INPUT\n"
+    ++ (codes "       xlsx_tool sheets [--json] < INPUT\n"
+    ++ (codes "       xlsx_tool names [--json] < INPUT\n"
+    ++ (codes "       xlsx_tool tables [--json] < INPUT\n"
+    ++ (codes "       xlsx_tool pivots [--json] < INPUT\n"
+    ++ (codes "       xlsx_tool props [--json] < INPUT\n"
     ++ (codes "       xlsx_tool upgrade < INPUT\n"
     ++ (codes "       xlsx_tool resave NAME [--xlsx] < INPUT\n"
     ++ (codes "       xlsx_tool sample N\n\n"
     ++ (codes "INPUT is a workbook file (.xlsx), or a package text (docs/FORMAT.md).\n\n"
+    ++ (codes "In place of NAME and SHEET of a worksheet --sheet N is the sheet at N among all,\n"
+    ++ (codes "from 1, and --sheet first the first worksheet.\n\n"
     ++ (codes "One line is printed, of the worksheet NAME or of the workbook, for each\n\n"
     ++ (codes "  cells      cell with a value, formula or style: position, value, formula, fill\n"
     ++ (codes "  merges     area of merged cells: its corners\n"
@@ -40,6 +43,7 @@ help_text =
     ++ (codes "  comments   comment: the position of its cell, its author, its text\n"
     ++ (codes "  csv        row of the values: a record of CSV\n"
     ++ (codes "  csv-table  header or row of the table NAME: a record of CSV\n"
+    ++ (codes "  rows       row of the values: an array of JSON\n"
     ++ (codes "  table      value in the table NAME: position, value\n"
     ++ (codes "  pivot      row of the cache of the pivot table NAME on SHEET: its values\n"
     ++ (codes "  precedents formula: its cell, the areas that it names\n"
@@ -51,19 +55,22 @@ help_text =
     ++ (codes "  tables     table: its name, its sheet, the area of its data, its columns\n"
     ++ (codes "  pivots     pivot table: its sheet, its name\n"
     ++ (codes "  props      property of the workbook: its name, its text\n\n"
-    ++ (codes "The fields of a line have tabs between them, and those of CSV commas.\n\n"
+    ++ (codes "The fields of a line have tabs between them, and those of CSV commas.\n"
+    ++ (codes "By --json each line is an object of JSON, by the keys of docs/FORMAT.md.\n\n"
     ++ (codes "OPTIONs of csv and csv-table, each at most once:\n\n"
     ++ (codes "  --dates        dates as 2024-01-01T13:30:00, and durations as 36:30:00\n"
     ++ (codes "  --digits=N     numbers of at most N significant digits, N from 1 to 38\n"
     ++ (codes "  --delimiter=C  this ASCII character between fields, or for tab a tab\n"
     ++ (codes "  --crlf         CR and LF at the end of a record\n"
     ++ (codes "  --bom          the bytes EF BB BF in front\n"
-    ++ (codes "  --from-a1      of csv alone: records from row 1, and fields from column A\n\n"
+    ++ (codes "  --from-a1      of csv alone: records from row 1, and fields from column A\n"
+    ++ (codes "  --shown        of csv and rows, without --dates and --digits: what cells show\n\n"
+    ++ (codes "rows has --json first, and behind it --dates, --digits=N, --from-a1 or --shown.\n\n"
     ++ (codes "upgrade prints the package text in version 2: an empty element is one event.\n\n"
     ++ (codes "resave writes a package of the values and formulas of the worksheet NAME alone\n"
     ++ (codes "and prints its text in version 2, or by --xlsx a workbook file.\n\n"
     ++ codes "sample makes a package of 1 to 20,000 rows and prints how much is read of it.\n"
-    )))))))))))))))))))))))))))))))))))))))))))))))))
+    ))))))))))))))))))))))))))))))))))))))))))))))))))))))))
 
 -- the line of the version
 abbrev pub version_text : List ℕ
@@ -79,7 +86,7 @@ page_asked (word ∷ further ∷ words) = None
 
 -- the words ask for a page, are no command, or are one that reads no input
 abbrev pub asks_for_no_input : List (List ℕ) → Bool
-asks_for_no_input words = is_some (page_asked words) || reads_nothing (command_of words)
+asks_for_no_input words = is_some (page_asked words) || reads_nothing (request_of words)
 
 -- the page that was asked for is written and nothing is read, or the command is run
 abbrev pub Prints : Option (List ℕ) → List (List ℕ) → Streams → Streams → Type 0

@@ -2,8 +2,8 @@
 use Rattle.std.specs.Prelude.{◌≡◌, ◌≢◌, ◌↔◌, Result, Err, IsOk, ℕ, ◌≤◌, List, [], ◌++◌, length}
 use Rattle.std.specs.Prelude.{true, false, Bool, Option, Some, None, is_some}
 use Rattle.part_events.specs.Package.{Part, RisesByOne}
-use Rattle.xlsx_commands.specs.Command.{Command, command_of, own_parts}
-use Rattle.xlsx_commands.specs.Outputs.{IsOutput, OutputCause, HasOutput}
+use Rattle.xlsx_commands.specs.Request.{Request, request_of, request_parts}
+use Rattle.xlsx_commands.specs.Request.{IsAnswer, AnswerCause, HasAnswer}
 use Rattle.xlsx_tool.specs.Input.{PastLimit}
 use Rattle.input_package.specs.Reading.{IsFaulty, IsNoText, longest_input, package_in}
 use Rattle.xlsx_tool.specs.Sink.{SinkState}
@@ -31,9 +31,9 @@ pub record Spells (input : List ℕ) (parts : List Part) : Type 0 where
   pub spelled : package_in input ≡ Some parts
 
 -- the words are no command, or one that reads no input
-abbrev pub reads_nothing : Option Command → Bool
+abbrev pub reads_nothing : Option Request → Bool
 reads_nothing None = true
-reads_nothing (Some command) = is_some (own_parts command)
+reads_nothing (Some request) = is_some (request_parts request)
 
 -- the source tells what a command needs of it, where it has these parts of its own
 abbrev pub TellsInput : Option (List Part) → SourceState → Type 0
@@ -51,15 +51,15 @@ IsFed (Some own) parts old new = (parts ≡ own) × (new ≡ old)
 IsFed None parts old new = Spells old.left parts × (new.left ≡ [])
 
 -- what it works on was had
-pub record PackageFed (command : Command) (parts : List Part) (old new : SourceState) : Type 0 where
+pub record PackageFed (request : Request) (parts : List Part) (old new : SourceState) : Type 0 where
   pub faults : new.faults ≡ old.faults
-  pub fed : TellsInput (own_parts command) old → IsFed (own_parts command) parts old new
+  pub fed : TellsInput (request_parts request) old → IsFed (request_parts request) parts old new
 
 -- the output of the command was had, and nothing is left of what it reads
-pub record OutputRead (command : Command) (output : List ℕ) (old new : SourceState) : Type 0 where
+pub record AnswerRead (request : Request) (output : List ℕ) (old new : SourceState) : Type 0 where
   pub parts : List Part
-  pub is_output : IsOutput command parts output
-  pub fed : PackageFed command parts old new
+  pub is_output : IsAnswer request parts output
+  pub fed : PackageFed request parts old new
 
 -- the bytes were written
 pub record IsSent (bytes : List ℕ) (old new : SinkState) : Type 0 where
@@ -75,11 +75,11 @@ pub record FrontSent (bytes : List ℕ) (old new : SinkState) : Type 0 where
 
 -- a run that answers Ok
 pub record Succeeds (words : List (List ℕ)) (old new : Streams) : Type 0 where
-  pub command : Command
-  pub asked : command_of words ≡ Some command
+  pub request : Request
+  pub asked : request_of words ≡ Some request
   pub faults : NoFaults old new
   pub output : List ℕ
-  pub reads : OutputRead command output old.source new.source
+  pub reads : AnswerRead request output old.source new.source
   pub written : old.sink.is_told ≡ true → new.sink.written ≡ old.sink.written ++ output
 
 -- no fault came, and the input fits and is no package, for a cause
@@ -89,60 +89,61 @@ pub record IsNoPackage (why : List ℕ → Type 0) (old new : SourceState) : Typ
   pub cause : old.is_told ≡ true → why old.left
 
 -- the command works on a package in which this refusal has its cause
-pub record HasOutputCause (command : Command) (source : SourceState) (error : ToolError)
+pub record HasAnswerCause (request : Request) (source : SourceState) (error : ToolError)
     : Type 0 where
   pub parts : List Part
-  pub cause : OutputCause command parts error
-  pub fed : TellsInput (own_parts command) source → GivesParts (own_parts command) source parts
+  pub cause : AnswerCause request parts error
+  pub fed :
+      TellsInput (request_parts request) source → GivesParts (request_parts request) source parts
 
 -- why what a command works on was not had
-abbrev pub FeedingFails : Command → SourceState → SourceState → ToolError → Type 0
-FeedingFails command old new ReadFault =
-    (own_parts command ≡ None) × RisesByOne old.faults new.faults
-FeedingFails command old new InputTooLarge =
-    (own_parts command ≡ None) × PastLimit false old new
-FeedingFails command old new FileTooLarge =
-    (own_parts command ≡ None) × PastLimit true old new
-FeedingFails command old new NotAPackage =
-    (own_parts command ≡ None) × IsNoPackage IsNoText old new
-FeedingFails command old new (NotAWorkbookFile fault) =
-    (own_parts command ≡ None) × IsNoPackage (λ bytes. IsFaulty bytes fault) old new
-FeedingFails command old new OutOfMemory = new.faults ≡ old.faults
-FeedingFails command old new _ = ⊥
+abbrev pub FeedingFails : Request → SourceState → SourceState → ToolError → Type 0
+FeedingFails request old new ReadFault =
+    (request_parts request ≡ None) × RisesByOne old.faults new.faults
+FeedingFails request old new InputTooLarge =
+    (request_parts request ≡ None) × PastLimit false old new
+FeedingFails request old new FileTooLarge =
+    (request_parts request ≡ None) × PastLimit true old new
+FeedingFails request old new NotAPackage =
+    (request_parts request ≡ None) × IsNoPackage IsNoText old new
+FeedingFails request old new (NotAWorkbookFile fault) =
+    (request_parts request ≡ None) × IsNoPackage (λ bytes. IsFaulty bytes fault) old new
+FeedingFails request old new OutOfMemory = new.faults ≡ old.faults
+FeedingFails request old new _ = ⊥
 
 -- why its output was not had
-abbrev pub ReadingFails : Command → SourceState → SourceState → ToolError → Type 0
-ReadingFails command old new ReadFault = FeedingFails command old new ReadFault
-ReadingFails command old new InputTooLarge = FeedingFails command old new InputTooLarge
-ReadingFails command old new FileTooLarge = FeedingFails command old new FileTooLarge
-ReadingFails command old new NotAPackage = FeedingFails command old new NotAPackage
-ReadingFails command old new (NotAWorkbookFile fault) =
-    FeedingFails command old new (NotAWorkbookFile fault)
-ReadingFails command old new OutOfMemory = new.faults ≡ old.faults
-ReadingFails command old new error = (new.faults ≡ old.faults) × HasOutputCause command old error
+abbrev pub ReadingFails : Request → SourceState → SourceState → ToolError → Type 0
+ReadingFails request old new ReadFault = FeedingFails request old new ReadFault
+ReadingFails request old new InputTooLarge = FeedingFails request old new InputTooLarge
+ReadingFails request old new FileTooLarge = FeedingFails request old new FileTooLarge
+ReadingFails request old new NotAPackage = FeedingFails request old new NotAPackage
+ReadingFails request old new (NotAWorkbookFile fault) =
+    FeedingFails request old new (NotAWorkbookFile fault)
+ReadingFails request old new OutOfMemory = new.faults ≡ old.faults
+ReadingFails request old new error = (new.faults ≡ old.faults) × HasAnswerCause request old error
 
 -- a command that was refused before anything was written
-pub record RefusesCommand
+pub record RefusesRequest
     (words : List (List ℕ)) (old new : Streams) (error : ToolError) : Type 0 where
-  pub command : Command
-  pub asked : command_of words ≡ Some command
+  pub request : Request
+  pub asked : request_of words ≡ Some request
   pub sink_faults : new.sink.faults ≡ old.sink.faults
-  pub cause : ReadingFails command old.source new.source error
+  pub cause : ReadingFails request old.source new.source error
 
 -- a command whose output was not written whole: what was written is a front of it
 pub record RefusesOutput (words : List (List ℕ)) (old new : Streams) : Type 0 where
-  pub command : Command
-  pub asked : command_of words ≡ Some command
+  pub request : Request
+  pub asked : request_of words ≡ Some request
   pub cause : RisesByOne old.sink.faults new.sink.faults
   pub output : List ℕ
-  pub reads : OutputRead command output old.source new.source
+  pub reads : AnswerRead request output old.source new.source
   pub front : FrontSent output old.sink new.sink
 
 -- when a run answers each refusal
 abbrev pub Refuses : List (List ℕ) → Streams → Streams → ToolError → Type 0
-Refuses words old new Usage = (command_of words ≡ None) × NoFaults old new
+Refuses words old new Usage = (request_of words ≡ None) × NoFaults old new
 Refuses words old new WriteFault = RefusesOutput words old new
-Refuses words old new error = RefusesCommand words old new error
+Refuses words old new error = RefusesRequest words old new error
 
 -- Of a command on a package of these parts: it answers Ok exactly where the package has an output
 -- for it, unless memory, the source or the sink fails it.
@@ -150,10 +151,10 @@ pub record AnswersExactly
     (words : List (List ℕ)) (source : SourceState) (result : Result (Unit {0}) ToolError)
     : Type 0 where
   pub exactly :
-      (command : Command) (parts : List Part) → command_of words ≡ Some command
-      → TellsInput (own_parts command) source → GivesParts (own_parts command) source parts
+      (request : Request) (parts : List Part) → request_of words ≡ Some request
+      → TellsInput (request_parts request) source → GivesParts (request_parts request) source parts
       → result ≢ Err OutOfMemory → result ≢ Err ReadFault → result ≢ Err WriteFault
-      → IsOk result ↔ HasOutput command parts
+      → IsOk result ↔ HasAnswer request parts
 
 -- ---- the steps of a run
 

@@ -16,28 +16,32 @@ use std::process::ExitCode;
 use xlsx_commands::ToolError;
 
 const HELP: &str = "\
-Usage: xlsx_tool cells NAME < INPUT
-       xlsx_tool merges NAME < INPUT
-       xlsx_tool links NAME < INPUT
-       xlsx_tool comments NAME < INPUT
+Usage: xlsx_tool cells NAME [--json] < INPUT
+       xlsx_tool merges NAME [--json] < INPUT
+       xlsx_tool links NAME [--json] < INPUT
+       xlsx_tool comments NAME [--json] < INPUT
        xlsx_tool csv NAME [OPTION].. < INPUT
        xlsx_tool csv-table NAME [OPTION].. < INPUT
+       xlsx_tool rows NAME --json [OPTION].. < INPUT
        xlsx_tool table NAME < INPUT
        xlsx_tool pivot SHEET NAME < INPUT
        xlsx_tool precedents NAME < INPUT
        xlsx_tool dependents NAME REF < INPUT
        xlsx_tool check NAME < INPUT
        xlsx_tool part NAME < INPUT
-       xlsx_tool sheets < INPUT
-       xlsx_tool names < INPUT
-       xlsx_tool tables < INPUT
-       xlsx_tool pivots < INPUT
-       xlsx_tool props < INPUT
+       xlsx_tool sheets [--json] < INPUT
+       xlsx_tool names [--json] < INPUT
+       xlsx_tool tables [--json] < INPUT
+       xlsx_tool pivots [--json] < INPUT
+       xlsx_tool props [--json] < INPUT
        xlsx_tool upgrade < INPUT
        xlsx_tool resave NAME [--xlsx] < INPUT
        xlsx_tool sample N
 
 INPUT is a workbook file (.xlsx), or a package text (docs/FORMAT.md).
+
+In place of NAME and SHEET of a worksheet --sheet N is the sheet at N among all,
+from 1, and --sheet first the first worksheet.
 
 One line is printed, of the worksheet NAME or of the workbook, for each
 
@@ -47,6 +51,7 @@ One line is printed, of the worksheet NAME or of the workbook, for each
   comments   comment: the position of its cell, its author, its text
   csv        row of the values: a record of CSV
   csv-table  header or row of the table NAME: a record of CSV
+  rows       row of the values: an array of JSON
   table      value in the table NAME: position, value
   pivot      row of the cache of the pivot table NAME on SHEET: its values
   precedents formula: its cell, the areas that it names
@@ -60,6 +65,7 @@ One line is printed, of the worksheet NAME or of the workbook, for each
   props      property of the workbook: its name, its text
 
 The fields of a line have tabs between them, and those of CSV commas.
+By --json each line is an object of JSON, by the keys of docs/FORMAT.md.
 
 OPTIONs of csv and csv-table, each at most once:
 
@@ -69,6 +75,9 @@ OPTIONs of csv and csv-table, each at most once:
   --crlf         CR and LF at the end of a record
   --bom          the bytes EF BB BF in front
   --from-a1      of csv alone: records from row 1, and fields from column A
+  --shown        of csv and rows, without --dates and --digits: what cells show
+
+rows has --json first, and behind it --dates, --digits=N, --from-a1 or --shown.
 
 upgrade prints the package text in version 2: an empty element is one event.
 

@@ -1,8 +1,9 @@
 ghost use Rattle.std.specs.Prelude.{◌≡◌, ◌≢◌, ◌<◌, ◌^◌, length, true, is_some, Some, IfOk, OnOk};
 ghost use Rattle.std.specs.Prelude.{IfErr};
-ghost use Rattle.xlsx_commands.specs.Command.{texts, command_meant, command_of, own_parts};
+ghost use Rattle.xlsx_commands.specs.Command.{texts};
+ghost use Rattle.xlsx_commands.specs.Request.{request_meant, request_of, request_parts};
 ghost use Rattle.xlsx_tool.specs.Run.{Streams, Succeeds, Refuses, AnswersExactly};
-ghost use Rattle.xlsx_tool.specs.Run.{NoPackage, PackageFed, FeedingFails, OutputRead};
+ghost use Rattle.xlsx_tool.specs.Run.{NoPackage, PackageFed, FeedingFails, AnswerRead};
 ghost use Rattle.xlsx_tool.specs.Run.{ReadingFails};
 ghost use Rattle.xlsx_tool.specs.Run.{IsSent, SendFails, reads_nothing};
 ghost use Rattle.input_package.specs.Reading.{package_in};
@@ -14,7 +15,7 @@ use crate::source::Source;
 use input_package::{InputError, InputPackage, read_package};
 use std::alloc::Global;
 use xlsx_commands::{
-    Command, ToolError, causes_leave_no_output, command_of, output_of, own_package,
+    Request, ToolError, answer_of, causes_leave_no_answer, package_of_request, request_of,
 };
 
 /// The package that the bytes are.
@@ -34,19 +35,19 @@ fn package_from(alloc: Global, bytes: Vec<u8>) -> Result<InputPackage, ToolError
 /// The package that the command works on: its own, or the one that the source spells.
 fn package_for<S: Source>(
     alloc: Global,
-    command: Command<'_>,
+    request: Request<'_>,
     source: &mut S,
 ) -> Result<InputPackage, ToolError>
     ensures ok { let old = S.state source.old in
         let new = S.state source.new in
-        IfOk result (λ held. PackageFed (command_meant command.entry) held.parts old new) }
+        IfOk result (λ held. PackageFed (request_meant request.entry) held.parts old new) }
     ensures err { let old = S.state source.old in
         let new = S.state source.new in
-        IfErr result (FeedingFails (command_meant command.entry) old new) }
-    ensures unread { is_some (own_parts (command_meant command.entry)) ≡ true
+        IfErr result (FeedingFails (request_meant request.entry) old new) }
+    ensures unread { is_some (request_parts (request_meant request.entry)) ≡ true
         → S.state source.new ≡ S.state source.old }
 {
-    if let Some(package) = own_package(alloc, command)? {
+    if let Some(package) = package_of_request(alloc, request)? {
         return Ok(package);
     }
     let bytes = read_input(alloc, source)?;
@@ -56,20 +57,20 @@ fn package_for<S: Source>(
 /// The output of the command on the package that it works on.
 fn output_from<S: Source>(
     alloc: Global,
-    command: Command<'_>,
+    request: Request<'_>,
     source: &mut S,
 ) -> Result<Vec<u8>, ToolError>
     ensures ok { let old = S.state source.old in
         let new = S.state source.new in
-        IfOk result (λ output. OutputRead (command_meant command.entry) output.items old new) }
+        IfOk result (λ output. AnswerRead (request_meant request.entry) output.items old new) }
     ensures err { let old = S.state source.old in
         let new = S.state source.new in
-        IfErr result (ReadingFails (command_meant command.entry) old new) }
-    ensures unread { is_some (own_parts (command_meant command.entry)) ≡ true
+        IfErr result (ReadingFails (request_meant request.entry) old new) }
+    ensures unread { is_some (request_parts (request_meant request.entry)) ≡ true
         → S.state source.new ≡ S.state source.old }
 {
-    let package = package_for(alloc, command, source)?;
-    output_of(alloc, command, package)
+    let package = package_for(alloc, request, source)?;
+    answer_of(alloc, request, package)
 }
 
 /// Writes the bytes, whole. A failure of the sink is refused as `WriteFault`.
@@ -88,7 +89,7 @@ pub fn send<K: Sink>(sink: &mut K, bytes: &[u8]) -> Result<(), ToolError>
 }
 
 /// The command of these words, by what stands behind Ok and behind each refusal.
-fn run_command<S: Source, K: Sink>(
+fn run_request<S: Source, K: Sink>(
     alloc: Global,
     words: &[String],
     source: &mut S,
@@ -102,19 +103,20 @@ fn run_command<S: Source, K: Sink>(
         let old : Streams = record { source = S.state source.old; sink = K.state sink.old } in
         let new : Streams = record { source = S.state source.new; sink = K.state sink.new } in
         IfErr result (Refuses words old new) }
-    ensures unread { reads_nothing (command_of (texts words.now)) ≡ true
+    ensures unread { reads_nothing (request_of (texts words.now)) ≡ true
         → S.state source.new ≡ S.state source.old }
     ensures unwritten { IfErr result (λ e. e ≢ WriteFault → K.state sink.new ≡ K.state sink.old) }
 {
-    let Some(command) = command_of(words) else {
+    let Some(request) = request_of(words) else {
         return Err(ToolError::Usage);
     };
-    let output = output_from(alloc, command, source)?;
+    let output = output_from(alloc, request, source)?;
     send(sink, &output)
 }
 
 /// Runs the command of these words (docs/FORMAT.md): reads the package that it works on from the
-/// source, unless the command has one of its own, and writes its output on that to the sink.
+/// source, unless the command has one of its own, and writes its output on that to the sink. Where
+/// the words choose a sheet and tell no name, that is the output on the sheet chosen.
 ///
 /// Answers the refusal with its status otherwise. A run that is refused before the output is
 /// written leaves the sink as it was.
@@ -132,12 +134,12 @@ pub fn run<S: Source, K: Sink>(
         let old : Streams = record { source = S.state source.old; sink = K.state sink.old } in
         let new : Streams = record { source = S.state source.new; sink = K.state sink.new } in
         IfErr result (Refuses words old new) }
-    ensures unread { reads_nothing (command_of (texts words.now)) ≡ true
+    ensures unread { reads_nothing (request_of (texts words.now)) ≡ true
         → S.state source.new ≡ S.state source.old }
     ensures unwritten { IfErr result (λ e. e ≢ WriteFault → K.state sink.new ≡ K.state sink.old) }
     ensures exact { let old = S.state source.old in
         AnswersExactly (texts words.now) old result }
 {
-    causes_leave_no_output();
-    run_command(alloc, words, source, sink)
+    causes_leave_no_answer();
+    run_request(alloc, words, source, sink)
 }

@@ -396,7 +396,7 @@ fn pages_are_printed_where_their_words_stand_alone(rt: HostRuntime) -> Result<()
     for (words, front, end) in [
         (
             "--help",
-            "Usage: xlsx_tool cells NAME < ",
+            "Usage: xlsx_tool cells NAME [--json] < ",
             "how much is read of it.\n0",
         ),
         ("--version", "xlsx_tool 0.1.0", "\n0"),

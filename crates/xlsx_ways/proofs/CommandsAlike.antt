@@ -1,24 +1,29 @@
 -- A row for each command: what packages have that have the same parts where it looks.
-use Rattle.std.proofs.Common.{ℕ, List, Option, Some, sym, ◌∙◌, subst, inl, inr}
+use Rattle.std.proofs.Common.{ℕ, List, Option, Some, sym, ◌∙◌, subst, inl, inr, Bool, true, false}
+use Rattle.cell_data.specs.CellValue.{CellValue}
+use Rattle.list_lines.specs.declared.content.LineForm.TheVariants.{Text, Json}
 use Rattle.part_events.specs.Package.{Part}
 use Rattle.xlsx_error.specs.declared.error.XlsxError.{XlsxError}
 use Rattle.xlsx_error.specs.declared.error.XlsxError.TheVariants.{WorksheetNotFound}
 use Rattle.xlsx_core.proofs.Agreeing.{same_back, reads_over}
+use Rattle.xlsx_core.proofs.ShownLaws.{shown_over}
 use Rattle.xlsx_commands.specs.Command.{Command, cells, sheets, names, merges, links, props, csv}
 use Rattle.xlsx_commands.specs.Command.{csv_table, tables, table, pivots, pivot, precedents}
 use Rattle.xlsx_commands.specs.Command.{dependents, check, part, upgrade, resave, sample, comments}
-use Rattle.xlsx_commands.specs.Command.{resave_file}
+use Rattle.xlsx_commands.specs.Command.{resave_file, row_arrays}
 use Rattle.xlsx_commands.specs.Outputs.{IsOutput, RefusedWorkbookCause, IsTooLarge, OutputCause}
 use Rattle.xlsx_commands.specs.Outputs.{IsUnwritable}
 use Rattle.xlsx_commands.specs.Outputs.{IsUpgrade}
 use Rattle.xlsx_commands.specs.PartNames.{PartPathCause}
 use Rattle.xlsx_commands.specs.PropertyLists.{ListedPropertiesCause, text_of_name}
 use Rattle.xlsx_commands.specs.SampleLines.{sample_name}
+use Rattle.xlsx_commands.specs.SheetRows.{HasRowValues}
 use Rattle.xlsx_commands.specs.declared.error.ToolError.{ToolError}
 use Rattle.xlsx_commands.specs.declared.error.ToolError.TheVariants.{Workbook, BoxTooLarge}
 use Rattle.xlsx_commands.specs.declared.error.ToolError.TheVariants.{Unwritable}
 use Rattle.cell_data.specs.Pairs.{value_pairs, formula_pairs}
-use Rattle.xlsx_ways.specs.Ways.{HaveSameWay, HaveSameOpening, HaveSameProperties}
+use Rattle.xlsx_ways.specs.Ways.{HaveSameWay, HaveSameOpening, HaveSameProperties, HaveSameCells}
+use Rattle.xlsx_ways.specs.Ways.{HaveSameRows}
 use Rattle.xlsx_ways.proofs.CommentsAlike.{comments_over, comments_cause_over, comments_back}
 use Rattle.xlsx_ways.proofs.ListsAlike.{properties_over, properties_cause_over, properties_back}
 use Rattle.xlsx_ways.proofs.ListsAlike.{tables_had_over, tables_listed_over, each_tables_back}
@@ -26,80 +31,108 @@ use Rattle.xlsx_ways.proofs.ListsAlike.{table_over, table_cause_over, table_data
 use Rattle.xlsx_ways.proofs.ListsAlike.{pivots_had_over, pivots_listed_over, each_pivots_back}
 use Rattle.xlsx_ways.proofs.ListsAlike.{has_cache_over, pivot_cause_over, cache_back}
 use Rattle.xlsx_ways.proofs.OpeningsAlike.{opening_over, soundly_over, opens_at_over}
-use Rattle.xlsx_ways.proofs.OpeningsAlike.{opening_cause_over, opening_of_sheet, opening_back}
+use Rattle.xlsx_ways.proofs.OpeningsAlike.{opening_cause_over, opening_back, other_opening}
+use Rattle.xlsx_ways.proofs.OpeningsAlike.{cells_back, cells_of_sheet}
 use Rattle.xlsx_ways.proofs.PivotsAlike.{cache_over}
-use Rattle.xlsx_ways.proofs.SheetsAlike.{named_over, sheet_cause_over, merges_over}
+use Rattle.xlsx_ways.proofs.SheetsAlike.{cells_over, named_over, sheet_cause_over, merges_over}
 use Rattle.xlsx_ways.proofs.SheetsAlike.{merges_cause_over, links_over, links_cause_over}
 use Rattle.xlsx_ways.proofs.SheetsAlike.{links_back}
+
+-- the values of rows, as they are or as they are shown
+rows_back : (shown : Bool) (one two : List Part) (name : List ℕ) → HaveSameRows shown one two name
+    → HaveSameRows shown two one name
+rows_back false one two name same = cells_back one two name same
+rows_back true one two name same = same_back one two name same
+
+cells_of_rows : (shown : Bool) (one two : List Part) (name : List ℕ)
+    → HaveSameRows shown one two name → HaveSameCells one two name
+cells_of_rows false one two name same = same
+cells_of_rows true one two name same = cells_of_sheet one two name same
+
+values_over : (shown : Bool) (one two : List Part) (name : List ℕ)
+    (values : List ((ℕ × ℕ) × CellValue)) → HaveSameRows shown one two name
+    → HasRowValues shown one name values → HasRowValues shown two name values
+values_over false one two name values same reads =
+    let (styles, own) = cells_over one two name values reads.0 reads.1 same reads.2 in
+    (reads.0, styles, own)
+values_over true one two name values same shows = shown_over one two name values same shows
 
 -- a package that has the same way back
 pub way_back : (command : Command) (one two : List Part) → HaveSameWay command one two
     → HaveSameWay command two one
 unfolding HaveSameWay
-way_back (cells name) one two same = same_back one two name same
-way_back sheets one two same = opening_back one two same
-way_back names one two same = opening_back one two same
-way_back (merges name) one two same = same_back one two name same
-way_back (links name) one two same =
-    let back = same_back one two name same.0 in
-    (back, links_back one two name (opening_of_sheet two one name back) same.1)
-way_back (comments name) one two same =
+way_back (cells form name) one two same = same_back one two name same
+way_back (sheets form) one two same = opening_back one two same
+way_back (names form) one two same = opening_back one two same
+way_back (merges form name) one two same = cells_back one two name same
+way_back (links form name) one two same =
+    let back = cells_back one two name same.0 in
+    (back, links_back one two name back.opening same.1)
+way_back (comments form name) one two same =
     let back = opening_back one two same.0 in (back, comments_back one two name back same.1)
-way_back props one two same = (opening_back one two same.0, properties_back one two same.1)
-way_back (csv name asked) one two same = same_back one two name same
+way_back (props form) one two same = (opening_back one two same.0, properties_back one two same.1)
+way_back (csv name asked) one two same = rows_back asked.shown one two name same
+way_back (row_arrays name asked) one two same = rows_back asked.shown one two name same
 way_back (csv_table name options) one two same = table_data_back one two name same
-way_back tables one two same =
+way_back (tables form) one two same =
     (opening_back one two same.0, each_tables_back one two same.0 same.1)
 way_back (table name) one two same = table_data_back one two name same
-way_back pivots one two same =
+way_back (pivots form) one two same =
     (opening_back one two same.0, each_pivots_back one two same.0 same.1)
 way_back (pivot sheet name) one two same = cache_back one two sheet name same
-way_back (precedents name) one two same = same_back one two name same
-way_back (dependents name position) one two same = same_back one two name same
-way_back (check name) one two same = same_back one two name same
+way_back (precedents name) one two same = cells_back one two name same
+way_back (dependents name position) one two same = cells_back one two name same
+way_back (check name) one two same = cells_back one two name same
 way_back (part name) one two same = opening_back one two same
 way_back upgrade one two same = sym same
-way_back (resave name) one two same = same_back one two name same
-way_back (resave_file name) one two same = same_back one two name same
+way_back (resave name) one two same = cells_back one two name same
+way_back (resave_file name) one two same = cells_back one two name same
 way_back (sample rows) one two same = same_back one two sample_name same
 
 -- its output
 pub output_over : (command : Command) (one two : List Part) (output : List ℕ)
     → HaveSameWay command one two → IsOutput command one output → IsOutput command two output
 unfolding HaveSameWay IsOutput
-output_over (cells name) one two output same prints = record {
+output_over (cells Text name) one two output same prints = record {
   values = prints.values;
   formulas = prints.formulas;
   styles = prints.styles;
   reads = reads_over one two name prints.values prints.formulas prints.styles same prints.reads;
   listed = prints.listed;
 }
-output_over sheets one two output same prints = record {
-  opening = prints.opening;
+output_over (cells Json name) one two output same prints = record {
+  values = prints.values;
+  formulas = prints.formulas;
+  styles = prints.styles;
+  reads = reads_over one two name prints.values prints.formulas prints.styles same prints.reads;
+  listed = prints.listed;
+}
+output_over (sheets form) one two output same prints = record {
+  opening = other_opening one two prints.opening same prints.opens;
   opens = opening_over one two prints.opening same prints.opens;
   listed = prints.listed;
 }
-output_over names one two output same prints = record {
-  opening = prints.opening;
+output_over (names form) one two output same prints = record {
+  opening = other_opening one two prints.opening same prints.opens;
   opens = opening_over one two prints.opening same prints.opens;
   listed = prints.listed;
 }
-output_over (merges name) one two output same prints = record {
+output_over (merges form name) one two output same prints = record {
   areas = prints.areas;
   has = merges_over one two name prints.areas same prints.has;
   listed = prints.listed;
 }
-output_over (links name) one two output same prints = record {
+output_over (links form name) one two output same prints = record {
   links = prints.links;
   has = links_over one two name prints.links same.0 same.1 prints.has;
   listed = prints.listed;
 }
-output_over (comments name) one two output same prints = record {
+output_over (comments form name) one two output same prints = record {
   all = prints.all;
   has = comments_over one two name prints.all same.0 same.1 prints.has;
   listed = prints.listed;
 }
-output_over props one two output same prints = record {
+output_over (props form) one two output same prints = record {
   texts = prints.texts;
   customs = prints.customs;
   opens = soundly_over one two same.0 prints.opens;
@@ -109,9 +142,13 @@ output_over props one two output same prints = record {
 }
 output_over (csv name asked) one two output same prints = record {
   values = prints.values;
-  formulas = prints.formulas;
-  styles = prints.styles;
-  reads = reads_over one two name prints.values prints.formulas prints.styles same prints.reads;
+  reads = values_over asked.shown one two name prints.values same prints.reads;
+  fits = prints.fits;
+  listed = prints.listed;
+}
+output_over (row_arrays name asked) one two output same prints = record {
+  values = prints.values;
+  reads = values_over asked.shown one two name prints.values same prints.reads;
   fits = prints.fits;
   listed = prints.listed;
 }
@@ -121,7 +158,7 @@ output_over (csv_table name options) one two output same prints = record {
   fits = prints.fits;
   listed = prints.listed;
 }
-output_over tables one two output same prints = record {
+output_over (tables form) one two output same prints = record {
   tables = prints.tables;
   has = tables_had_over one two prints.tables same.0 same.1 prints.has;
   listed = prints.listed;
@@ -131,7 +168,7 @@ output_over (table name) one two output same prints = record {
   has = table_over one two name prints.table same prints.has;
   listed = prints.listed;
 }
-output_over pivots one two output same prints = record {
+output_over (pivots form) one two output same prints = record {
   pivots = prints.pivots;
   has = pivots_had_over one two prints.pivots same.0 same.1 prints.has;
   listed = prints.listed;
@@ -148,27 +185,36 @@ output_over (pivot sheet name) one two output same prints =
           ∙ prints.read;
       listed = prints.listed;
     }
-output_over (precedents name) one two output same prints = record {
-  values = prints.values;
-  formulas = prints.formulas;
-  styles = prints.styles;
-  reads = reads_over one two name prints.values prints.formulas prints.styles same prints.reads;
-  listed = prints.listed;
-}
-output_over (dependents name position) one two output same prints = record {
-  values = prints.values;
-  formulas = prints.formulas;
-  styles = prints.styles;
-  reads = reads_over one two name prints.values prints.formulas prints.styles same prints.reads;
-  listed = prints.listed;
-}
-output_over (check name) one two output same prints = record {
-  values = prints.values;
-  formulas = prints.formulas;
-  styles = prints.styles;
-  reads = reads_over one two name prints.values prints.formulas prints.styles same prints.reads;
-  listed = prints.listed;
-}
+output_over (precedents name) one two output same prints =
+    let (styles, reads) = cells_over one two name prints.values prints.formulas prints.styles same
+    prints.reads in
+    record {
+      values = prints.values;
+      formulas = prints.formulas;
+      styles = styles;
+      reads = reads;
+      listed = prints.listed;
+    }
+output_over (dependents name position) one two output same prints =
+    let (styles, reads) = cells_over one two name prints.values prints.formulas prints.styles same
+    prints.reads in
+    record {
+      values = prints.values;
+      formulas = prints.formulas;
+      styles = styles;
+      reads = reads;
+      listed = prints.listed;
+    }
+output_over (check name) one two output same prints =
+    let (styles, reads) = cells_over one two name prints.values prints.formulas prints.styles same
+    prints.reads in
+    record {
+      values = prints.values;
+      formulas = prints.formulas;
+      styles = styles;
+      reads = reads;
+      listed = prints.listed;
+    }
 output_over (part name) one two output same prints = record {
   path = prints.path;
   opens = opens_at_over one two name (Some prints.path) same prints.opens;
@@ -176,24 +222,29 @@ output_over (part name) one two output same prints = record {
 }
 output_over upgrade one two output same prints =
     subst (λ (parts : List Part). IsUpgrade parts output) same prints
-output_over (resave name) one two output same prints = record {
-  values = prints.values;
-  formulas = prints.formulas;
-  styles = prints.styles;
-  reads = reads_over one two name prints.values prints.formulas prints.styles same prints.reads;
-  saved = prints.saved;
-}
-output_over (resave_file name) one two output same prints = record {
-  values = prints.values;
-  formulas = prints.formulas;
-  styles = prints.styles;
-  reads = reads_over one two name (value_pairs prints.values) (formula_pairs prints.formulas)
-      prints.styles same prints.reads;
-  writable = prints.writable;
-  named = prints.named;
-  fits = prints.fits;
-  saved = prints.saved;
-}
+output_over (resave name) one two output same prints =
+    let (styles, reads) = cells_over one two name prints.values prints.formulas prints.styles same
+    prints.reads in
+    record {
+      values = prints.values;
+      formulas = prints.formulas;
+      styles = styles;
+      reads = reads;
+      saved = prints.saved;
+    }
+output_over (resave_file name) one two output same prints =
+    let (styles, reads) = cells_over one two name (value_pairs prints.values)
+    (formula_pairs prints.formulas) prints.styles same prints.reads in
+    record {
+      values = prints.values;
+      formulas = prints.formulas;
+      styles = styles;
+      reads = reads;
+      writable = prints.writable;
+      named = prints.named;
+      fits = prints.fits;
+      saved = prints.saved;
+    }
 output_over (sample rows) one two output same prints = record {
   values = prints.values;
   formulas = prints.formulas;
@@ -221,23 +272,26 @@ pub cause_over : (command : Command) (one two : List Part) (error : XlsxError)
     → HaveSameWay command one two → RefusedWorkbookCause command one error
     → RefusedWorkbookCause command two error
 unfolding HaveSameWay RefusedWorkbookCause
-cause_over (cells name) one two error same cause = sheet_cause_over one two name error same cause
-cause_over sheets one two error same cause = opening_cause_over one two error same cause
-cause_over names one two error same cause = opening_cause_over one two error same cause
-cause_over (merges name) one two error same cause = merges_cause_over one two name error same cause
-cause_over (links name) one two error same cause =
+cause_over (cells form name) one two error same cause =
+    sheet_cause_over one two name error (cells_of_sheet one two name same) cause
+cause_over (sheets form) one two error same cause = opening_cause_over one two error same cause
+cause_over (names form) one two error same cause = opening_cause_over one two error same cause
+cause_over (merges form name) one two error same cause = merges_cause_over one two name error same cause
+cause_over (links form name) one two error same cause =
     links_cause_over one two name error same.0 same.1 cause
-cause_over (comments name) one two error same cause =
+cause_over (comments form name) one two error same cause =
     comments_cause_over one two name error same.0 same.1 cause
-cause_over props one two error same cause =
+cause_over (props form) one two error same cause =
     listed_properties_over one two error same.0 same.1 cause
 cause_over (csv name asked) one two error same cause =
-    sheet_cause_over one two name error same cause
+    sheet_cause_over one two name error (cells_of_rows asked.shown one two name same) cause
+cause_over (row_arrays name asked) one two error same cause =
+    sheet_cause_over one two name error (cells_of_rows asked.shown one two name same) cause
 cause_over (csv_table name options) one two error same cause =
     table_cause_over one two name error same cause
-cause_over tables one two error same cause = tables_listed_over one two error same.0 same.1 cause
+cause_over (tables form) one two error same cause = tables_listed_over one two error same.0 same.1 cause
 cause_over (table name) one two error same cause = table_cause_over one two name error same cause
-cause_over pivots one two error same cause = pivots_listed_over one two error same.0 same.1 cause
+cause_over (pivots form) one two error same cause = pivots_listed_over one two error same.0 same.1 cause
 cause_over (pivot sheet name) one two error same cause =
     pivot_cause_over one two sheet name error same cause
 cause_over (precedents name) one two error same cause =
@@ -253,7 +307,7 @@ cause_over (resave name) one two error same cause = sheet_cause_over one two nam
 cause_over (resave_file name) one two error same cause =
     sheet_cause_over one two name error same cause
 cause_over (sample rows) one two error same cause =
-    sheet_cause_over one two sample_name error same cause
+    sheet_cause_over one two sample_name error (cells_of_sheet one two sample_name same) cause
 
 -- and an area that has too many cells
 pub large_over : (command : Command) (one two : List Part) → HaveSameWay command one two
@@ -261,9 +315,12 @@ pub large_over : (command : Command) (one two : List Part) → HaveSameWay comma
 unfolding HaveSameWay IsTooLarge
 large_over (csv name asked) one two same large = record {
   values = large.values;
-  formulas = large.formulas;
-  styles = large.styles;
-  reads = reads_over one two name large.values large.formulas large.styles same large.reads;
+  reads = values_over asked.shown one two name large.values same large.reads;
+  large = large.large;
+}
+large_over (row_arrays name asked) one two same large = record {
+  values = large.values;
+  reads = values_over asked.shown one two name large.values same large.reads;
   large = large.large;
 }
 large_over (csv_table name options) one two same large = record {
@@ -277,13 +334,16 @@ large_over _ one two same large = absurd large
 unwritable_over : (command : Command) (one two : List Part) → HaveSameWay command one two
     → IsUnwritable command one → IsUnwritable command two
 unfolding HaveSameWay IsUnwritable
-unwritable_over (resave_file name) one two same none = record {
-  values = none.values;
-  formulas = none.formulas;
-  styles = none.styles;
-  reads = reads_over one two name none.values none.formulas none.styles same none.reads;
-  none = none.none;
-}
+unwritable_over (resave_file name) one two same none =
+    let (styles, reads) = cells_over one two name none.values none.formulas none.styles same
+    none.reads in
+    record {
+      values = none.values;
+      formulas = none.formulas;
+      styles = styles;
+      reads = reads;
+      none = none.none;
+    }
 unwritable_over _ one two same none = absurd none
 
 pub output_cause_over : (command : Command) (one two : List Part) (error : ToolError)

@@ -14,7 +14,7 @@ use Rattle.xlsx_core.specs.Agreement.{HaveSamePart}
 use Rattle.xlsx_core.specs.Comments.{named_comments_ask}
 use Rattle.xlsx_commands.specs.SheetLists.{HasComments, CommentsPathCause, NamedCommentsCause}
 use Rattle.xlsx_ways.specs.Ways.{HaveSameOpening, HaveSameCommentParts, HaveSameComments}
-use Rattle.xlsx_ways.proofs.OpeningsAlike.{opening_over, opens_at_over}
+use Rattle.xlsx_ways.proofs.OpeningsAlike.{opening_over, opens_at_over, other_opening}
 use Rattle.xlsx_ways.proofs.RelatedAlike.{each_said_over, each_cause_over, related_back}
 use Rattle.xlsx_ways.proofs.SheetsAlike.{named_over}
 
@@ -75,4 +75,5 @@ pub comments_back : (one two : List Part) (name : List ℕ) → HaveSameOpening 
 comments_back one two name back same =
     λ (opening : Opening) (path : List ℕ) opens named.
     related_back (HaveSamePart one two) (HaveSamePart two one) comments_type path one two
-    (λ own is. sym is) (same opening path (opening_over two one opening back opens) named)
+    (λ own is. sym is) (same (other_opening two one opening back opens) path
+    (opening_over two one opening back opens) named)

@@ -9,3 +9,4 @@ pub mod ListsAlike
 pub mod CommandsAlike
 pub mod CommentsAlike
 pub mod PlacesAlike
+pub mod ThemesAlike

@@ -32,7 +32,7 @@ use Rattle.xlsx_open.specs.Opening.{Opening, OpensAs}
 use Rattle.xlsx_cells.specs.CellsReader.{values_alone}
 use Rattle.xlsx_cells.specs.Sheet.{with_texts}
 use Rattle.xlsx_core.specs.Agreement.{HaveSamePart}
-use Rattle.xlsx_core.specs.SheetReading.{events_at, opened_grounds, path_named}
+use Rattle.xlsx_core.specs.SheetReading.{PlacedCause, events_at, opened_grounds, path_named}
 use Rattle.xlsx_core.specs.TableData.{ReadsValuesIn, IsRangeIn}
 use Rattle.xlsx_core.specs.Worksheets.{RangePartCause, AnswersValues}
 use Rattle.xlsx_core.proofs.Agreeing.{events_over}
@@ -45,6 +45,7 @@ use Rattle.xlsx_ways.specs.Ways.{OfEachSheet, HaveSameOpening, HaveSamePropertie
 use Rattle.xlsx_ways.specs.Ways.{HaveSameTables, HaveSamePivots}
 use Rattle.xlsx_ways.specs.Ways.{HaveSameTableData, HaveSameCache}
 use Rattle.xlsx_ways.proofs.OpeningsAlike.{opening_over, opening_cause_over, opening_back}
+use Rattle.xlsx_ways.proofs.OpeningsAlike.{grounds_over, other_opening}
 use Rattle.xlsx_ways.proofs.PartsAlike.{there_over}
 use Rattle.xlsx_ways.proofs.PivotsAlike.{all_pivots_over, all_pivots_cause_over}
 use Rattle.xlsx_ways.proofs.PivotsAlike.{cache_cause_over, pivots_back}
@@ -59,7 +60,8 @@ sheets_back same back one two opening over each =
     λ (own : Opening) opens.
     each_over (λ (sheet : SheetPath). same sheet.path) (λ (sheet : SheetPath). back sheet.path)
     (sheets_opened own.sheets) (λ (sheet : SheetPath) is. over sheet.path is)
-    (each own (opening_over two one own (opening_back one two opening) opens))
+    (each (other_opening two one own (opening_back one two opening) opens)
+    (opening_over two one own (opening_back one two opening) opens))
 
 listed_over : (cause : List Part → List SheetPath → XlsxError → Type 0) (one two : List Part)
     (error : XlsxError) → HaveSameOpening one two
@@ -70,7 +72,7 @@ listed_over cause one two error same over (inl opening) =
     inl (opening_cause_over one two error same opening)
 listed_over cause one two error same over (inr has) =
     inr (record {
-      opening = has.opening;
+      opening = other_opening one two has.opening same has.opens;
       opens = opening_over one two has.opening same has.opens;
       cause = over has.opening has.opens has.cause;
     })
@@ -135,7 +137,7 @@ abbrev pub tables_had_over : (one two : List Part) (tables : List SheetTable)
     → HaveSameOpening one two
     → OfEachSheet (HaveSameTables one two) one → HasTables one tables → HasTables two tables
 tables_had_over one two tables same each has = record {
-  opening = has.opening;
+  opening = other_opening one two has.opening same has.opens;
   opens = opening_over one two has.opening same has.opens;
   taken = sym (all_tables_over one two (sheets_opened has.opening.sheets)
       (each has.opening has.opens)) ∙ has.taken;
@@ -192,9 +194,12 @@ table_over one two name table same has = record {
   own = has.own;
   has = named_table_over one two name has.own same has.has;
   is = has.is;
-  reads = used_over (opened_grounds has.has.has.opening) FirstNonEmptyRow has.own.table.area
+  reads = subst (λ (own : Grounds). ReadsValuesIn own FirstNonEmptyRow has.own.table.area
+      (path_named has.own.sheet has.has.has.opening.sheets) two (table_data table))
+      (grounds_over one two has.has.has.opening same.opening has.has.has.opens)
+      (used_over (opened_grounds has.has.has.opening) FirstNonEmptyRow has.own.table.area
       (path_named has.own.sheet has.has.has.opening.sheets) one two (table_data table)
-      (table_events one two name has.own same has.has) has.reads;
+      (table_events one two name has.own same has.has) has.reads);
 }
 
 no_table_over : (one two : List Part) (name : List ℕ) → HaveSameTableData one two name
@@ -212,9 +217,13 @@ table_cause_of one two name error same has = record {
   own = has.own;
   has = named_table_over one two name has.own same has.has;
   area = has.area;
-  cause = placed_over has.own.sheet (path_named has.own.sheet has.has.has.opening.sheets)
+  cause = subst (λ (own : Grounds). PlacedCause has.own.sheet
+      (path_named has.own.sheet has.has.has.opening.sheets) (RangePartCause values_alone own) two
+      error)
+      (grounds_over one two has.has.has.opening same.opening has.has.has.opens)
+      (placed_over has.own.sheet (path_named has.own.sheet has.has.has.opening.sheets)
       (RangePartCause values_alone (opened_grounds has.has.has.opening)) one two error
-      (table_events one two name has.own same has.has) has.cause;
+      (table_events one two name has.own same has.has) has.cause);
 }
 
 either_table_over : (one two : List Part) (name : List ℕ) (error : XlsxError)
@@ -242,7 +251,7 @@ table_data_back one two name same =
       opening = opening;
       tables = tables;
       sheet = λ (own : SheetTable) (own_opening : Opening) (path : List ℕ) has opens named.
-          sym (same.sheet own own_opening path
+          sym (same.sheet own (other_opening two one own_opening opening opens) path
           (record {
             tables = has.tables;
             has = tables_had_over two one has.tables opening tables has.has;
@@ -258,7 +267,7 @@ abbrev pub pivots_had_over : (one two : List Part) (pivots : List PivotSaid)
     → HaveSameOpening one two
     → OfEachSheet (HaveSamePivots one two) one → HasPivots one pivots → HasPivots two pivots
 pivots_had_over one two pivots same each has = record {
-  opening = has.opening;
+  opening = other_opening one two has.opening same has.opens;
   opens = opening_over one two has.opening same has.opens;
   found = sym (all_pivots_over one two (folder_of has.opens.path)
       (sheets_opened has.opening.sheets) (each has.opening has.opens)) ∙ has.found;

@@ -1,18 +1,18 @@
 -- The parts of sheets in packages that have the same parts which tell where these are.
 use Rattle.std.proofs.Common.{◌≡◌, ℕ, List, Option, Some, None, sym, ◌∙◌, ap, subst, inl, inr, Ok}
 use Rattle.std.proofs.Common.{codes}
-use Rattle.std.specs.Prelude.{◌⊎◌, IsSomeAnd, MatchOption}
+use Rattle.std.specs.Prelude.{◌⊎◌, IsSomeAnd}
 use Rattle.part_events.specs.Event.{Event}
 use Rattle.part_events.specs.Package.{Part, part_of}
 use Rattle.xlsx_error.specs.declared.error.XlsxError.{XlsxError}
 use Rattle.xlsx_error.specs.declared.error.XlsxError.TheVariants.{WorksheetNotFound}
 use Rattle.xlsx_sections.specs.PartSection.{closed_section_of}
 use Rattle.xlsx_relationships.specs.Paths.{folder_of}
-use Rattle.xlsx_relationships.specs.Relationships.{Related, path_in, related_in}
+use Rattle.xlsx_relationships.specs.Relationships.{path_in, related_in}
 use Rattle.xlsx_workbook.specs.Paths.{workbook_part, relationships_part}
 use Rattle.xlsx_open.specs.Opening.{Opening, OpensAs, OpensSoundly, OpeningCause, HasNothing}
 use Rattle.xlsx_open.specs.Opening.{IsOpening}
-use Rattle.xlsx_open.specs.SharedParts.{SharedSaid, HasShared}
+use Rattle.xlsx_open.specs.SharedParts.{HasShared}
 use Rattle.xlsx_core.specs.SheetReading.{path_named}
 use Rattle.xlsx_core.proofs.Agreeing.{section_over, optional_over, path_over}
 use Rattle.xlsx_core.proofs.SheetLaws.{are_alike}
@@ -26,6 +26,7 @@ use Rattle.xlsx_commands.specs.declared.error.ToolError.TheVariants.{Workbook, B
 use Rattle.xlsx_commands.specs.declared.error.ToolError.TheVariants.{Unwritable}
 use Rattle.xlsx_commands.proofs.NamedSheets.{OpeningsNever}
 use Rattle.xlsx_ways.specs.Ways.{HaveSamePlaces}
+use Rattle.xlsx_ways.proofs.OpeningsAlike.{sharing, with_shared}
 
 one_path : (section : Option (List Event)) (first second : List ℕ)
     → IsSomeAnd section (λ inside. path_in inside ≡ Ok (Some first))
@@ -33,33 +34,6 @@ one_path : (section : Option (List Event)) (first second : List ℕ)
 one_path None first second one two = absurd one
 one_path (Some inside) first second one two =
     let both : Ok (Some first) ≡ Ok (Some second) = sym one ∙ two in cc
-
--- an opening that shares what another does
-abbrev sharing : Opening → SharedSaid → Opening
-sharing own shared = record {
-  sheets = own.sheets;
-  names = own.names;
-  shared = shared;
-  is_1904 = own.is_1904;
-}
-
-with_shared : (own section : Option (List Event)) (folder : List ℕ)
-    (related : List ℕ → Option Related) (opening : Opening) (shared : SharedSaid)
-    → MatchOption own (HasNothing opening)
-    (λ _. IsSomeAnd section (λ inside. IsOpening folder related inside opening))
-    → MatchOption own (HasNothing (sharing opening shared))
-    (λ _. IsSomeAnd section (λ inside. IsOpening folder related inside (sharing opening shared)))
-with_shared None section folder related opening shared has = record {
-  sheets = has.sheets;
-  names = has.names;
-  epoch = has.epoch;
-}
-with_shared (Some events) None folder related opening shared has = has
-with_shared (Some events) (Some inside) folder related opening shared has = record {
-  sheets = has.sheets;
-  names = has.names;
-  epoch = has.epoch;
-}
 
 -- the workbook of the one opens in the other, with what the other's sheets share
 opens_sharing : (one two : List Part) (first second : Opening) → HaveSamePlaces one two

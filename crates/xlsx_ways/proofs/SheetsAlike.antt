@@ -1,8 +1,11 @@
 -- What is had of a sheet of packages that have the same parts where it is read from.
 use Rattle.std.proofs.Common.{◌≡◌, ℕ, List, [], Option, Some, None, sym, ◌∙◌, ap, subst, inl, inr}
-use Rattle.std.proofs.Common.{codes, refl}
+use Rattle.std.proofs.Common.{codes, map, refl}
 use Rattle.std.specs.Prelude.{◌⊎◌, IsSomeAnd, option_and_then}
+use Rattle.cell_data.specs.CellValue.{CellValue}
+use Rattle.cell_refs.specs.Positions.{last_of_each}
 use Rattle.cell_refs.specs.declared.dimensions.Dimensions.{Dimensions}
+use Rattle.cell_styles.specs.StyleMap.{StyleMap, styles_of}
 use Rattle.part_events.specs.Event.{Event}
 use Rattle.part_events.specs.Package.{Part, part_of}
 use Rattle.xlsx_error.specs.declared.error.XlsxError.{XlsxError}
@@ -17,22 +20,26 @@ use Rattle.xlsx_areas.specs.Hyperlinks.{Link, links_of, links_at}
 use Rattle.xlsx_areas.specs.LinkErrors.{LinksCause, SheetLinksCause}
 use Rattle.xlsx_areas.specs.MergeErrors.{MergesCause}
 use Rattle.xlsx_areas.specs.MergedCells.{merges_of}
+use Rattle.xlsx_values.specs.Value.{Grounds}
+use Rattle.xlsx_cells.specs.Sheet.{used_values, with_texts}
+use Rattle.xlsx_cells.specs.SheetPart.{IsSoundSheet, SheetPartCause}
 use Rattle.xlsx_open.specs.Opening.{Opening, OpeningCause}
-use Rattle.xlsx_core.specs.Agreement.{HaveSamePart, HaveSameSheet}
+use Rattle.xlsx_core.specs.Agreement.{HaveSamePart}
 use Rattle.xlsx_core.specs.Links.{PlacedLinksCause}
 use Rattle.xlsx_core.specs.SheetReading.{PlacedCause, SheetCause, HasPartCause, LacksSheet}
-use Rattle.xlsx_core.specs.SheetReading.{events_at, path_named}
+use Rattle.xlsx_core.specs.SheetReading.{ReadsAs, all_wanted, events_at, path_named}
 use Rattle.xlsx_core.proofs.Agreeing.{events_over}
 use Rattle.xlsx_commands.specs.SheetLists.{OpensAt, PathCause, HasNamedCause, NamedCause, HasMerges}
 use Rattle.xlsx_commands.specs.SheetLists.{HasLinks, MergesPathCause}
-use Rattle.xlsx_ways.specs.Ways.{HaveSameOpening, HaveSameLinks}
-use Rattle.xlsx_ways.proofs.OpeningsAlike.{opening_over, opening_cause_over, opening_of_sheet}
-use Rattle.xlsx_ways.proofs.OpeningsAlike.{opens_at_over}
+use Rattle.xlsx_ways.specs.Ways.{HaveSameCells, HaveSameOpening, HaveSameLinks}
+use Rattle.xlsx_ways.proofs.OpeningsAlike.{opening_over, opening_cause_over, opens_at_over}
+use Rattle.xlsx_ways.proofs.OpeningsAlike.{grounds_over, other_opening, others_share}
 use Rattle.xlsx_ways.proofs.SaidAlike.{then_over}
+use Rattle.xlsx_ways.proofs.ThemesAlike.{recolored, recolored_said, style_font}
 
 -- the part of the sheet
 pub events_same : (one two : List Part) (name : List ℕ) (path : Option (List ℕ))
-    → HaveSameSheet one two name → OpensAt one name path → events_at path one ≡ events_at path two
+    → HaveSameCells one two name → OpensAt one name path → events_at path one ≡ events_at path two
 events_same one two name path same at =
     events_over one two path
     (λ (own : List ℕ) is. same.sheet at.opening own at.opens (at.named ∙ is))
@@ -76,55 +83,89 @@ named_over cause one two name error same over has =
 
 -- ---- the cells
 
-lacks_sheet_over : (one two : List Part) (name : List ℕ) → HaveSameSheet one two name
+lacks_sheet_over : (one two : List Part) (name : List ℕ) → HaveSameCells one two name
     → LacksSheet one name → LacksSheet two name
 lacks_sheet_over one two name same lacks = record {
-  opening = lacks.opening;
-  opens = opening_over one two lacks.opening (opening_of_sheet one two name same) lacks.opens;
+  opening = other_opening one two lacks.opening same.opening lacks.opens;
+  opens = opening_over one two lacks.opening same.opening lacks.opens;
   none = sym (events_over one two (path_named name lacks.opening.sheets)
       (λ (own : List ℕ) is. same.sheet lacks.opening own lacks.opens is)) ∙ lacks.none;
 }
 
 part_cause_of : (one two : List Part) (name : List ℕ) (error : XlsxError)
-    → HaveSameSheet one two name → HasPartCause one name error → HasPartCause two name error
+    → HaveSameCells one two name → HasPartCause one name error → HasPartCause two name error
 part_cause_of one two name error same has = record {
-  opening = has.opening;
+  opening = other_opening one two has.opening same.opening has.opens;
   events = has.events;
-  opens = opening_over one two has.opening (opening_of_sheet one two name same) has.opens;
+  opens = opening_over one two has.opening same.opening has.opens;
   found = sym (events_over one two (path_named name has.opening.sheets)
       (λ (own : List ℕ) is. same.sheet has.opening own has.opens is)) ∙ has.found;
-  cause = has.cause;
+  cause = subst (λ (own : Grounds). SheetPartCause all_wanted own has.events error)
+      (grounds_over one two has.opening same.opening has.opens) has.cause;
 }
 
 either_sheet_over : (one two : List Part) (name : List ℕ) (error : XlsxError)
-    → HaveSameSheet one two name → OpeningCause one error ⊎ HasPartCause one name error
+    → HaveSameCells one two name → OpeningCause one error ⊎ HasPartCause one name error
     → OpeningCause two error ⊎ HasPartCause two name error
 either_sheet_over one two name error same (inl opening) =
-    inl (opening_cause_over one two error (opening_of_sheet one two name same) opening)
+    inl (opening_cause_over one two error same.opening opening)
 either_sheet_over one two name error same (inr has) =
     inr (part_cause_of one two name error same has)
 
 pub sheet_cause_over : (one two : List Part) (name : List ℕ) (error : XlsxError)
-    → HaveSameSheet one two name → SheetCause one name error → SheetCause two name error
+    → HaveSameCells one two name → SheetCause one name error → SheetCause two name error
 sheet_cause_over one two name (WorksheetNotFound asked) same (is, lacks) =
     (is, lacks_sheet_over one two name same lacks)
 sheet_cause_over one two name error same cause = either_sheet_over one two name error same cause
 
+-- its values and formulas are read, and its styles by the other's theme
+pub cells_over : (one two : List Part) (name : List ℕ) (values : List ((ℕ × ℕ) × CellValue))
+    (formulas : List ((ℕ × ℕ) × List ℕ)) (styles : StyleMap) → HaveSameCells one two name
+    → ReadsAs one name values formulas styles
+    → (again : StyleMap) × ReadsAs two name values formulas again
+cells_over one two name values formulas styles same reads =
+    let shares = others_share one two reads.opening same.opening reads.opens in
+    let palette = recolored reads.palette shares.shared.styles in
+    let holds = reads.holds in (
+      styles_of palette holds.ids,
+      record {
+        opening = other_opening one two reads.opening same.opening reads.opens;
+        palette = palette;
+        events = reads.events;
+        opens = opening_over one two reads.opening same.opening reads.opens;
+        named = recolored_said reads.palette shares.shared.styles
+            (ap (map style_font) reads.named ∙ shares.fonts);
+        found = sym (events_over one two (path_named name reads.opening.sheets)
+            (λ (own : List ℕ) is. same.sheet reads.opening own reads.opens is)) ∙ reads.found;
+        holds = record {
+          all = holds.all;
+          written = holds.written;
+          ids = holds.ids;
+          sheet = subst (λ (own : Grounds). IsSoundSheet own reads.events holds.all holds.written
+              holds.ids) (grounds_over one two reads.opening same.opening reads.opens) holds.sheet;
+          valued = holds.valued ∙ ap (λ (own : List (List ℕ)).
+              last_of_each (with_texts own (used_values holds.all))) shares.strings;
+          listed = holds.listed;
+          styled = refl;
+        };
+      },
+    )
+
 -- ---- merged cells
 
 pub merges_over : (one two : List Part) (name : List ℕ) (areas : List Dimensions)
-    → HaveSameSheet one two name → HasMerges one name areas → HasMerges two name areas
+    → HaveSameCells one two name → HasMerges one name areas → HasMerges two name areas
 merges_over one two name areas same (path, at, taken) = (
   path,
-  opens_at_over one two name path (opening_of_sheet one two name same) at,
+  opens_at_over one two name path same.opening at,
   ap (option_and_then merges_of) (sym (events_same one two name path same at)) ∙ taken,
 )
 
 pub merges_cause_over : (one two : List Part) (name : List ℕ) (error : XlsxError)
-    → HaveSameSheet one two name → NamedCause (MergesPathCause name) one name error
+    → HaveSameCells one two name → NamedCause (MergesPathCause name) one name error
     → NamedCause (MergesPathCause name) two name error
 merges_cause_over one two name error same cause =
-    named_over (MergesPathCause name) one two name error (opening_of_sheet one two name same)
+    named_over (MergesPathCause name) one two name error same.opening
     (λ path at has. placed_over name path MergesCause one two error
     (events_same one two name path same at) has) cause
 
@@ -149,11 +190,11 @@ links_at_over one two path own beside =
     (targets_over one two path beside)
 
 pub links_over : (one two : List Part) (name : List ℕ) (links : List Link)
-    → HaveSameSheet one two name → HaveSameLinks one two name → HasLinks one name links
+    → HaveSameCells one two name → HaveSameLinks one two name → HasLinks one name links
     → HasLinks two name links
 links_over one two name links same beside (path, at, taken) = (
   path,
-  opens_at_over one two name path (opening_of_sheet one two name same) at,
+  opens_at_over one two name path same.opening at,
   sym (then_over path (links_at one) (links_at two)
       (λ (own : List ℕ) is. links_at_over one two own
       (same.sheet at.opening own at.opens (at.named ∙ is))
@@ -202,11 +243,11 @@ links_placed_over name path one two error same beside has =
     (λ own. some_links_over one two path own error beside) has)
 
 pub links_cause_over : (one two : List Part) (name : List ℕ) (error : XlsxError)
-    → HaveSameSheet one two name → HaveSameLinks one two name
+    → HaveSameCells one two name → HaveSameLinks one two name
     → NamedCause (PlacedLinksCause name) one name error
     → NamedCause (PlacedLinksCause name) two name error
 links_cause_over one two name error same beside cause =
-    named_over (PlacedLinksCause name) one two name error (opening_of_sheet one two name same)
+    named_over (PlacedLinksCause name) one two name error same.opening
     (λ path at has. links_placed_over name path one two error
     (events_same one two name path same at)
     (λ (own : List ℕ) is. beside at.opening own at.opens (at.named ∙ is)) has) cause
@@ -215,4 +256,5 @@ pub links_back : (one two : List Part) (name : List ℕ) → HaveSameOpening two
     → HaveSameLinks one two name → HaveSameLinks two one name
 links_back one two name back same =
     λ (opening : Opening) (path : List ℕ) opens named.
-    sym (same opening path (opening_over two one opening back opens) named)
+    sym (same (other_opening two one opening back opens) path
+    (opening_over two one opening back opens) named)

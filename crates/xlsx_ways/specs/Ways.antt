@@ -1,23 +1,24 @@
 -- Where each command looks in a package, and packages that have the same parts there.
-use Rattle.std.specs.Prelude.{◌≡◌, ⊤, ℕ, List, [], ◌∷◌, Some, codes}
+use Rattle.std.specs.Prelude.{◌≡◌, ⊤, ℕ, List, [], ◌∷◌, Some, codes, Bool, true, false}
 use Rattle.part_events.specs.Package.{Part}
 use Rattle.xlsx_parts.specs.SheetPaths.{SheetPath}
 use Rattle.xlsx_properties.specs.Parts.{core_part, program_part, custom_part}
 use Rattle.xlsx_relationships.specs.Paths.{relationships_beside}
 use Rattle.xlsx_relationships.specs.RelatedParts.{related_parts}
-use Rattle.xlsx_workbook.specs.Paths.{workbook_part, relationships_part}
+use Rattle.xlsx_workbook.specs.Paths.{workbook_part, relationships_part, strings_part}
+use Rattle.xlsx_workbook.specs.Paths.{styles_part}
 use Rattle.xlsx_comments.specs.Comments.{comments_type}
 use Rattle.xlsx_tables.specs.Tables.{table_type}
 use Rattle.xlsx_pivots.specs.Pivots.{pivot_type}
 use Rattle.xlsx_pivots.specs.Targets.{definitions_at}
 use Rattle.xlsx_open.specs.Opening.{Opening, OpensAs, HasPath}
-use Rattle.xlsx_core.specs.Agreement.{HaveSamePart, HaveSameBook, HaveSameSheet}
+use Rattle.xlsx_core.specs.Agreement.{HaveSamePart, HaveSameSheet}
 use Rattle.xlsx_core.specs.SheetReading.{path_named}
 use Rattle.xlsx_commands.specs.CacheRows.{HasCache}
 use Rattle.xlsx_commands.specs.Command.{Command, cells, sheets, names, merges, links, props, csv}
 use Rattle.xlsx_commands.specs.Command.{csv_table, tables, table, pivots, pivot, precedents}
 use Rattle.xlsx_commands.specs.Command.{dependents, check, part, upgrade, resave, sample, comments}
-use Rattle.xlsx_commands.specs.Command.{resave_file}
+use Rattle.xlsx_commands.specs.Command.{resave_file, row_arrays}
 use Rattle.xlsx_commands.specs.SampleLines.{sample_name}
 use Rattle.xlsx_commands.specs.SheetsOpened.{sheets_opened}
 use Rattle.xlsx_commands.specs.TableLists.{HasNamedTable}
@@ -28,11 +29,26 @@ abbrev pub Each : {X : Type 0} → (X → Type 0) → List X → Type 0
 Each fact [] = ⊤
 Each fact (x ∷ xs) = fact x × Each fact xs
 
--- two packages have the same parts from which the workbook is opened: the relationships of the
--- package, and the book to which these lead
+-- two packages have the same workbook at this path, with the same relationships, shared strings and
+-- styles, whatever their themes are
+pub record HaveSameContents (one two : List Part) (path : List ℕ) : Type 0 where
+  pub relationships : HaveSamePart one two (relationships_part path)
+  pub workbook : HaveSamePart one two (workbook_part path)
+  pub strings : HaveSamePart one two (strings_part path)
+  pub styles : HaveSamePart one two (styles_part path)
+
+-- they have the same parts from which the workbook is opened: the relationships of the package, and
+-- the book to which these lead; a theme gives styles their colors alone, and never refuses
 pub record HaveSameOpening (one two : List Part) : Type 0 where
   pub root : HaveSamePart one two (codes "_rels/.rels")
-  pub book : (path : List ℕ) → HasPath one path → HaveSameBook one two path
+  pub book : (path : List ℕ) → HasPath one path → HaveSameContents one two path
+
+-- and the same part of the sheet of this name, whose values and formulas are so the same
+pub record HaveSameCells (one two : List Part) (name : List ℕ) : Type 0 where
+  pub opening : HaveSameOpening one two
+  pub sheet :
+      (opening : Opening) (path : List ℕ) → OpensAs one opening →
+      path_named name opening.sheets ≡ Some path → HaveSamePart one two path
 
 -- they have the same parts that tell where the parts of sheets are
 pub record HaveSamePlaces (one two : List Part) : Type 0 where
@@ -116,27 +132,35 @@ pub record HaveSameCache (one two : List Part) (sheet name : List ℕ) : Type 0 
       (definitions records : List ℕ) → HasCache one sheet name definitions records →
       HaveSamePart one two definitions × HaveSamePart one two records
 
+-- they have the same parts where the values of the sheet of this name are read, or shown, from
+abbrev pub HaveSameRows : Bool → List Part → List Part → List ℕ → Type 0
+HaveSameRows false one two name = HaveSameCells one two name
+HaveSameRows true one two name = HaveSameSheet one two name
+
 -- Two packages have the same parts where a command looks. Other parts, and the order of all, may
--- differ.
+-- differ, and so may the theme but where the colors of styles are told.
 unfoldable pub HaveSameWay : Command → List Part → List Part → Type 0
-HaveSameWay (cells name) one two = HaveSameSheet one two name
-HaveSameWay sheets one two = HaveSameOpening one two
-HaveSameWay names one two = HaveSameOpening one two
-HaveSameWay (merges name) one two = HaveSameSheet one two name
-HaveSameWay (links name) one two = HaveSameSheet one two name × HaveSameLinks one two name
-HaveSameWay (comments name) one two = HaveSameOpening one two × HaveSameComments one two name
-HaveSameWay props one two = HaveSameOpening one two × HaveSameProperties one two
-HaveSameWay (csv name asked) one two = HaveSameSheet one two name
+HaveSameWay (cells form name) one two = HaveSameSheet one two name
+HaveSameWay (sheets form) one two = HaveSameOpening one two
+HaveSameWay (names form) one two = HaveSameOpening one two
+HaveSameWay (merges form name) one two = HaveSameCells one two name
+HaveSameWay (links form name) one two = HaveSameCells one two name × HaveSameLinks one two name
+HaveSameWay (comments form name) one two = HaveSameOpening one two × HaveSameComments one two name
+HaveSameWay (props form) one two = HaveSameOpening one two × HaveSameProperties one two
+HaveSameWay (csv name asked) one two = HaveSameRows asked.shown one two name
 HaveSameWay (csv_table name options) one two = HaveSameTableData one two name
-HaveSameWay tables one two = HaveSameOpening one two × OfEachSheet (HaveSameTables one two) one
+HaveSameWay (row_arrays name asked) one two = HaveSameRows asked.shown one two name
+HaveSameWay (tables form) one two =
+    HaveSameOpening one two × OfEachSheet (HaveSameTables one two) one
 HaveSameWay (table name) one two = HaveSameTableData one two name
-HaveSameWay pivots one two = HaveSameOpening one two × OfEachSheet (HaveSamePivots one two) one
+HaveSameWay (pivots form) one two =
+    HaveSameOpening one two × OfEachSheet (HaveSamePivots one two) one
 HaveSameWay (pivot sheet name) one two = HaveSameCache one two sheet name
-HaveSameWay (precedents name) one two = HaveSameSheet one two name
-HaveSameWay (dependents name position) one two = HaveSameSheet one two name
-HaveSameWay (check name) one two = HaveSameSheet one two name
+HaveSameWay (precedents name) one two = HaveSameCells one two name
+HaveSameWay (dependents name position) one two = HaveSameCells one two name
+HaveSameWay (check name) one two = HaveSameCells one two name
 HaveSameWay (part name) one two = HaveSameOpening one two
 HaveSameWay upgrade one two = one ≡ two
-HaveSameWay (resave name) one two = HaveSameSheet one two name
-HaveSameWay (resave_file name) one two = HaveSameSheet one two name
+HaveSameWay (resave name) one two = HaveSameCells one two name
+HaveSameWay (resave_file name) one two = HaveSameCells one two name
 HaveSameWay (sample rows) one two = HaveSameSheet one two sample_name

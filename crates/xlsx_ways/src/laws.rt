@@ -1,4 +1,4 @@
-ghost use Rattle.std.specs.Prelude.{ℕ, List};
+ghost use Rattle.std.specs.Prelude.{◌≡◌, ℕ, List};
 ghost use Rattle.part_events.specs.Package.{Part};
 ghost use Rattle.xlsx_open.specs.Opening.{OpensSoundly};
 ghost use Rattle.xlsx_commands.specs.Command.{Command, part};
@@ -6,9 +6,10 @@ ghost use Rattle.xlsx_commands.specs.Outputs.{IsOutput, OutputCause};
 ghost use Rattle.xlsx_commands.specs.declared.error.ToolError.{ToolError};
 ghost use Rattle.xlsx_ways.specs.Ways.{HaveSameWay, HaveSamePlaces};
 
+use xlsx_commands::commands_have_one_output;
 use xlsx_open::openings_have_no_cause_of_a_refusal;
 
-/// Two packages that have the same parts where a command looks have the same outputs for it and the
+/// Two packages that have the same parts where a command looks have the same output for it, or the
 /// same causes of a refusal, those by an area with too many cells among them.
 pub fn commands_go_by_their_ways()
     ensures back { (command : Command) (one two : List Part) →
@@ -16,10 +17,15 @@ pub fn commands_go_by_their_ways()
     ensures outputs { (command : Command) (one two : List Part) (output : List ℕ) →
         HaveSameWay command one two → IsOutput command one output →
         IsOutput command two output }
+    ensures same { (command : Command) (one two : List Part) (output other : List ℕ) →
+        HaveSameWay command one two → IsOutput command one output →
+        IsOutput command two other → output ≡ other }
     ensures causes { (command : Command) (one two : List Part) (error : ToolError) →
         HaveSameWay command one two → OutputCause command one error →
         OutputCause command two error }
-{}
+{
+    commands_have_one_output();
+}
 
 /// Two packages that both open, and have the same parts that tell where the parts of sheets are,
 /// name the same part of each sheet, whatever their strings, styles, theme and sheets are, and lack

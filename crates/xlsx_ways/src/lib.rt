@@ -4,11 +4,15 @@
 //! which a command looks; other parts, and the order of all, may differ. So whoever feeds the
 //! program may leave out what stands in no way, as `./xlsx` leaves out other worksheets' parts.
 //!
+//! The theme is on the way where styles are shown alone: by another theme a style sheet says the
+//! same but for colors, or is refused in one way (`ThemesAlike`).
+//!
 //! Every definition goes by `part_of` alone, so each row is a rewriting by equal parts. Its lemma
 //! files, from below: `SaidAlike` (what is said of several parts), `PartsAlike` (relationships, and
-//! why a part isn't read), `TablesAlike` and `PivotsAlike` (what sheets lead to), `OpeningsAlike`,
-//! `SheetsAlike` (what is had of a sheet), `ListsAlike` (of all sheets), `CommandsAlike` (a row for
-//! each command) and `PlacesAlike` (the parts of sheets, by the places alone).
+//! why a part isn't read), `TablesAlike` and `PivotsAlike` (what sheets lead to), `ThemesAlike`,
+//! `OpeningsAlike`, `SheetsAlike` (what is had of a sheet), `ListsAlike` (of all sheets),
+//! `CommandsAlike` (a row for each command) and `PlacesAlike` (the parts of sheets, by the places
+//! alone).
 #![tactic(auto)]
 
 mod laws;

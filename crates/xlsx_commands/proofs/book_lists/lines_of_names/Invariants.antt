@@ -5,5 +5,5 @@ use Rattle.xlsx_commands.proofs.book_lists.lines_of_names.Given as goal
 
 abbrev pub invariant-loop-name : goal.invariant-loop-name
 invariant-loop-name l =
-    string_bytes l.out ++ name_lines (map pair_of (drop l.name-index l.names))
-    ≡ name_lines (map pair_of l.names)
+    string_bytes l.out ++ name_lines l.form (map pair_of (drop l.name-index l.names))
+    ≡ name_lines l.form (map pair_of l.names)

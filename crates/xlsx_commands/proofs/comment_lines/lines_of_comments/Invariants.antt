@@ -5,5 +5,5 @@ use Rattle.xlsx_commands.proofs.comment_lines.lines_of_comments.Given as goal
 
 abbrev pub invariant-loop-part : goal.invariant-loop-part
 invariant-loop-part l =
-    string_bytes l.out ++ comment_lines (map comments_kept (drop l.part-index l.all))
-    ≡ comment_lines (map comments_kept l.all)
+    string_bytes l.out ++ comment_lines l.form (map comments_kept (drop l.part-index l.all))
+    ≡ comment_lines l.form (map comments_kept l.all)

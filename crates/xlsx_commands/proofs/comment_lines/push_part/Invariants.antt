@@ -7,6 +7,6 @@ use Rattle.xlsx_commands.proofs.comment_lines.push_part.Given as goal
 abbrev pub invariant-loop-comment : goal.invariant-loop-comment
 invariant-loop-comment l =
     string_bytes l.out
-    ++ flat_map (line_of_comment (comments_kept l.part))
+    ++ flat_map (line_of_comment l.form (comments_kept l.part))
     (map comment_kept (drop l.comment-index l.comments))
-    ≡ string_bytes l.fn.out ++ part_lines (comments_kept l.part)
+    ≡ string_bytes l.fn.out ++ part_lines l.form (comments_kept l.part)

@@ -5,5 +5,5 @@ use Rattle.xlsx_commands.proofs.link_lines.lines_of_links.Given as goal
 
 abbrev pub invariant-loop-link : goal.invariant-loop-link
 invariant-loop-link l =
-    string_bytes l.out ++ link_lines (map link_said (drop l.link-index l.links))
-    ≡ link_lines (map link_said l.links)
+    string_bytes l.out ++ link_lines l.form (map link_said (drop l.link-index l.links))
+    ≡ link_lines l.form (map link_said l.links)

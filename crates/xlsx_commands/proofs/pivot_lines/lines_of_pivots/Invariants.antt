@@ -6,6 +6,6 @@ use Rattle.xlsx_commands.proofs.pivot_lines.lines_of_pivots.Given as goal
 abbrev pub invariant-pivots : goal.invariant-pivots
 invariant-pivots l = record {
   listed :
-      string_bytes l.out ++ pivot_lines (pairs_left l.pair-iterator)
-      ≡ pivot_lines (pairs_of (pivots_kept l.pivots));
+      string_bytes l.out ++ pivot_lines l.form (pairs_left l.pair-iterator)
+      ≡ pivot_lines l.form (pairs_of (pivots_kept l.pivots));
 }

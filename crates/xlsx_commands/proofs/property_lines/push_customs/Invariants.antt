@@ -5,5 +5,5 @@ use Rattle.xlsx_commands.proofs.property_lines.push_customs.Given as goal
 
 abbrev pub invariant-loop-name : goal.invariant-loop-name
 invariant-loop-name l =
-    string_bytes l.out ++ custom_lines (map entry_texts l.name-iterator)
-    ≡ string_bytes l.fn.out ++ custom_lines (custom_texts l.properties)
+    string_bytes l.out ++ custom_lines l.form (map entry_texts l.name-iterator)
+    ≡ string_bytes l.fn.out ++ custom_lines l.form (custom_texts l.properties)

@@ -8,6 +8,6 @@ abbrev pub invariant-tables : goal.invariant-tables
 invariant-tables l = record {
   within : l.index ≤ length (loaded_tables l.xlsx);
   names : table_names_left l.name-iterator ≡ map name_said (drop l.index (loaded_tables l.xlsx));
-  listed : string_bytes l.out ++ table_lines (drop l.index (loaded_tables l.xlsx))
-      ≡ table_lines (loaded_tables l.xlsx);
+  listed : string_bytes l.out ++ table_lines l.form (drop l.index (loaded_tables l.xlsx))
+      ≡ table_lines l.form (loaded_tables l.xlsx);
 }

@@ -11,7 +11,7 @@ pub returns : goal.returns
 returns c = λ own there named.
     on_ok_weaker c.push_table_line.result
     (λ pushed. pushed ∙ ap (λ text. string_bytes c.args.out.now ++ text)
-    (line_at (loaded_tables c.args.xlsx.now) c.args.index own c.args.name.now
+    (line_at c.args.form (loaded_tables c.args.xlsx.now) c.args.index own c.args.name.now
     c.table_sheet-sheet.result.now c.table_area-area.result
     (map string_bytes c.table_columns.result.now) there named c.table_sheet-sheet.ensures
     c.table_area-area.ensures.area c.table_columns.ensures)) c.push_table_line.ensures.ok

@@ -3,7 +3,7 @@ use Rattle.input_package.specs.Told.{told_state}
 use Rattle.std.proofs.lemmas.Result.{err_from_is_err_and}
 use Rattle.xlsx_open.specs.Opening.{OpeningCause}
 use Rattle.xlsx_commands.proofs.MemoryCalls.{memory_fails}
-use Rattle.xlsx_commands.proofs.book_lists.metadata_of.Goals as goal
+use Rattle.xlsx_commands.proofs.book_lists.metadata_beside.Goals as goal
 
 pub returns-in_err-opened-clause-err : goal.returns-in_err-opened-clause-err
 returns-in_err-opened-clause-err c =
@@ -11,5 +11,5 @@ returns-in_err-opened-clause-err c =
     let cause = OpeningCause c.args.package.parts in
     rw (handed.1, handed.2)
     (memory_fails cause cause (told_state c.args.package) c.open-opened.new.xml.source
-    c.in_err-opened.field-0.0 (c.into_package.result, c.into_package.ensures) refl (λ own. own)
+    c.in_err-opened.field-0.0 (c.into_package-package.result, c.into_package-package.ensures) refl (λ own. own)
     (rw c.new-xml.ensures at c.in_err-opened.ensures.err))

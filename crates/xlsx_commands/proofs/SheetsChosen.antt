@@ -1,0 +1,91 @@
+-- The sheet that stands at a number, and the first worksheet, sheet by sheet.
+use Rattle.std.proofs.Common.{◌≡◌, ◌∙◌, ℕ, ◌+◌, ◌<◌, ◌≤◌, Bool, true, false, not, ◌&&◌, List, [], map}
+use Rattle.std.proofs.Common.{if◌then◌else◌, length, take, drop, get_or, ap, sym, string_bytes, Ok, Err}
+use Rattle.std.specs.Prelude.{Result}
+use Rattle.std.proofs.Common.{suc, Option, Some, None, option_map, subst, arith, String, Global, ◌∷◌}
+use Rattle.std.proofs.Common.{refl}
+use Rattle.std.specs.Prelude.{slice_get}
+use Rattle.std.proofs.lemmas.List.{drop_more, drop_all, map_more, take-map}
+use Rattle.std.proofs.lemmas.Option.{slice_get-map}
+use Rattle.xlsx_open.specs.Opening.{ListedSheet, listed_sheet}
+use Rattle.xlsx_workbook.specs.declared.sheet.Sheet.{Sheet}
+use Rattle.xlsx_commands.specs.ChosenSheets.{first_worksheet, has_name, is_worksheet, chosen_at}
+use Rattle.xlsx_commands.specs.ChosenSheets.{sheet_at}
+use Rattle.xlsx_commands.specs.Command.{texts}
+use Rattle.xlsx_commands.specs.Request.{chosen_request}
+use Rattle.xlsx_commands.specs.declared.sheet_choice.SheetFault.{SheetFault}
+use Rattle.xlsx_commands.specs.declared.sheet_choice.SheetFault.TheVariants.{NoWorksheet, NamedBefore}
+
+-- what is chosen from a place on
+abbrev pub first_from : List Sheet → ℕ → Result (List ℕ) SheetFault
+first_from sheets place =
+    first_worksheet (map listed_sheet (take place sheets)) (map listed_sheet (drop place sheets))
+
+-- the sheet at a place is chosen, behind those before it
+abbrev pub is_chosen_at : List Sheet → ℕ → Sheet → Bool
+is_chosen_at sheets place sheet =
+    is_worksheet sheet.typ
+    && not (has_name (string_bytes sheet.name) (map listed_sheet (take place sheets)))
+
+module _ (sheets : List Sheet) (place : ℕ) (sheet : Sheet) (within : place < length sheets)
+    (is : get_or sheets place sheet ≡ sheet) where
+  step :
+      first_from sheets place
+      ≡ (if is_chosen_at sheets place sheet then Ok (string_bytes sheet.name)
+      else first_from sheets (place + 1))
+  unfolding first_worksheet
+  step =
+      ap (λ (left : List Sheet). first_worksheet (map listed_sheet (take place sheets))
+      (map listed_sheet left)) (drop_more sheets place sheet within)
+      ∙ ap (λ (front : List ListedSheet). if is_chosen_at sheets place (get_or sheets place sheet)
+      then Ok (string_bytes (get_or sheets place sheet).name)
+      else first_worksheet front (map listed_sheet (drop (place + 1) sheets)))
+      (sym (map_more listed_sheet sheets place sheet within))
+      ∙ ap (λ (own : Sheet). if is_chosen_at sheets place own then Ok (string_bytes own.name)
+      else first_from sheets (place + 1)) is
+
+  pub chosen_here : is_chosen_at sheets place sheet ≡ true
+      → first_from sheets place ≡ Ok (string_bytes sheet.name)
+  chosen_here test =
+      step
+      ∙ ap (λ (own : Bool). if own then Ok (string_bytes sheet.name)
+      else first_from sheets (place + 1)) test
+
+  pub passed_here : is_chosen_at sheets place sheet ≡ false
+      → first_from sheets place ≡ first_from sheets (place + 1)
+  passed_here test =
+      step
+      ∙ ap (λ (own : Bool). if own then Ok (string_bytes sheet.name)
+      else first_from sheets (place + 1)) test
+
+pub none_chosen : (sheets : List Sheet) (place : ℕ) → length sheets ≤ place
+    → first_from sheets place ≡ Err NoWorksheet
+unfolding first_worksheet
+none_chosen sheets place past =
+    ap (λ (left : List Sheet). first_worksheet (map listed_sheet (take place sheets))
+    (map listed_sheet left)) (drop_all place sheets past)
+
+-- the sheet at a number, unless an earlier one has its name
+pub at_number : (sheets : List Sheet) (number before : ℕ) (sheet : Sheet) → number ≡ suc before
+    → slice_get sheets before ≡ Some sheet
+    → chosen_at number (map listed_sheet sheets) (sheet_at number (map listed_sheet sheets))
+    ≡ (if has_name (string_bytes sheet.name) (map listed_sheet (take before sheets))
+    then Err (NamedBefore number) else Ok (string_bytes sheet.name))
+at_number sheets number before sheet is found =
+    let all = map listed_sheet sheets in
+    subst (λ (n : ℕ). chosen_at n all (sheet_at n all)
+    ≡ (if has_name (string_bytes sheet.name) (map listed_sheet (take before sheets))
+    then Err (NamedBefore n) else Ok (string_bytes sheet.name))) (sym is)
+    (ap (λ (own : Option ListedSheet). chosen_at (suc before) all own)
+    (slice_get-map listed_sheet sheets before ∙ ap (option_map listed_sheet) found)
+    ∙ ap (λ (front : List ListedSheet). if has_name (string_bytes sheet.name) front
+    then Err (NamedBefore (suc before)) else Ok (string_bytes sheet.name))
+    (take-map listed_sheet before sheets))
+
+-- fewer than three words choose no sheet
+pub too_few : (words : List (String Global)) → length words < 3
+    → chosen_request (texts words) ≡ None
+too_few [] few = refl
+too_few (word ∷ []) few = refl
+too_few (word ∷ option ∷ []) few = refl
+too_few (word ∷ option ∷ which ∷ further) few = absurd (omega (arith, few))

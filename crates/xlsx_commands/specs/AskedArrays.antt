@@ -1,0 +1,20 @@
+-- What words behind a name ask of the rows of a sheet as JSON: `--json`, and behind it what is
+-- asked of rows, but for the options of CSV alone.
+use Rattle.std.specs.Prelude.{ℕ, ◌||◌, if◌then◌else◌, List, [], ◌∷◌, codes, is_some}
+use Rattle.std.specs.Prelude.{Option, Some, None, option_and_then}
+use Rattle.std.specs.Str.{bytes_eq}
+use Rattle.xlsx_commands.specs.AskedRows.{options_asked, plain_rows}
+use Rattle.xlsx_commands.specs.declared.asked_rows.AskedRows.{AskedRows}
+
+-- what is asked says nothing of the bytes of CSV
+abbrev pub of_json : AskedRows → Option AskedRows
+of_json asked =
+    if is_some asked.options.delimiter || (asked.options.crlf || asked.options.bom) then None
+    else Some asked
+
+-- what words ask of rows as JSON
+abbrev pub arrays_asked : List (List ℕ) → Option AskedRows
+arrays_asked [] = None
+arrays_asked (word ∷ words) =
+    if bytes_eq word (codes "--json") then option_and_then of_json (options_asked plain_rows words)
+    else None
