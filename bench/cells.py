@@ -1,6 +1,6 @@
 #!/usr/bin/env python3
-"""Measures `cells S`, `csv S` or `upgrade` of xlsx_tool beside json.load of the same text, and
-prints one table (docs/PERFORMANCE.md).
+"""Measures `cells S`, `csv S`, `upgrade`, `cells S --json` or `rows S --json` of xlsx_tool beside
+json.load of the same text, and prints one table (docs/PERFORMANCE.md).
 
 The script writes a package of one worksheet with as many rows as fit just under 67,108,864 bytes,
 the largest input that the program takes, and another of half that size. The package text is written
@@ -22,11 +22,14 @@ cells are:
 
 import argparse
 import csv
+import datetime
 import io
+import json
 import os
 import shutil
 import sys
 import tempfile
+from decimal import Decimal
 
 from measure import (
     FORMS,
@@ -51,6 +54,7 @@ from measure import (
     upgraded,
 )
 
+TAB = "\t"
 KINDS = ["nut", "bolt", "washer", "hex key", "tab\there", "back\\slash"]
 
 WORKBOOK = [
@@ -86,6 +90,53 @@ def record_of(fields):
     out = io.StringIO()
     csv.writer(out, lineterminator="\n").writerow(fields)
     return out.getvalue()
+
+
+def unescaped(text):
+    return text.replace("\\t", "\t").replace("\\\\", "\\")
+
+
+def date_of(days):
+    """The text of a serial from 1900 on that has a date, of milliseconds at most."""
+    day, time = divmod(round(Decimal(days) * 86_400_000), 86_400_000)
+    if day == 0:
+        date = ""
+    elif day == 60:
+        date = "1900-02-29"
+    else:
+        first = datetime.date(1899, 12, 31 if day < 60 else 30)
+        date = (first + datetime.timedelta(day)).isoformat()
+    seconds, left = divmod(time, 1000)
+    clock = f"{seconds // 3600:02}:{seconds // 60 % 60:02}:{seconds % 60:02}"
+    clock += f".{left:03}" if left else ""
+    return "T".join(part for part in (date, clock if time or not date else "") if part)
+
+
+def typed(field):
+    """The type and the value of a field of `cells` as JSON; a date has its text behind it."""
+    mark, _, text = field.partition(":")
+    if mark == "t":
+        days, kind, _ = text.split(" ")
+        return kind, f'{days},"date":"{date_of(days)}"'
+    if mark == "s":
+        return "text", json.dumps(unescaped(text), ensure_ascii=False)
+    return {"n": ("number", text), "b": ("boolean", text), "-": ("none", None)}[mark]
+
+
+def object_of(line):
+    """The object that `cells --json` has of a line of `cells`."""
+    reference, value, formula, fill = line.split("\t")
+    typ, own = typed(value)
+    told = f'{{"cell":"{reference}","type":"{typ}"'
+    told += "" if own is None else f',"value":{own}'
+    if formula != "-":
+        told += f',"formula":{json.dumps(unescaped(formula[1:]), ensure_ascii=False)}'
+    return told + ("" if fill == "-" else f',"fill":"{fill}"') + "}\n"
+
+
+def array_of(lines):
+    """The array that `rows --json` has of the lines of a row."""
+    return f"[{','.join(typed(line.split(TAB)[1])[1] or 'null' for line in lines)}]\n"
 
 
 def cell_events(attributes, *children):
@@ -361,6 +412,8 @@ PRINTED = {
     "cells": lambda mix, row: mix.row_lines(row),
     "csv": lambda mix, row: record_of(mix.row_fields(row)),
     "upgrade": lambda mix, row: "",
+    "cells --json": lambda mix, row: "".join(map(object_of, mix.row_lines(row).splitlines())),
+    "rows --json": lambda mix, row: array_of(mix.row_lines(row).splitlines()),
 }
 
 
@@ -395,7 +448,8 @@ def write_package(path, limit, mix, printed, version=1):
 
 class Size(Measured):
     def __init__(self, folder, program, limit, mix, command, version):
-        words = [program, command] if command == "upgrade" else [program, command, "S"]
+        word, *options = command.split(" ")
+        words = [program, word] if command == "upgrade" else [program, word, "S", *options]
         super().__init__(folder, limit, words)
         written = write_package(self.package, limit, mix, PRINTED[command], version)
         self.size, self.rows, self.listing = written
@@ -472,9 +526,9 @@ def main():
     program = program_of(asked)
     with tempfile.TemporaryDirectory() as folder:
         mix = MIXES[asked.mix]()
-        if asked.command == "csv" and not hasattr(mix, "row_fields"):
-            parser.error("csv is measured of values and texts")
-        if asked.command == "upgrade" and asked.stages:
+        if asked.command in ("csv", "rows --json") and not hasattr(mix, "row_fields"):
+            parser.error("rows are measured of values and texts")
+        if asked.command not in ("cells", "csv") and asked.stages:
             parser.error("the stages are those of cells and csv")
         if asked.stages:
             whole = Size(folder, program, asked.bytes, mix, asked.command, asked.version)

@@ -1,8 +1,9 @@
 #!/usr/bin/env python3
-"""Runs `cells Sales`, `upgrade` and `resave Sales` over the shipped package, `sample 5`, and each
-other command over a sample workbook, with its first allocation refused, then with its second, and
-so on, until none is left to refuse. Each of these runs must end with the status and the text of
-want of memory and print nothing, and the last one must print the stored lines."""
+"""Runs `cells Sales`, `upgrade`, `resave Sales` and `resave Sales --xlsx` over the shipped package,
+`sample 5`, and each other command over a sample workbook, with its first allocation refused, then
+with its second, and so on, until none is left to refuse. Each of these runs must end with the
+status and the text of want of memory and print nothing, and the last one must print the stored
+lines."""
 
 import argparse
 import os
@@ -113,10 +114,17 @@ def refuse_each(words, text, lines, library):
     print(f"{' '.join(words[1:])}: {number - 1} allocations", flush=True)
 
 
+def unrefused(words, text):
+    """What a run prints to which nothing is refused."""
+    with open(text, "rb") as package:
+        return subprocess.run(words, stdin=package, capture_output=True, check=True).stdout
+
+
 def text_of(book, folder):
     """The package text of a sample workbook, in a file."""
     text = os.path.join(folder, f"{book}.json")
-    words = [sys.executable, TOP / "tools" / "reading" / "package_text.py", SAMPLES / f"{book}.xlsx"]
+    reader = TOP / "tools" / "reading" / "package_text.py"
+    words = [sys.executable, reader, SAMPLES / f"{book}.xlsx"]
     with open(text, "wb") as out:
         subprocess.run(words, stdout=out, check=True)
     return text
@@ -132,6 +140,8 @@ def main():
         refuse_each(words, TOOL / "stdin", (TOOL / "stdout").read_bytes(), library)
         refuse_each([program, "upgrade"], TOOL / "stdin", UPGRADED.read_bytes(), library)
         refuse_each([program, "resave", "Sales"], TOOL / "stdin", RESAVED.read_bytes(), library)
+        words = [program, "resave", "Sales", "--xlsx"]
+        refuse_each(words, TOOL / "stdin", unrefused(words, TOOL / "stdin"), library)
         refuse_each([program, "sample", "5"], os.devnull, SAMPLE_LINES, library)
         for words, book, name in COMMANDS:
             lines = (SAMPLES / f"{name}.lines").read_bytes()

@@ -59,6 +59,27 @@ def dated_rows(epoch):
     return records([*rows, ["45292.25", ""]])
 
 
+def shown_rows(epoch):
+    """The rows of the same numbers as their cells show them."""
+    columns = []
+    for moment in (MADE, FIRST_DAYS[epoch] + 45292.25 * DAY):
+        passed = moment - FIRST_DAYS[epoch]
+        number = decimal.Decimal(format(passed / DAY, ".16G"))
+        clock = f"{moment.hour}:{moment:%M}"
+        columns.append([
+            f"{moment:%Y-%m-%d}",
+            f"{clock}:{moment:%S}",
+            hours(passed).rpartition(":")[0],
+            f"day {number:.0f}",
+            f"{moment.day} {moment:%b %y} {clock}",
+            f"{moment:%m-%d-%y}",
+            f"{moment.month}/{moment.day}/{moment:%y} {clock}",
+            hours(passed),
+            f"{number * 100:.0f}%",
+        ])
+    return records([*zip(*columns), ["45292.25", ""]])
+
+
 def rich_text():
     texts = [" plain bold <end> ", " a ", "b\\nc", "_x000D_", "\u00e9\U0001f330", 'a&b<c>"d"', ""]
     for row, text in enumerate(texts, 1):
@@ -251,17 +272,22 @@ def records(rows):
     yield out.getvalue()
 
 
-def libreoffice_rows():
-    days = [(datetime.datetime(2024, *day) - FIRST_DAYS[1900]).days for day in ((1, 2), (2, 3))]
+def goods(first, second, truth):
+    """The rows of LibreOffice's workbook, with its two dates and its truth value as they are written."""
     return records(
         [
             ["name", "amount", "date"],
-            ["nut", "10.5", days[0]],
-            ["bolt, long", "4", days[1]],
+            ["nut", "10.5", first],
+            ["bolt, long", "4", second],
             ["nutx", "14.5", "#DIV/0!"],
-            ["true", "#N/A", "\t"],
+            [truth, "#N/A", "\t"],
         ]
     )
+
+
+def libreoffice_rows():
+    days = [(datetime.datetime(2024, *day) - FIRST_DAYS[1900]).days for day in ((1, 2), (2, 3))]
+    return goods(*days, "true")
 
 
 LINES = {
@@ -269,6 +295,8 @@ LINES = {
     "dates_1904": dates(1904),
     "dates_1900.csv": dated_rows(1900),
     "dates_1904.csv": dated_rows(1904),
+    "dates_1900.csv_shown": shown_rows(1900),
+    "dates_1904.csv_shown": shown_rows(1904),
     "libreoffice": libreoffice(),
     "libreoffice.check": [
         "A4\tunsupported\n",
@@ -276,6 +304,7 @@ LINES = {
         *(f"{place}\tunsupported\n" for place in ("C4", "A5", "B5", "C5")),
     ],
     "libreoffice.csv": libreoffice_rows(),
+    "libreoffice.csv_shown": goods("2024-01-02", "2024-02-03", "TRUE"),
     "rich_text": rich_text(),
     "inline_strings": inline_strings(),
     "chart_sheet": chart_sheet(),

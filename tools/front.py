@@ -136,37 +136,12 @@ class Front:
                 return refused_file(self.source.path, *other)
         return Refused(status, said)
 
-    def sheet(self, number):
-        """The name of the sheet at a place among all, from 1."""
-        sheets = [name for name, *_ in self.lines(["sheets"])]
-        if number > len(sheets):
-            have = "one sheet" if len(sheets) == 1 else f"{len(sheets)} sheets"
-            raise Ended(6, f"there is no sheet {number}: the workbook has {have}")
-        name = sheets[number - 1]
-        if name in sheets[: number - 1]:
-            raise Ended(6, f"sheet {number} has the name of an earlier sheet, '{name}'")
-        return name
-
     def worksheets(self):
         """The names of the worksheets, each once."""
         sheets = self.lines(["sheets"])
         first = {name: kind for name, kind, _ in reversed(sheets)}
         names = dict.fromkeys(name for name, *_ in sheets)
         return [name for name in names if first[name] == "worksheet"]
-
-    def named(self, asked):
-        """The program's words, by the name of the sheet where that is told by its number, or is the
-        first worksheet."""
-        if not asked.lacks_sheet():
-            return asked.of_program()
-        if asked.number is not None:
-            number = asked.number.lstrip("0")
-            # No workbook has so many sheets, and so large a number is none of Python's.
-            return asked.of_program(self.sheet(int(number) if len(number) < 10 else 10**10))
-        worksheets = self.worksheets()
-        if not worksheets:
-            raise Ended(6, "the workbook has no worksheet")
-        return asked.of_program(worksheets[0])
 
     def names(self, words, said):
         """What is asked for and not found, and all names that there are of its kind."""
@@ -198,7 +173,7 @@ class Front:
 
     def answer(self, asked):
         """Has the program answer, onto standard output: the status."""
-        words = self.named(asked)
+        words = asked.of_program()
         status, said = self.program.run(words, self.source.number(), 1)
         if status == 7 and said == WRITE_FAULT and is_reader_gone():
             return 7
@@ -222,7 +197,7 @@ class Front:
 
         from saving import CantWrite, replacing
 
-        words, path = [*self.named(asked), of_words.AS_FILE], asked.saved
+        words, path = [*asked.of_program(), of_words.AS_FILE], asked.saved
         with tempfile.TemporaryFile() as answer:
             status, said = self.program.run(words, self.source.number(), answer.fileno())
             if status == 0:

@@ -130,7 +130,7 @@ class Comments(unittest.TestCase):
             if "author" in inside:
                 inner = "author"
             elif "comment" in inside:
-                inner = "t" if "t" in inside else ""
+                inner = "t" if "t" in inside else "comment"
             self.check(package_cut(ONE, count, RELATED), ended(inner), count)
 
     def test_comments_need_a_sheet_of_the_name_and_no_part_of_it(self):

@@ -14,6 +14,7 @@ OF_TESTS = {
     "test_packages",
     "test_tables",
     "worked_checks",
+    "worked_graph",
     "worked_precedents",
     "worked_shown",
     "worked_styles",

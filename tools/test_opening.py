@@ -11,6 +11,7 @@ from noted import (
     ROOT,
     ROOT_NAME,
     SHEET_NAME,
+    SMALLEST,
     STRINGS_NAME,
     WORKBOOK,
     WORKBOOK_NAME,
@@ -225,6 +226,62 @@ PACKAGES = [
     ),
 ]
 
+# The sheets of a workbook, each with its name, the type of its relationship and the part that this
+# leads to: a chart, a hidden worksheet, one of the name of the chart, and one more.
+CHOSEN = [
+    ("Chart", "chartsheet", "charts/c1.xml"),
+    ("First", "worksheet", "worksheets/w1.xml"),
+    ("Chart", "worksheet", "worksheets/w2.xml"),
+    ("--sheet", "worksheet", "worksheets/w3.xml"),
+]
+
+# The words that choose a sheet, and the part that it is read from, or why none is chosen.
+CHOICES = [
+    (["--sheet", "1"], "xl/charts/c1.xml\n"),
+    (["--sheet", "2"], "xl/worksheets/w1.xml\n"),
+    (["--sheet", "0004"], "xl/worksheets/w3.xml\n"),
+    (["--sheet", "first"], "xl/worksheets/w1.xml\n"),
+    (["--sheet", "3"], refused("sheet 3 has the name of an earlier sheet")),
+    (["--sheet", "5"], refused("there is no sheet 5: the number of sheets is 4")),
+    (
+        ["--sheet", "18446744073709551615"],
+        refused("there is no sheet 18446744073709551615: the number of sheets is 4"),
+    ),
+    (["--sheet"], "xl/worksheets/w3.xml\n"),
+    (["Chart"], "xl/charts/c1.xml\n"),
+]
+
+# No sheet is told by these words.
+NOT_CHOSEN = [
+    ["part", "--sheet", "0"],
+    ["part", "--sheet", "-1"],
+    ["part", "--sheet", "First"],
+    ["part", "--sheet", "18446744073709551616"],
+    ["part", "--sheet", "1", "x"],
+    ["part", "S", "--sheet", "1"],
+    ["sheets", "--sheet", "1"],
+    ["table", "--sheet", "1"],
+    ["sample", "--sheet", "1"],
+    ["csv", "--sheet", "1", "--date"],
+    ["dependents", "--sheet", "1", "XFE1"],
+]
+
+# Each command that is asked of a sheet, with what stands behind its name.
+OF_SHEETS = [
+    ["cells"],
+    ["merges"],
+    ["links"],
+    ["comments"],
+    ["csv", "--crlf", "--from-a1"],
+    ["pivot", "P"],
+    ["precedents"],
+    ["dependents", "A1"],
+    ["check"],
+    ["part"],
+    ["resave"],
+    ["resave", "--xlsx"],
+]
+
 # The parts that say how dates count, and from which year they do.
 EPOCHS = [([ROOT, RELATIONSHIPS, WORKBOOK], 1900), (LONG, 1904)]
 DATED = [
@@ -253,6 +310,38 @@ class Opening(unittest.TestCase):
         for shown, parts, sheets, names in PACKAGES:
             self.check(package_of(parts), ["sheets"], sheets, shown)
             self.check(package_of(parts), ["names"], sheets if names is None else names, shown)
+
+    def test_a_sheet_is_chosen_by_its_number_or_as_the_first_worksheet(self):
+        each = enumerate(CHOSEN, 1)
+        types = [f'Id="r{n}" Type="x/{kind}" Target="{part}"' for n, (_, kind, part) in each]
+        each = enumerate(CHOSEN, 1)
+        sheets = "".join(f'<sheet name="{name}" r:id="r{n}"/>' for n, (name, *_) in each)
+        book = f"<workbook><sheets>{sheets}</sheets></workbook>"
+        parts = [ROOT, (RELATIONSHIPS_NAME, relationships(*types)), (WORKBOOK_NAME, book)]
+        for words, wanted in CHOICES:
+            self.check(package_of(parts), ["part", *words], wanted, str(words))
+        usage = [(2, b"", b"usage\n")]
+        for words in NOT_CHOSEN:
+            self.check(package_of(parts), words, usage, str(words))
+        charts = relationships(*types[:1])
+        book = '<workbook><sheets><sheet name="Chart" r:id="r1"/></sheets></workbook>'
+        parts = [ROOT, (RELATIONSHIPS_NAME, charts), (WORKBOOK_NAME, book)]
+        none = refused("the workbook has no worksheet")
+        self.check(package_of(parts), ["cells", "--sheet", "first"], none, "a chart alone")
+        broken = refused("Xml error: malformed markup at 1")
+        parts = [ROOT, (RELATIONSHIPS_NAME, charts), (WORKBOOK_NAME, "<workbook><!flaw>")]
+        self.check(package_of(parts), ["cells", "--sheet", "1"], broken, "no workbook")
+
+    def test_what_is_asked_of_a_chosen_sheet_is_what_is_asked_by_its_name(self):
+        package = package_of(SMALLEST)
+        for word, *more in OF_SHEETS:
+            ends = []
+            for build in BUILDS:
+                words = [OUT / build, word, "S", *more]
+                ran = subprocess.run(words, input=package, capture_output=True)
+                ends.append((ran.returncode, ran.stdout, ran.stderr))
+            for choice in ("1", "first"):
+                self.check(package, [word, "--sheet", choice, *more], ends, word)
 
     def test_dates_count_as_the_workbook_says(self):
         for parts, year in EPOCHS:

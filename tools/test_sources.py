@@ -65,6 +65,7 @@ RESERVED = {
     ("sorted_cells/sorted.rt", "with_capacity", 2): "what its callers ask for, each of them here",
     ("xlsx_core/ranges.rt", "with_texts", 1): OF_CELLS,
     ("xlsx_core/ranges.rt", "written_out", 1): OF_CELLS,
+    ("xlsx_core/shown_sheet.rt", "shown_texts", 1): OF_CELLS,
     ("xlsx_precedents/index.rt", "gather", 1): "the formulas that are held",
     ("xlsx_precedents/numbers.rt", "no_numbers", 1): "the blocks of a worksheet, 1,024",
     ("xlsx_tool/sink.rt", "new", 1): "the room of a sink of tests, which its caller names",

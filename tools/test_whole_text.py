@@ -13,7 +13,7 @@ from cutting import cut
 from escapes import unescaped
 from fixtures import BROKEN_THEME, LISTED, MINIMAL, MIXED, SALES, archive, relationships
 from place import OF_GATE
-from words import A_TABLE, COMMANDS
+from words import A_TABLE, AS_JSON, COMMANDS
 
 # What a part raises that can't be unpacked.
 BROKEN = (zipfile.BadZipFile, zlib.error, NotImplementedError, RuntimeError, EOFError)
@@ -284,7 +284,9 @@ class WholeText(unittest.TestCase):
                 yield [command.word]
                 continue
             for name in names[kind_of(command, taken[0])]:
-                if len(taken) == 1:
+                if command.word == "rows":
+                    yield [command.word, name, AS_JSON]
+                elif len(taken) == 1:
                     yield [command.word, name]
                 elif taken[1] == "REF":
                     yield [command.word, name, "B2"]

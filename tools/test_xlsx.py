@@ -47,6 +47,7 @@ sheets:)
     ;;
 tables:) for n in 1 2 3 4 5 6 7 8 9 10 11 12; do printf "T$n\\tFirst\\tA1:B2\\tx\\n"; done ;;
 pivots:) printf 'First\\tSold\\n' ;;
+*:--sheet) printf '%s of sheet %s\\n' "$1" "$3" ;;
 table:no*) echo "Table '$2' not found" >&2; exit 6 ;;
 pivot:*) echo "Pivot Table '$3' was not found on worksheet" >&2; exit 6 ;;
 *:no*) echo "Worksheet '$2' not found" >&2; exit 6 ;;
@@ -342,6 +343,11 @@ class Wrapper(FrontCopy):
             (["book.xlsx", "csv", "--date", "S"], "csv takes no option '--date'"),
             (["book.xlsx", "csv", "S", "--dates", "--dates"], "--dates stands twice behind csv"),
             (["book.xlsx", "csv", "--digits", "3"], "csv takes no option '--digits'"),
+            (
+                ["book.xlsx", "csv", "--digits=3", "--shown"],
+                "--shown goes by the formats of cells, and takes no --digits beside it",
+            ),
+            (["book.xlsx", "csv-table", "T", "--shown"], "csv-table takes no option '--shown'"),
             (["book.xlsx", "cells", "--sheet"], "--sheet takes the number of a sheet, from 1"),
             (["cells", "--sheet", "1", "--sheet", "1"], "--sheet stands twice"),
             (["book.xlsx", "csv", "--all"], "--all takes the name of a folder"),
@@ -392,33 +398,25 @@ class Wrapper(FrontCopy):
 
     def test_a_sheet_by_its_number(self):
         self.list_with()
-        for number, name in (("1", "Chart"), ("2", "First"), ("003", "a/b\tc")):
-            wanted = 0, f"cells of {name}\n".encode(), ""
-            self.assertEqual(self.run_on("book.xlsx", "cells", "--sheet", number), wanted)
-            self.assertEqual(self.run_on("cells", "--sheet", number, data=b"{}"), wanted)
+        for number, told in (("1", "1"), ("003", "3"), ("9" * 30, str(10**10)), (None, "first")):
+            words = ["cells", "--sheet", number] if number else ["cells"]
+            wanted = 0, f"cells of sheet {told}\n".encode(), ""
+            self.assertEqual(self.run_on("book.xlsx", *words), wanted)
+            self.assertEqual(self.run_on(*words, data=b"{}"), wanted)
             with open(self.book, "rb") as file:
-                ran = self.run_on("cells", "--sheet", number, data=None, stdin=file)
+                ran = self.run_on(*words, data=None, stdin=file)
             self.assertEqual(ran, wanted)
-        for number, said in (
-            ("6", "there is no sheet 6: the workbook has 5 sheets"),
-            ("9" * 30, f"there is no sheet {10**10}: the workbook has 5 sheets"),
-            ("4", "sheet 4 has the name of an earlier sheet, 'First'"),
-        ):
-            ran = self.run_on("book.xlsx", "cells", "--sheet", number)
-            self.assertEqual(ran, (6, b"", f"xlsx: {said}\n"))
 
     def test_the_first_worksheet_where_no_sheet_is_named(self):
         self.list_with()
         for command in COMMANDS.values():
             if is_of_sheet(command):
                 more = {"dependents": ["A1"], "pivot": ["none"]}.get(command.word, [])
-                wanted = self.run_on("book.xlsx", command.word, "First", *more)
-                self.assertIn(b"First", wanted[1] + wanted[2].encode())
-                self.assertEqual(self.run_on("book.xlsx", command.word, *more), wanted)
-                self.assertEqual(self.run_on(command.word, *more, data=b"{}")[:2], wanted[:2])
-        self.build(self.written("none", "#!/bin/sh\nprintf 'Chart\\tchartsheet\\tvisible\\n'\n"))
-        ran = self.run_on("book.xlsx", "cells")
-        self.assertEqual(ran, (6, b"", "xlsx: the workbook has no worksheet\n"))
+                chosen = self.run_on("book.xlsx", command.word, "--sheet", "1", *more)
+                ran = self.run_on("book.xlsx", command.word, *more)
+                told = chosen[1].replace(b"sheet 1", b"sheet first")
+                self.assertEqual(ran, (chosen[0], told, chosen[2]))
+                self.assertEqual(self.run_on(command.word, *more, data=b"{}")[:2], ran[:2])
 
     def test_options_stand_anywhere_and_names_behind_two_hyphens(self):
         self.build(self.written("words", WORDED))
@@ -427,10 +425,10 @@ class Wrapper(FrontCopy):
             (["csv", "S", "--dates", "--crlf"], csv),
             (["csv", "--dates", "S", "--crlf"], csv),
             (["--dates", "csv", "--crlf", "S"], csv),
-            (["csv", "--dates", "--crlf"], ["csv", "First", *csv[2:]]),
-            (["csv", "--dates", "--sheet", "1"], ["csv", "First", "--dates"]),
-            (["--sheet", "1", "cells"], ["cells", "First"]),
-            (["dependents", "--sheet", "1", "A1"], ["dependents", "First", "A1"]),
+            (["csv", "--dates", "--crlf"], ["csv", "--sheet", "first", *csv[2:]]),
+            (["csv", "--dates", "--sheet", "1"], ["csv", "--sheet", "1", "--dates"]),
+            (["--sheet", "1", "cells"], ["cells", "--sheet", "1"]),
+            (["dependents", "--sheet", "1", "A1"], ["dependents", "--sheet", "1", "A1"]),
             (["csv", "--crlf", "--", "--dates"], ["csv", "--dates", "--crlf"]),
             (["cells", "--", "--"], ["cells", "--"]),
             (["pivot", "--", "-a", "--b"], ["pivot", "-a", "--b"]),
@@ -489,7 +487,7 @@ class Wrapper(FrontCopy):
         for name in names:
             made = [self.folder / "top" / f"{name}{end}" for end in (".csv", ".said")]
             none = "" if name != names[-1] else "not a package\n"
-            first = "" if none else "csv of First\n"
+            first = "" if none else "csv of sheet first\n"
             self.assertEqual([path.read_text() for path in made], [first, none])
             for path in made:
                 path.unlink()

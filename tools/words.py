@@ -27,6 +27,8 @@ COMMANDS = {
                 "formula or a style: its position, value, formula and fill, with tabs",
                 "between them, as in",
                 "C2\tn:10.5\t=SUM(B$2:B2)\t-",
+                "By --json it and the other lists print objects of JSON, as in",
+                '{"cell":"C2","type":"number","value":10.5,"formula":"SUM(B$2:B2)"}',
             ),
         ),
         Command(
@@ -85,7 +87,8 @@ COMMANDS = {
             A_SHEET,
             (
                 "prints the rows of the values of the worksheet NAME as CSV, with options,",
-                "each at most once: --dates --digits=N --delimiter=C --crlf --bom --from-a1",
+                "each at most once: --dates --digits=N --delimiter=C --crlf --bom --from-a1,",
+                "or in place of the first two --shown: each value as its cell shows it",
             ),
         ),
         Command(
@@ -94,7 +97,18 @@ COMMANDS = {
             A_TABLE,
             (
                 "prints the names of the columns and the rows of the table NAME as CSV.",
-                "It takes the options of csv, but for --from-a1",
+                "It takes the options of csv, but for --from-a1 and --shown",
+            ),
+        ),
+        Command(
+            "rows",
+            ("NAME",),
+            A_SHEET,
+            (
+                "prints the rows of the values of the worksheet NAME by --json, which it",
+                "takes always, as arrays of JSON, with null where there is no value, and",
+                "with these options of csv: --dates --digits=N --from-a1. As in",
+                '["Goods",2,null,true]',
             ),
         ),
         Command(
@@ -199,14 +213,26 @@ COMMANDS = {
 SAVED, AS_FILE, TO = "resave", "--xlsx", "--to"
 ALL, NUMBER = "--all", "--sheet"
 
+# What cells show is asked for by this option, which stands beside neither of these.
+SHOWN, SPELLED = "--shown", ("--dates", "--digits")
+
+# What stands in place of the number of a sheet where the program takes the first worksheet.
+FIRST = "first"
+
 # The options of a command, each once and in any order: words alone, and, where it writes CSV, words
 # with a value.
 FLAGS = {
-    "csv": ("--dates", "--crlf", "--bom", "--from-a1"),
+    "csv": ("--dates", "--crlf", "--bom", "--from-a1", SHOWN),
     "csv-table": ("--dates", "--crlf", "--bom"),
     SAVED: (AS_FILE,),
 }
+
+# A list has its lines as objects of JSON by this option.
+AS_JSON = "--json"
+LISTS = ("cells", "merges", "links", "comments", "sheets", "names", "tables", "pivots", "props")
+FLAGS |= {word: (AS_JSON,) for word in LISTS} | {"rows": (AS_JSON, "--dates", "--from-a1")}
 WRITE_CSV = ("csv", "csv-table")
+TAKE_DIGITS = (*WRITE_CSV, "rows")
 SETTINGS = {
     "--digits": (
         re.compile("[1-9]|[12][0-9]|3[0-8]"),
@@ -247,8 +273,8 @@ REFERENCE = re.compile("([A-Za-z]{1,3})0*([1-9][0-9]{0,6})")
 STANDARD_INPUT = "-"
 
 USAGE = """\
-usage: ./xlsx FILE.xlsx cells NAME       (or merges, links, comments, csv, csv-table, table,
-                                          part, precedents, check or resave NAME,
+usage: ./xlsx FILE.xlsx cells NAME       (or merges, links, comments, csv, csv-table, rows,
+                                          table, part, precedents, check or resave NAME,
                                           dependents NAME REF,
                                           pivot SHEET NAME, or sheets, names, tables,
                                           pivots, props or upgrade)
@@ -377,12 +403,22 @@ class Asked:
 
     def is_read_again(self):
         """Whether the sheets are asked for before the command."""
-        return self.lacks_sheet() or self.folder is not None
+        return self.folder is not None
 
-    def of_program(self, sheet=None):
-        """The program's words, where the sheet has this name if they lack it."""
-        first = [sheet] if self.lacks_sheet() else []
-        return [self.word, *first, *self.names, *self.options]
+    def chosen(self):
+        """The words that choose a sheet where none is named: no workbook has so many sheets as the
+        largest number."""
+        if not self.lacks_sheet():
+            return []
+        if self.number is None:
+            return [NUMBER, FIRST]
+        digits = self.number.lstrip("0")
+        return [NUMBER, digits if len(digits) < 10 else str(10**10)]
+
+    def of_program(self):
+        """The program's words."""
+        options = sorted(self.options, key=lambda option: option != AS_JSON)
+        return [self.word, *self.chosen(), *self.names, *options]
 
 
 def wrong_option(asked):
@@ -394,17 +430,22 @@ def wrong_option(asked):
             return f"{word} takes no option '{key}'"
     if asked.saved is not None and AS_FILE in asked.options:
         return f"{TO} writes a workbook file, and takes no {AS_FILE} beside it"
+    if word == "rows" and AS_JSON not in asked.options:
+        return f"{word} takes {AS_JSON}: there are no rows in another form but those of csv"
     for option in asked.options:
         key, equals, value = option.partition("=")
         if key in given:
             return f"{key} stands twice behind {word}"
         given.add(key)
-        if equals and key in SETTINGS and word in WRITE_CSV:
+        if equals and word in (TAKE_DIGITS if key == "--digits" else WRITE_CSV) and key in SETTINGS:
             form, wanted = SETTINGS[key]
             if not form.fullmatch(value) or value in NO_DELIMITER:
                 return f"{key} takes {wanted}, and not '{value}'"
         elif option not in FLAGS.get(word, ()):
             return f"{word} takes no option '{option}'"
+    for key in SPELLED:
+        if SHOWN in given and key in given:
+            return f"{SHOWN} goes by the formats of cells, and takes no {key} beside it"
     return None
 
 
