@@ -1,5 +1,5 @@
 #!/usr/bin/env python3
-"""Tries the program on workbook files that are cut at 1,000 places and that have each of 1,000 bytes
+"""Tries the program on workbook files that are cut at 1,000 places, and with each of 1,000 bytes
 turned, and prints how many ended with which status.
 
 The files are samples of this repository. No run may end by a signal or with a status that

@@ -1,6 +1,6 @@
 #!/usr/bin/env python3
-"""Compares what the program cut_events cuts of random and damaged texts with what tools/reading/markup.py
-does, and tells how many texts there were, and how many of them have a flaw.
+"""Compares what the program cut_events cuts of random and damaged texts with what
+tools/reading/markup.py does, and tells how many texts there were, and how many of them have a flaw.
 
 A text is made of pieces of markup, or of single marks, or of pieces that were damaged by a few
 bytes that were taken out or put in. The program has to be built (`rt run` in crates/cut_events).

@@ -1,6 +1,6 @@
 #!/usr/bin/env python3
-"""Measures `precedents S`, `dependents S REF`, `check S` or `csv S` of xlsx_tool beside `cells S` on
-the same package, and prints one table (docs/PERFORMANCE.md)."""
+"""Measures `precedents S`, `dependents S REF`, `check S` or `csv S` of xlsx_tool beside `cells S`
+on the same package, and prints one table (docs/PERFORMANCE.md)."""
 
 import argparse
 import os

@@ -1,5 +1,5 @@
-"""What tools/reading/markup.py and the program cut_events cut the bytes of a part into, as the lines that
-the latter prints."""
+"""What tools/reading/markup.py and the program cut_events cut the bytes of a part into, as the lines
+that the latter prints."""
 
 import json
 import pathlib

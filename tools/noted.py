@@ -1,4 +1,4 @@
-"""Packages of parts whose markup may hold events that no markup spells, as crates/test_packages has it.
+"""Packages of parts whose markup may hold events that no markup spells, as crates/test_packages has.
 
 A tag that begins with `!` is such an event: `<!>` nests nothing and says nothing, `<!text>` is an
 empty text, `<!data>` the character data `x`, `<!flaw>` a flaw, and any other a reference of that
@@ -46,7 +46,8 @@ def events_of(markup):
     events = []
     for piece in markup.split("<")[1:]:
         tag, _, text = piece.partition(">")
-        name, space, attributes = tag.rstrip("/").partition(" ") if tag[:1] != "/" else (tag, "", "")
+        is_end = tag[:1] == "/"
+        name, space, attributes = (tag, "", "") if is_end else tag.rstrip("/").partition(" ")
         if tag.startswith("!"):
             events.append(SPECIAL.get(tag[1:], ["r", tag[1:]]))
         elif tag.startswith("/"):

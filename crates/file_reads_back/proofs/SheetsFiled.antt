@@ -1,6 +1,7 @@
 -- The parts of a sheet that is written can be those of a workbook file.
 use Rattle.std.proofs.Common.{◌≡◌, ℕ, zero, suc, ◌+◌, ◌-◌, ◌<◌, ◌≤◌, ◌^◌, List, [], ◌∷◌, ◌++◌}
-use Rattle.std.proofs.Common.{length, get_or, map, take, drop, Bool, true, false, refl, sym, ap, ◌∙◌}
+use Rattle.std.proofs.Common.{length, get_or, map, take, drop, Bool, true, false, refl, sym, ap}
+use Rattle.std.proofs.Common.{◌∙◌}
 use Rattle.std.proofs.Common.{◌/◌, ◌%◌, arith, subst, append_assoc, length-append, append-nil, All}
 use Rattle.std.specs.Prelude.{◌==◌, ◌&&◌, not, nat_lt, nat_le, codes}
 use Rattle.std.specs.List.{list_all}

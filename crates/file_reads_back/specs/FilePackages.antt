@@ -27,8 +27,8 @@ pub record IsFilePackage (parts : List Part) : Type 0 where
   pub size : length (package_file parts) ≤ longest_file
 
 -- The workbook file that is written of values and formulas, as an input, is the package that is
--- written of them, and that package's sheet of this name reads as these values and formulas, and the
--- styles of dates and durations.
+-- written of them, and that package's sheet of this name reads as these values and formulas, and
+-- the styles of dates and durations.
 pub record IsReadBack (name : List ℕ) (values : PlacedValues) (formulas : Placed) : Type 0 where
   pub input : package_in (package_file (written_parts WorkbookFile name values formulas))
       ≡ Some (written_parts WorkbookFile name values formulas)

@@ -19,8 +19,8 @@ use xlsx_out_as_markup::written_parts_are_cut_back;
 use xlsx_reads_back::written_packages_read_back;
 use zip_reads_back::written_archives_read_back;
 
-/// The workbook file that is written of a package, as an input, is that package, where its parts are
-/// markup and their names are names of parts.
+/// The workbook file that is written of a package, as an input, is that package, where its parts
+/// are markup and their names are names of parts.
 pub fn package_files_are_read_back()
     ensures { (parts : List Part) →
         IsFilePackage parts → package_in (package_file parts) ≡ Some parts }
@@ -44,8 +44,8 @@ pub fn written_files_are_read_back()
     written_packages_read_back();
 }
 
-/// The output of `resave NAME --xlsx`, as an input, is a package whose sheet NAME has the values and
-/// the formulas of the sheet that it was written of.
+/// The output of `resave NAME --xlsx`, as an input, is a package whose sheet NAME has the values
+/// and the formulas of the sheet that it was written of.
 pub fn resaved_files_are_read_back()
     ensures { (parts : List Part) (name output : List ℕ) →
         IsOutput (resave_file name) parts output → HasSameSheet parts name output }

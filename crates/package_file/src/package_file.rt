@@ -42,7 +42,8 @@ fn files_to_write<'a>(
     package: &'a MemoryPackage,
     texts: &'a [String],
 ) -> Result<Vec<FileToWrite<'a>>, AllocError>
-    requires { map string_bytes texts.now ≡ map (λ part. part_bytes part.events) «package».now.parts }
+    requires { map string_bytes texts.now
+        ≡ map (λ part. part_bytes part.events) «package».now.parts }
     ensures { IfOk result (λ files. files_of files.items ≡ part_files «package».now.parts) }
 {
     let mut files = Vec::new(alloc);

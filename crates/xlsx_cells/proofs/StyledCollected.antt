@@ -1,5 +1,6 @@
 -- How the values of a sheet's data are collected, each with the style id of its cell.
-use Rattle.std.proofs.Common.{◌≡◌, ℕ, suc, List, [], ◌∷◌, ◌++◌, Bool, Ok, true, refl, sym, ◌∙◌, ap, length, map}
+use Rattle.std.proofs.Common.{◌≡◌, ℕ, suc, List, [], ◌∷◌, ◌++◌, Bool, Ok, true, refl, sym, ◌∙◌, ap}
+use Rattle.std.proofs.Common.{length, map}
 use Rattle.std.specs.Prelude.{filter, zip}
 use Rattle.std.proofs.lemmas.List.Elements.{filter-append}
 use Rattle.cell_data.specs.CellValue.{CellValue, value_of_data_ref}
@@ -52,7 +53,8 @@ styled_further values ids value id same =
 
 -- the values of a sheet's data were collected up to here
 pub record HasStyled
-    (wants : Wants) (grounds : Grounds) (old now : Stream) (found : List ((ℕ × ℕ) × (CellValue × ℕ))) : Type 0
+    (wants : Wants) (grounds : Grounds) (old now : Stream)
+    (found : List ((ℕ × ℕ) × (CellValue × ℕ))) : Type 0
   where
     pub before : List Mark
     pub earlier : List FormulaText

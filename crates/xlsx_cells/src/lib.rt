@@ -2,8 +2,8 @@
 //!
 //! Rooms: `head` (what stands before a sheet's data), `counters` (rows and columns), `finding` (the
 //! next cell), `children` (what stands in a cell), `cell_read` (a cell, whole), `sheet_cursor`
-//! (what is kept of the data), `sheet_cells` (all cells), `styled_cells` (all values with their style
-//! ids).
+//! (what is kept of the data), `sheet_cells` (all cells), `styled_cells` (all values with their
+//! style ids).
 //!
 //! **Marks.** Of a sheet's data only cells count, and the starts and ends of rows outside them.
 //! `marks` cuts the events of the data into these, and what a sheet says is said over marks: which

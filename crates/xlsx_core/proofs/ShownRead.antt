@@ -1,5 +1,6 @@
 -- A sheet that is read as its cells are shown.
-use Rattle.std.proofs.Common.{◌≡◌, ◌∙◌, ℕ, List, [], ◌∷◌, ◌++◌, map, Bool, Option, Some, None, ap, sym, refl, subst}
+use Rattle.std.proofs.Common.{◌≡◌, ◌∙◌, ℕ, List, [], ◌∷◌, ◌++◌, map, Bool, Option, Some, None, ap}
+use Rattle.std.proofs.Common.{sym, refl, subst}
 use Rattle.std.proofs.Common.{Result, Ok, Err}
 use Rattle.std.specs.Prelude.{IsSomeAnd, IfOk}
 use Rattle.xlsx_error.specs.declared.error.XlsxError.{XlsxError}

@@ -266,8 +266,8 @@ optional_fits form Known formulas position (Some formula) own =
     formula_fits Known position (written_formula form formulas position formula)
     (λ known. written_formula_text form formulas position formula (own known))
 
-value_or_nothing : (form : WrittenForm) (found : Option CellValue) → HoldsOf (HasPartText form) found
-    → HasPartText form (unwrap_or found nothing)
+value_or_nothing : (form : WrittenForm) (found : Option CellValue)
+    → HoldsOf (HasPartText form) found → HasPartText form (unwrap_or found nothing)
 value_or_nothing form None own = tt
 value_or_nothing form (Some value) own = own
 

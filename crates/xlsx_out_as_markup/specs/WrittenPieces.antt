@@ -50,8 +50,8 @@ HasPartText form (text bytes) = IsTextIn form bytes
 HasPartText form (iso_time bytes) = IsPartText bytes
 HasPartText form _ = ⊤
 
--- The texts of a sheet are UTF-8 without a character 0, as each Rust `&str` without a NUL is; one of
--- a value may have it in a workbook file. It can't be left out: where the name is the byte 0, or
+-- The texts of a sheet are UTF-8 without a character 0, as each Rust `&str` without a NUL is; one
+-- of a value may have it in a workbook file. It can't be left out: where the name is the byte 0, or
 -- the byte 255, or a formula is, the bytes of the part that it stands in are no text, and are read
 -- as one flaw (`NotText`).
 pub record HaveTexts (form : WrittenForm) (name : List ℕ) (values : PlacedValues)

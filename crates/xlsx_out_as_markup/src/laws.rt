@@ -20,10 +20,11 @@ pub fn written_parts_are_spelled()
 
 /// The bytes of each part that is written, read as a part, are its events, where the sheet's name
 /// and the texts of its values and formulas are UTF-8 without a character 0 (`placed`), which is
-/// written as an escape in a value's text of a workbook file; of those that ranges hold it is enough
-/// that none has such a character 0 (`ranges`).
+/// written as an escape in a value's text of a workbook file; of those that ranges hold it is
+/// enough that none has such a character 0 (`ranges`).
 pub fn written_parts_are_cut_back()
-    ensures placed { (form : WrittenForm) (name : List ℕ) (values : PlacedValues) (formulas : Placed) →
+    ensures placed { (form : WrittenForm) (name : List ℕ) (values : PlacedValues)
+        (formulas : Placed) →
         HaveTexts form name values formulas → AreCutBack (written_parts form name values formulas) }
     ensures ranges { (form : WrittenForm) (name : List ℕ) (values : Range Data)
         (formulas : Range (String Global)) →

@@ -113,5 +113,7 @@ cells-init g c =
       keeps = keeps_none is_cell old.base old.reading going.reading going.within;
       going = going;
       inside = rw none search rules;
-      collected = λ told. rw none (styled_none c.args.asked.wants (grounds_of c.args.asked.book) old c.requires.fresh);
+      collected = λ told.
+          rw none (styled_none c.args.asked.wants (grounds_of c.args.asked.book) old
+          c.requires.fresh);
     }

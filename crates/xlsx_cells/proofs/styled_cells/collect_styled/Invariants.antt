@@ -19,7 +19,8 @@ invariant-cells g l =
       going : IsGoing now;
       inside : AreInSheet (cells_gathered l.cells);
       collected : old.reading.source.is_told ≡ true →
-          HasStyled l.asked.wants (grounds_of l.asked.book) old now (styled_entries (cells_gathered l.cells));
+          HasStyled l.asked.wants (grounds_of l.asked.book) old now
+          (styled_entries (cells_gathered l.cells));
     }
 
 abbrev pub decreases-cells : goal.decreases-cells
