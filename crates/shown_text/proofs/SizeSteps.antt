@@ -8,7 +8,7 @@ use Rattle.std.specs.Fmt.{decimal}
 use Rattle.std.proofs.Math.Nat.{pow-le-pow_right, mod-eq_of_lt}
 use Rattle.std.proofs.lemmas.Bool.{cases_lt}
 use Rattle.std.proofs.lemmas.Bool.Decides.{nat_tests}
-use Rattle.std.proofs.lemmas.Fmt.{decimal_is_IsNumeral_wide}
+use Rattle.std.proofs.lemmas.Fmt.{decimal_is_IsNumeral_wide, length-decimal-le_wide}
 use Rattle.std.proofs.lemmas.Int.{ints}
 use Rattle.decimals.specs.Rounding.{digit_count, digits_behind, nearest, rounded_number}
 use Rattle.decimals.proofs.Nearest.{nearest_most}
@@ -23,6 +23,16 @@ use Rattle.shown_text.specs.GeneralText.{first_power, scientific, text_in_places
 -- a number has a digit
 pub some_digits : (n : ℕ) → n < 2 ^ 128 → 0 < length (decimal n)
 some_digits n small = (decimal_is_IsNumeral_wide n (omega arith)).0.0
+
+-- a number below ten to the power 15 has no digit behind the first fifteen
+pub none_behind : (n : ℕ) → n < 10 ^ 15 → digits_behind 15 n ≡ 0
+none_behind n small =
+    let few = length-decimal-le_wide 15 n (omega arith) small (omega (arith, small)) in
+    omega (arith, few)
+
+-- without none of its digits a number is itself
+pub nearest_itself : (n : ℕ) → nearest 0 n ≡ n
+nearest_itself n = omega arith
 
 -- the size of a number in fifteen digits
 pub size_is : (m e : ℤ) (behind : ℕ) → behind ≡ digit_count (nat_abs m) - 15 →

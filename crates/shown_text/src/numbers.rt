@@ -82,7 +82,8 @@ fn push_nearest(
         return push_laid_out(out, forced, &Digits { text: "", zeros: 0 }, section);
     }
     let mut buffer = Buffer::new();
-    let text = buffer.format(whole);
+    // A number of 64 bits is written in fewer steps.
+    let text = buffer.format(whole as u64);
     push_laid_out(out, forced, &Digits { text, zeros }, section)
 }
 

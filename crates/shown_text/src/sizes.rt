@@ -1,7 +1,7 @@
 //! A number without its sign, by fifteen significant digits.
 ghost use Rattle.std.specs.Prelude.{◌≡◌, ◌+◌, ◌^◌, ◌<◌, ◌≤◌, length, nat_abs, SomeIff};
 ghost use Rattle.decimals.specs.Decimal.{number_of};
-ghost use Rattle.decimals.specs.Rounding.{digit_count};
+ghost use Rattle.decimals.specs.Rounding.{digit_count, digits_behind, nearest};
 ghost use Rattle.excel_dates.specs.Serials.{nearest_at};
 ghost use Rattle.shown_text.specs.Digits.{digits_above_0, nearest_digits};
 ghost use Rattle.shown_text.specs.GeneralText.{shown_digits, first_power};
@@ -13,6 +13,9 @@ use itoa::Buffer;
 
 /// How many significant digits of a number are shown.
 const SHOWN_DIGITS: usize = 15;
+
+/// The least number with more digits.
+const TOO_LONG: u128 = 1_000_000_000_000_000;
 
 /// A whole number of at most fifteen digits, or ten to the power 15, times ten to a power.
 #[derive(Clone, Copy)]
@@ -84,6 +87,32 @@ pub fn nearest_len(number: u128, power: i64) -> usize
     }
 }
 
+/// How many digits stand behind the first fifteen.
+#[tactic(auto, using(crate::proofs::SizeSteps::none_behind))]
+fn digits_behind(whole: u128) -> u32
+    ensures value { result ≡ digits_behind 15 whole }
+    ensures few { result ≤ 24 }
+{
+    // Most numbers are known to have no more without their digits being written.
+    if whole < TOO_LONG {
+        return 0;
+    }
+    digit_count(whole).saturating_sub(SHOWN_DIGITS) as u32
+}
+
+/// The nearest whole number without so many digits, halves upward.
+#[tactic(auto, using(crate::proofs::SizeSteps::nearest_itself))]
+fn without_digits(whole: u128, digits: u32) -> u128
+    requires few { digits ≤ 24 }
+    requires room { whole ≤ 2 ^ 127 }
+    ensures { result ≡ nearest digits whole }
+{
+    if digits == 0 {
+        return whole;
+    }
+    nearest(whole, digits)
+}
+
 impl Size {
     /// The nearest number of fifteen digits, halves away from 0, without its sign.
     pub fn of(number: &Decimal) -> Size
@@ -91,9 +120,9 @@ impl Size {
         ensures power { result.power ≡ (shown_digits (number_of number.now)).1 }
     {
         let whole = number.mantissa().unsigned_abs();
-        let behind = digit_count(whole).saturating_sub(SHOWN_DIGITS) as u32;
+        let behind = digits_behind(whole);
         Size {
-            number: nearest(whole, behind),
+            number: without_digits(whole, behind),
             power: i64::from(number.exponent()) + i64::from(behind),
         }
     }

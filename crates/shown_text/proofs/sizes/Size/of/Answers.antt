@@ -9,17 +9,17 @@ use Rattle.shown_text.proofs.sizes.Size.of.Goals as goal
 pub invariant_of-result-clause-few : goal.invariant_of-result-clause-few
 invariant_of-result-clause-few c =
     let small : c.unsigned_abs-whole.result < 2 ^ 128 = search rules in
-    let is : c.saturating_sub-behind.result ≡ digit_count c.unsigned_abs-whole.result - 15 =
+    let is : c.digits_behind-behind.result ≡ digit_count c.unsigned_abs-whole.result - 15 =
     search rules in
-    let few = few_kept c.unsigned_abs-whole.result c.saturating_sub-behind.result small is in
-    omega (arith, few, c.nearest.ensures)
+    let few = few_kept c.unsigned_abs-whole.result c.digits_behind-behind.result small is in
+    omega (arith, few, c.without_digits.ensures)
 
 pub invariant_of-result-clause-near : goal.invariant_of-result-clause-near
 invariant_of-result-clause-near c =
     let e = c.args.number.now.exponent in
-    let near = near_power e c.saturating_sub-behind.result (search rules) (search rules) in
+    let near = near_power e c.digits_behind-behind.result (search rules) (search rules) in
     let sum : to_z w64 (of_z w64 (to_z w64 (of_z w64 c.from.result)
-    +ℤ to_z w64 (of_z w64 c.from-2.result))) ≡ e +ℤ pos c.saturating_sub-behind.result =
+    +ℤ to_z w64 (of_z w64 c.from-2.result))) ≡ e +ℤ pos c.digits_behind-behind.result =
     omega (arith, ints) in
     omega (arith, near, ap nat_abs sum)
 
@@ -27,17 +27,17 @@ pub returns-clause-number : goal.returns-clause-number
 returns-clause-number c =
     let m = c.args.number.now.mantissa in
     let whole : c.unsigned_abs-whole.result ≡ nat_abs m = search rules in
-    let is : c.saturating_sub-behind.result ≡ digit_count (nat_abs m) - 15 = search rules in
-    let known : c.nearest.result ≡ nearest c.saturating_sub-behind.result (nat_abs m) =
+    let is : c.digits_behind-behind.result ≡ digit_count (nat_abs m) - 15 = search rules in
+    let known : c.without_digits.result ≡ nearest c.digits_behind-behind.result (nat_abs m) =
     search rules in
-    known ∙ size_is m c.args.number.now.exponent c.saturating_sub-behind.result is
+    known ∙ size_is m c.args.number.now.exponent c.digits_behind-behind.result is
 
 pub returns-clause-power : goal.returns-clause-power
 returns-clause-power c =
     let m = c.args.number.now.mantissa in
     let e = c.args.number.now.exponent in
-    let is : c.saturating_sub-behind.result ≡ digit_count (nat_abs m) - 15 = search rules in
+    let is : c.digits_behind-behind.result ≡ digit_count (nat_abs m) - 15 = search rules in
     let sum : to_z w64 (of_z w64 (to_z w64 (of_z w64 c.from.result)
-    +ℤ to_z w64 (of_z w64 c.from-2.result))) ≡ e +ℤ pos c.saturating_sub-behind.result =
+    +ℤ to_z w64 (of_z w64 c.from-2.result))) ≡ e +ℤ pos c.digits_behind-behind.result =
     omega (arith, ints) in
-    sum ∙ power_is m e c.saturating_sub-behind.result is
+    sum ∙ power_is m e c.digits_behind-behind.result is
