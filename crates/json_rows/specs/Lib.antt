@@ -1,1 +1,4 @@
+pub mod ObjectsErrors
+pub mod RowForms
+pub mod RowObjects
 pub mod RowValues

@@ -13,8 +13,8 @@ impl Delimiter {
     pub const TAB: Delimiter = Delimiter { byte: b'\t' };
 
     /// The delimiter that a byte is. None where it is none: a quotation mark, a CR or an LF stands
-    /// for itself in a field with quotes alone (RFC 4180), and a byte of 128 and more is a part of a
-    /// character of UTF-8.
+    /// for itself in a field with quotes alone (RFC 4180), and a byte of 128 and more is a part of
+    /// a character of UTF-8.
     pub fn new(byte: u8) -> Option<Delimiter>
         ensures { result ≡ delimiter_by byte }
     {

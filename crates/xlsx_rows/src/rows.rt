@@ -18,8 +18,8 @@ use cell_data::{Data, Range, RowCells};
 use csv::Writer;
 use std::alloc::{AllocError, Global};
 
-/// The most cells of an area that is written.
-const MOST_CELLS: usize = 16_777_216;
+/// The most cells of an area whose rows are written.
+pub const MOST_CELLS: usize = 16_777_216;
 
 /// U+FEFF in UTF-8.
 const BYTE_ORDER_MARK: [u8; 3] = [0xEF, 0xBB, 0xBF];

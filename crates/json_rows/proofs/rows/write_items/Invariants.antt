@@ -3,7 +3,7 @@ use Rattle.cell_data.specs.CellValue.{value_of_data}
 use Rattle.cell_data.specs.RangeItems.{row_left}
 use Rattle.json.specs.Tree.{items_tokens}
 use Rattle.json_rows.specs.RowValues.{row_json}
-use Rattle.json_rows.proofs.rows.write_row.Given as goal
+use Rattle.json_rows.proofs.rows.write_items.Given as goal
 
 abbrev pub invariant-loop-value : goal.invariant-loop-value
 invariant-loop-value l = record {
