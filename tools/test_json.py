@@ -12,8 +12,10 @@ from escapes import unescaped
 from noted import SHEET_NAME, package_with, told, with_data
 from test_comments import ONE, RELATED
 from test_program import BUILDS, OUT
-from test_rows import STYLES, cell
+from test_rows import STYLES, cell, texts
 from test_samples import WORKBOOKS, package_text
+from test_tables import NUT, TABLE_NAME, table
+from test_tables import RELATED as WITH_TABLE
 
 # Each control character of XML's texts, quotes, a backslash, a slash, U+2028, and one character
 # beyond the first plane.
@@ -137,6 +139,133 @@ ROWS = [
     ("the form twice", "", ["--json"], [(2, b"", b"usage\n")]),
 ]
 
+NO_HEADER = [(16, b"", b"no header row\n")]
+USAGE = [(2, b"", b"usage\n")]
+
+
+def two_columns(key):
+    return [(16, b"", f"two columns '{key}'\n".encode())]
+
+
+# What a case shows, the data of a sheet, the options beside `--header`, and the objects or a
+# refusal.
+HEADED = [
+    ("no cell", "", [], NO_HEADER),
+    ("a formula without a value", '<c r="A1"><f>B1</f></c>', [], NO_HEADER),
+    ("a header alone", texts(A1="Name", B1="Count"), [], ""),
+    (
+        "keys in the order of the columns",
+        texts(A1="Name", B1="Count", C1="Age") + texts(A2="nut") + cell("B2", "3"),
+        [],
+        '{"Name":"nut","Count":3,"Age":null}\n',
+    ),
+    (
+        "rows in their order, and one without a value",
+        texts(B2="b", C2="a") + cell("B3", "1") + cell("C5", "1", ' t="b"'),
+        [],
+        '{"b":1,"a":null}\n{"b":null,"a":null}\n{"b":null,"a":true}\n',
+    ),
+    (
+        "an empty field of the header",
+        texts(A1="a", C1="c") + cell("B2", "2"),
+        [],
+        '{"a":null,"":2,"c":null}\n',
+    ),
+    ("two empty fields", texts(A1="a") + cell("C2", "2"), [], two_columns("")),
+    (
+        "fields of each kind of value",
+        cell("A1", "1E+3")
+        + cell("B1", "1", ' t="b"')
+        + cell("C1", "#N/A", ' t="e"')
+        + cell("D1", "45292.5", ' s="1"')
+        + cell("E1", "2024-01-01", ' t="d"')
+        + cell("A2", "1"),
+        [],
+        '{"1000":1,"true":null,"#N/A":null,"45292.5":null,"2024-01-01":null}\n',
+    ),
+    (
+        "a date in the header as its text",
+        cell("A1", "45292.5", ' s="1"') + cell("A2", "45292", ' s="1"'),
+        ["--dates"],
+        '{"2024-01-01T12:00:00":"2024-01-01"}\n',
+    ),
+    (
+        "a serial without a date in the header",
+        cell("A1", "-1.25", ' s="1"') + cell("A2", "1"),
+        ["--dates"],
+        '{"-1.25":1}\n',
+    ),
+    (
+        "digits of the header, too",
+        cell("A1", "1234") + cell("A2", "1234"),
+        ["--digits=2"],
+        '{"1200":1200}\n',
+    ),
+    (
+        "what the cells show",
+        cell("A1", "45292", ' s="1"') + texts(B1="b") + cell("A2", "0.5"),
+        ["--shown"],
+        '{"01-01-24":"0.5","b":null}\n',
+    ),
+    ("the area from A1", cell("A2", "1"), ["--from-a1"], '{"":1}\n'),
+    ("the area from A1, of two columns", cell("B2", "1"), ["--from-a1"], two_columns("")),
+    (
+        "a key that has what JSON escapes",
+        cell("A1", HARD, ' t="str"') + cell("A2", "1"),
+        [],
+        f"{{{HARD_TEXT}:1}}\n",
+    ),
+    (
+        "a key of characters that only an escape writes",
+        '<c r="A1" t="inlineStr"><is><t>_x0001__x001F_</t></is></c>' + cell("A2", "1"),
+        [],
+        '{"\\u0001\\u001f":1}\n',
+    ),
+    ("two equal keys", texts(A1="Amount", B1="Name", C1="Amount"), [], two_columns("Amount")),
+    ("two keys in other cases", texts(A1="a", B1="A", A2="1"), [], '{"a":"1","A":null}\n'),
+    ("equal fields of two kinds", cell("A1", "1") + texts(B1="1"), [], two_columns("1")),
+    (
+        "the first that is one of those before it",
+        texts(A1="a", B1="b", C1="b", D1="a"),
+        [],
+        two_columns("b"),
+    ),
+    (
+        "dates that have one text",
+        cell("A1", "45292", ' s="1"') + texts(B1="2024-01-01"),
+        ["--dates"],
+        two_columns("2024-01-01"),
+    ),
+    (
+        "too large an area",
+        cell("A1", "1") + cell("XFD1025", "1"),
+        [],
+        [(10, b"", b"box too large\n")],
+    ),
+    ("an option of CSV", "", ["--bom"], USAGE),
+    ("the header twice", "", ["--header"], USAGE),
+]
+
+# What a case shows, the part of a table, the options, and the objects or a refusal.
+KEYED = [
+    ("headers and totals", table(), [], '{"Name":"nut","Qty":3}\n{"Name":null,"Qty":null}\n'),
+    ("no row of data", table(ref="A1:B2"), [], ""),
+    ("two columns of one name", table(columns=("Qty", "Qty")), [], two_columns("Qty")),
+    (
+        "two columns of one name, and no row",
+        table(ref="A1:B2", columns=("Qty", "Qty")),
+        [],
+        two_columns("Qty"),
+    ),
+    ("a name that is missing", table(ref="A1:B3", columns=["Name"]), [], '{"Name":"nut","":3}\n'),
+    ("two that are", table(ref="A1:B3", columns=[]), [], two_columns("")),
+    ("more names than columns", table(ref="A1:A3", columns=("a", "b", "a")), [], '{"a":"nut"}\n'),
+    ("digits", table(ref="A1:B3"), ["--dates", "--digits=1"], '{"Name":"nut","Qty":3}\n'),
+    ("an option of the rows of a sheet", table(), ["--from-a1"], USAGE),
+    ("a header", table(), ["--header"], USAGE),
+    ("an option of CSV", table(), ["--crlf"], USAGE),
+]
+
 KEYS = {
     "sheets": ("name", "type", "state"),
     "names": ("name", "formula"),
@@ -229,6 +358,15 @@ def field_of_item(item):
     return str(item)
 
 
+def column_name(place):
+    """The letters of a column, counted from 1."""
+    letters = ""
+    while place:
+        place, digit = divmod(place - 1, 26)
+        letters = chr(ord("A") + digit) + letters
+    return letters
+
+
 class Json(unittest.TestCase):
     def run_on(self, package, *words):
         ran = subprocess.run([OUT / "xlsx_tool", *words], input=package, capture_output=True)
@@ -257,6 +395,61 @@ class Json(unittest.TestCase):
         for shown, data, options, wanted in ROWS:
             package = package_with((SHEET_NAME, with_data(data)), STYLES)
             self.check(package, ["rows", "S", "--json", *options], wanted, shown)
+
+    def test_rows_have_their_objects(self):
+        for shown, data, options, wanted in HEADED:
+            package = package_with((SHEET_NAME, with_data(data)), STYLES)
+            self.check(package, ["rows", "S", "--json", "--header", *options], wanted, shown)
+
+    def test_rows_of_tables_have_their_objects(self):
+        for shown, part, options, wanted in KEYED:
+            package = package_with(WITH_TABLE, (TABLE_NAME, part), NUT)
+            self.check(package, ["rows-table", "T1", "--json", *options], wanted, shown)
+        for name in ("T2", "t1", "S", ""):
+            words = ["rows-table", name, "--json"]
+            refusal = [(6, b"", f"Table '{name}' not found\n".encode())]
+            self.check(package, words, refusal, name)
+
+    def test_a_row_may_have_any_number_of_keys(self):
+        last = 16_384
+        names = [column_name(place) for place in range(1, last + 1)]
+        data = "".join(cell(f"{name}1", f"{place}") for place, name in enumerate(names, 1))
+        data += cell("A2", "5") + cell("XFD2", "7")
+        package = package_with((SHEET_NAME, with_data(data)))
+        pairs = [(str(place), None) for place in range(1, last + 1)]
+        pairs[0], pairs[-1] = ("1", 5), (str(last), 7)
+        wanted = json.dumps(dict(pairs), separators=(",", ":")) + "\n"
+        self.check(package, ["rows", "S", "--json", "--header"], wanted, "16,384 keys")
+        package = package_with((SHEET_NAME, with_data(data.replace(">16384<", ">1<"))))
+        words = ["rows", "S", "--json", "--header"]
+        self.check(package, words, two_columns("1"), "the first and the last key")
+
+    def test_objects_of_the_samples_have_the_items_of_their_arrays(self):
+        """Each object has the fields of the first record as keys, and the items of its array, or two
+        of these fields are equal."""
+        for path in WORKBOOKS:
+            package = package_text(path)
+            for sheet in self.run_on(package, "sheets").splitlines():
+                name, typ, _ = sheet.split("\t")
+                for options in ([], ["--dates"]) if typ == "worksheet" else ():
+                    words = ["rows", unescaped(name), "--json", *options]
+                    arrays = self.run_on(package, *words).split("\n")[:-1]
+                    rows = self.run_on(package, "csv", unescaped(name), *options)
+                    fields = next(csv.reader(io.StringIO(rows, newline="")), [])
+                    if not arrays or len(set(fields)) < len(fields):
+                        ran = subprocess.run(
+                            [OUT / "xlsx_tool", *words, "--header"],
+                            input=package,
+                            capture_output=True,
+                        )
+                        self.assertEqual((ran.returncode, ran.stdout), (16, b""), words)
+                        continue
+                    own = self.run_on(package, *words, "--header").split("\n")[:-1]
+                    wanted = [
+                        list(zip(fields, json.loads(line, parse_float=Decimal, parse_int=Decimal)))
+                        for line in arrays[1:]
+                    ]
+                    self.assertEqual([pairs_in(line) for line in own], wanted, words)
 
     def test_all_columns_are_items(self):
         data = "".join(cell(f"{column}1", "1") for column in ("A", "XFD"))
@@ -321,6 +514,12 @@ class Json(unittest.TestCase):
             ["cells", "S", "--json", "--json"],
             ["cells", "--json", "S"],
             ["table", "T", "--json"],
+            ["rows", "S", "--header"],
+            ["rows", "S", "--header", "--json"],
+            ["rows-table", "T"],
+            ["rows-table", "T", "--json", "--json"],
+            ["csv", "S", "--header"],
+            ["csv-table", "T", "--header"],
             ["check", "S", "--json"],
             ["upgrade", "--json"],
             ["sheets", "--JSON"],

@@ -13,7 +13,7 @@ from cutting import cut
 from escapes import unescaped
 from fixtures import BROKEN_THEME, LISTED, MINIMAL, MIXED, SALES, archive, relationships
 from place import OF_GATE
-from words import A_TABLE, AS_JSON, COMMANDS
+from words import A_TABLE, AS_JSON, COMMANDS, ROWS_AS_JSON
 
 # What a part raises that can't be unpacked.
 BROKEN = (zipfile.BadZipFile, zlib.error, NotImplementedError, RuntimeError, EOFError)
@@ -284,7 +284,7 @@ class WholeText(unittest.TestCase):
                 yield [command.word]
                 continue
             for name in names[kind_of(command, taken[0])]:
-                if command.word == "rows":
+                if command.word in ROWS_AS_JSON:
                     yield [command.word, name, AS_JSON]
                 elif len(taken) == 1:
                     yield [command.word, name]

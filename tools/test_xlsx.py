@@ -348,6 +348,23 @@ class Wrapper(FrontCopy):
                 "--shown goes by the formats of cells, and takes no --digits beside it",
             ),
             (["book.xlsx", "csv-table", "T", "--shown"], "csv-table takes no option '--shown'"),
+            (["book.xlsx", "csv", "S", "--header"], "csv takes no option '--header'"),
+            (
+                ["book.xlsx", "rows", "S", "--header"],
+                "rows takes --json: there are no rows in another form but those of csv",
+            ),
+            (
+                ["book.xlsx", "rows-table", "T"],
+                "rows-table takes --json: there are no rows in another form but those of csv-table",
+            ),
+            (
+                ["book.xlsx", "rows-table", "T", "--json", "--header"],
+                "rows-table takes no option '--header'",
+            ),
+            (
+                ["book.xlsx", "rows", "S", "--json", "--shown", "--dates"],
+                "--shown goes by the formats of cells, and takes no --dates beside it",
+            ),
             (["book.xlsx", "cells", "--sheet"], "--sheet takes the number of a sheet, from 1"),
             (["cells", "--sheet", "1", "--sheet", "1"], "--sheet stands twice"),
             (["book.xlsx", "csv", "--all"], "--all takes the name of a folder"),
@@ -433,6 +450,9 @@ class Wrapper(FrontCopy):
             (["cells", "--", "--"], ["cells", "--"]),
             (["pivot", "--", "-a", "--b"], ["pivot", "-a", "--b"]),
             (["csv-table", "--bom", "--", "--bom"], ["csv-table", "--bom", "--bom"]),
+            (["rows", "--header", "--json", "S"], ["rows", "S", "--json", "--header"]),
+            (["rows", "S", "--shown", "--json"], ["rows", "S", "--json", "--shown"]),
+            (["rows-table", "--json", "T"], ["rows-table", "T", "--json"]),
         ):
             with self.subTest(words=words):
                 said = f"{' | '.join(wanted)}\n".encode()

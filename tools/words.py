@@ -107,8 +107,20 @@ COMMANDS = {
             (
                 "prints the rows of the values of the worksheet NAME by --json, which it",
                 "takes always, as arrays of JSON, with null where there is no value, and",
-                "with these options of csv: --dates --digits=N --from-a1. As in",
+                "with these options of csv: --dates --digits=N --from-a1 --shown. As in",
                 '["Goods",2,null,true]',
+                "By --header the fields of the first row are the keys of objects, as in",
+                '{"Name":"Goods","Count":2,"Price":null,"Sold":true}',
+            ),
+        ),
+        Command(
+            "rows-table",
+            ("NAME",),
+            A_TABLE,
+            (
+                "prints the rows of the table NAME by --json, which it takes always, as",
+                "objects of JSON, whose keys are the names of its columns. It takes",
+                "--dates and --digits=N",
             ),
         ),
         Command(
@@ -230,9 +242,13 @@ FLAGS = {
 # A list has its lines as objects of JSON by this option.
 AS_JSON = "--json"
 LISTS = ("cells", "merges", "links", "comments", "sheets", "names", "tables", "pivots", "props")
-FLAGS |= {word: (AS_JSON,) for word in LISTS} | {"rows": (AS_JSON, "--dates", "--from-a1")}
+FLAGS |= {word: (AS_JSON,) for word in LISTS} | {
+    "rows": (AS_JSON, "--dates", "--from-a1", SHOWN, "--header"),
+    "rows-table": (AS_JSON, "--dates"),
+}
 WRITE_CSV = ("csv", "csv-table")
-TAKE_DIGITS = (*WRITE_CSV, "rows")
+ROWS_AS_JSON = ("rows", "rows-table")
+TAKE_DIGITS = (*WRITE_CSV, *ROWS_AS_JSON)
 SETTINGS = {
     "--digits": (
         re.compile("[1-9]|[12][0-9]|3[0-8]"),
@@ -274,8 +290,8 @@ STANDARD_INPUT = "-"
 
 USAGE = """\
 usage: ./xlsx FILE.xlsx cells NAME       (or merges, links, comments, csv, csv-table, rows,
-                                          table, part, precedents, check or resave NAME,
-                                          dependents NAME REF,
+                                          rows-table, table, part, precedents, check or
+                                          resave NAME, dependents NAME REF,
                                           pivot SHEET NAME, or sheets, names, tables,
                                           pivots, props or upgrade)
        ./xlsx FILE.xlsx csv --all FOLDER
@@ -430,8 +446,9 @@ def wrong_option(asked):
             return f"{word} takes no option '{key}'"
     if asked.saved is not None and AS_FILE in asked.options:
         return f"{TO} writes a workbook file, and takes no {AS_FILE} beside it"
-    if word == "rows" and AS_JSON not in asked.options:
-        return f"{word} takes {AS_JSON}: there are no rows in another form but those of csv"
+    if word in ROWS_AS_JSON and AS_JSON not in asked.options:
+        csv = WRITE_CSV[ROWS_AS_JSON.index(word)]
+        return f"{word} takes {AS_JSON}: there are no rows in another form but those of {csv}"
     for option in asked.options:
         key, equals, value = option.partition("=")
         if key in given:

@@ -1,6 +1,7 @@
 -- Keys that are looked at one behind the other, and members that none is left of.
 use Rattle.std.proofs.Common.{◌≡◌, ◌∙◌, ℕ, ◌+◌, ◌<◌, ◌||◌, Bool, true, false, cond, List, [], ◌∷◌}
-use Rattle.std.proofs.Common.{length, drop, get_or, map, refl, sym, ap, String, Global, string_bytes}
+use Rattle.std.proofs.Common.{length, drop, get_or, map, refl, sym, ap, String, Global}
+use Rattle.std.proofs.Common.{string_bytes}
 use Rattle.std.proofs.Common.{Option, Some, Bor}
 use Rattle.std.specs.Prelude.{not, if◌then◌else◌}
 use Rattle.std.specs.BTreeMap.{is_at}
@@ -47,6 +48,7 @@ double_further keys i own key before is within named apart =
     ∙ ap (λ (test : Bool). if test then Some key else double_behind (key ∷ before) rest) apart
 
 -- no member is left where no value is
-pub no_value : (options : CsvOptions) (keys : List (List ℕ)) → row_members options keys [] ≡ no_members
+pub no_value : (options : CsvOptions) (keys : List (List ℕ)) → row_members options keys [] ≡
+    no_members
 no_value options [] = refl
 no_value options (key ∷ keys) = refl

@@ -227,7 +227,8 @@ pub fn headed_rows_json(
 ) -> Result<Vec<u8>, ObjectsError>
     ensures rows { IfOk result (λ bytes. bytes.items
         ≡ headed_lines options.now (row_items range.now)) }
-    ensures apart { OnOk result (first_double (keys_over options.now (row_items range.now)) ≡ None) }
+    ensures apart { let keys = keys_over options.now (row_items range.now) in
+        OnOk result (first_double keys ≡ None) }
     ensures twice { IfErr result (IsOfKeys (keys_over options.now (row_items range.now))) }
     ensures large { (16777216 < box_count range.now) ↔ (result ≡ Err BoxTooLarge) }
     ensures none { (height_of (bounds_of range.now) ≡ 0) ↔ (result ≡ Err NoHeader) }

@@ -1,7 +1,9 @@
 -- The workbook file that is made of a sheet that was read, and when none is.
-use Rattle.std.proofs.Common.{◌≡◌, ◌∙◌, ℕ, zero, suc, ◌+◌, ◌<◌, ◌≤◌, ◌^◌, List, [], ◌∷◌, map, length}
+use Rattle.std.proofs.Common.{◌≡◌, ◌∙◌, ℕ, zero, suc, ◌+◌, ◌<◌, ◌≤◌, ◌^◌, List, [], ◌∷◌, map}
+use Rattle.std.proofs.Common.{length}
 use Rattle.std.proofs.Common.{get_or, Bool, true, false, refl, sym, ap, arith, inl, inr, subst}
-use Rattle.std.specs.Prelude.{◌⊎◌, ◌&&◌, not, nat_le, nat_lt, Result, Ok, Err, IfOk, IfErr, Vec, String}
+use Rattle.std.specs.Prelude.{◌⊎◌, ◌&&◌, not, nat_le, nat_lt, Result, Ok, Err, IfOk, IfErr, Vec}
+use Rattle.std.specs.Prelude.{String}
 use Rattle.std.specs.List.{All, list_all}
 use Rattle.std.specs.Str.{IsUtf8}
 use Rattle.std.specs.declared.alloc.Global.{Global}
@@ -83,7 +85,12 @@ module _ (parts : List Part) (name : List ℕ) (values : Range Data)
           reads = reads;
           writable = writable;
           named = named;
-          fits = and_from _ _ (ap not none_left) (le-leb _ _ (omega (arith, size, ap length saved)));
+          fits = and_from _ _ (ap not none_left) (le-leb _ _ (omega (
+            arith,
+            size,
+            ap length
+                saved,
+          )));
           saved = saved;
         }
     file_made writable named (Err error) is size = tt
@@ -99,7 +106,8 @@ module _ (parts : List Part) (name : List ℕ) (values : Range Data)
     no_fit (inr long) =
         let size = ap (λ (own : List Part). length (package_file own)) written in
         and_right _ _
-        (lt-leb (length (sheet_file name (value_pairs values) (formula_pairs formulas))) longest_file
+        (lt-leb (length (sheet_file name (value_pairs values) (formula_pairs formulas)))
+        longest_file
         (omega (arith, long, size)))
 
     -- and one that is

@@ -5,6 +5,7 @@ pub mod FilesMade
 pub mod LinksInside
 pub mod MemoryCalls
 pub mod NamedSheets
+pub mod ObjectsPlaced
 pub mod OneListing
 pub mod OneOutput
 pub mod OutputLemmas

@@ -59,7 +59,7 @@ use Rattle.xlsx_commands.specs.CacheRows.{ArePivotRows, row_lines}
 use Rattle.xlsx_commands.specs.Command.{Command, cells, sheets, names, merges, links, props, csv}
 use Rattle.xlsx_commands.specs.Command.{csv_table, tables, table, pivots, pivot, precedents}
 use Rattle.xlsx_commands.specs.Command.{dependents, check, part, upgrade, resave, sample, comments}
-use Rattle.xlsx_commands.specs.Command.{resave_file, row_arrays}
+use Rattle.xlsx_commands.specs.Command.{resave_file, json_rows, table_objects}
 use Rattle.xlsx_commands.specs.FormulaLists.{ArePrecedentLines, AreDependentLines, AreCheckLines}
 use Rattle.xlsx_commands.specs.Outputs.{IsOutput, IsResaved}
 use Rattle.xlsx_commands.specs.PartNames.{IsPartLine}
@@ -71,11 +71,14 @@ use Rattle.xlsx_commands.specs.SampleLines.{AreSampleLines, sample_name}
 use Rattle.xlsx_commands.specs.SheetLists.{HasNamed, AreMergeLines, AreLinkLines, AreCommentLines}
 use Rattle.xlsx_commands.specs.SheetLists.{merge_lines, link_lines, comment_lines}
 use Rattle.xlsx_commands.specs.TableLists.{AreTableLines, AreTableValueLines, HasTable, table_lines}
+use Rattle.xlsx_commands.specs.RowObjects.{objects_placed}
+use Rattle.xlsx_commands.specs.TableObjects.{table_keys, AreTableObjects}
 use Rattle.xlsx_commands.specs.TableRows.{AreTableRows, table_records}
 use Rattle.xlsx_commands.proofs.CachesRead.{same_cache, same_pivots}
 use Rattle.xlsx_commands.proofs.NamedSheets.{same_path}
 use Rattle.xlsx_commands.proofs.OneListing.{AreReadAlike, one_form}
-use Rattle.xlsx_commands.proofs.RowsPlaced.{HaveSameRowValues, same_rows, same_arrays}
+use Rattle.xlsx_commands.proofs.ObjectsPlaced.{same_json_rows}
+use Rattle.xlsx_commands.proofs.RowsPlaced.{HaveSameRowValues, same_rows}
 use Rattle.xlsx_commands.proofs.RowsPlaced.{row_values_alike}
 use Rattle.xlsx_commands.proofs.TablesNamed.{same_tables, same_table}
 use Rattle.list_lines.specs.Lines.{text_line}
@@ -162,7 +165,8 @@ one_row_values parts name law = row_values_alike parts parts name law (one_shown
 
 -- ---- what an opening says
 
-one_sheets : (form : LineForm) (parts : List Part) (one other : List ℕ) → AreSheetLines form parts one
+one_sheets : (form : LineForm) (parts : List Part) (one other : List ℕ)
+    → AreSheetLines form parts one
     → AreSheetLines form parts other → one ≡ other
 one_sheets form parts one other first second =
     first.listed
@@ -174,7 +178,8 @@ one_names : (form : LineForm) (parts : List Part) (one other : List ℕ) → Are
     → AreNameLines form parts other → one ≡ other
 one_names form parts one other first second =
     first.listed
-    ∙ ap (name_lines form) (are_alike parts first.opening second.opening first.opens second.opens).names
+    ∙ ap (name_lines form) (are_alike parts first.opening second.opening first.opens
+    second.opens).names
     ∙ sym second.listed
 
 -- what is said of the part of the first sheet of a name is said once
@@ -210,7 +215,8 @@ one_comments : (form : LineForm) (parts : List Part) (name one other : List ℕ)
     → AreCommentLines form parts name other → one ≡ other
 one_comments form parts name one other first second =
     first.listed
-    ∙ ap (comment_lines form) (one_named (λ path own. (named_comments_ask name path).said own) parts name
+    ∙ ap (comment_lines form) (one_named (λ path own. (named_comments_ask name path).said own) parts
+    name
     first.all second.all first.has second.has)
     ∙ sym second.listed
 
@@ -268,7 +274,8 @@ one_by_name one two first second same =
     (sorted_names two second)
     (λ name. found_name name one ∙ same name ∙ sym (found_name name two))
 
-one_properties : (form : LineForm) (parts : List Part) (one other : List ℕ) → ArePropertyLines form parts one
+one_properties : (form : LineForm) (parts : List Part) (one other : List ℕ)
+    → ArePropertyLines form parts one
     → ArePropertyLines form parts other → one ≡ other
 one_properties form parts one other first second =
     let texts : first.texts ≡ second.texts = fun_ext (λ own.
@@ -279,7 +286,8 @@ one_properties form parts one other first second =
     ≡ Ok (text_of_name second.customs name) =
     sym (first.say.custom name) ∙ second.say.custom name in cc) in
     first.listed
-    ∙ ap (λ (own : Property → Option (List ℕ)). property_lines form own ++ custom_lines form first.customs)
+    ∙ ap (λ (own : Property → Option (List ℕ)). property_lines form own
+    ++ custom_lines form first.customs)
     texts
     ∙ ap (λ (own : List (List ℕ × List ℕ)). property_lines form second.texts
     ++ custom_lines form own) customs
@@ -287,7 +295,8 @@ one_properties form parts one other first second =
 
 -- ---- tables
 
-one_tables : (form : LineForm) (parts : List Part) (one other : List ℕ) → AreTableLines form parts one
+one_tables : (form : LineForm) (parts : List Part) (one other : List ℕ)
+    → AreTableLines form parts one
     → AreTableLines form parts other → one ≡ other
 one_tables form parts one other first second =
     first.listed
@@ -356,9 +365,23 @@ one_records parts name options one other first second =
     ∙ ap (table_records options second.has.own.table.area second.has.own.table.columns) same.1
     ∙ sym second.listed
 
+one_objects : (parts : List Part) (name : List ℕ) (options : CsvOptions) (one other : List ℕ)
+    → AreTableObjects parts name options one → AreTableObjects parts name options other
+    → one ≡ other
+one_objects parts name options one other first second =
+    let same = one_table parts name first.table second.table first.has second.has in
+    let own = second.has.own in
+    first.listed
+    ∙ ap (λ (own : SheetTable). objects_placed options (table_keys own)
+    (value_pairs (table_data first.table)) own.table.area 0) same.0
+    ∙ ap (λ (values : PlacedValues). objects_placed options (table_keys own) values own.table.area 0)
+    same.1
+    ∙ sym second.listed
+
 -- ---- pivot tables
 
-one_pivots : (form : LineForm) (parts : List Part) (one other : List ℕ) → ArePivotLines form parts one
+one_pivots : (form : LineForm) (parts : List Part) (one other : List ℕ)
+    → ArePivotLines form parts one
     → ArePivotLines form parts other → one ≡ other
 one_pivots form parts one other first second =
     first.listed
@@ -400,9 +423,11 @@ one_output alike (props form) parts one other first second =
 one_output alike (csv name asked) parts one other first second =
     same_rows parts parts name asked one other (one_row_values parts name (alike parts name)) first
     second
-one_output alike (row_arrays name asked) parts one other first second =
-    same_arrays parts parts name asked one other (one_row_values parts name (alike parts name))
-    first second
+one_output alike (json_rows name asked) parts one other first second =
+    same_json_rows asked.header parts parts name asked one other
+    (one_row_values parts name (alike parts name)) first second
+one_output alike (table_objects name options) parts one other first second =
+    one_objects parts name options one other first second
 one_output alike (csv_table name options) parts one other first second =
     one_records parts name options one other first second
 one_output alike (tables form) parts one other first second =

@@ -1,6 +1,6 @@
 -- The rows of the commands: what each call gives and what it is refused for.
 use Rattle.std.proofs.Common.{◌≡◌, ◌⊎◌, ◌∙◌, ℕ, List, map, refl, sym, subst, Option, Some, None}
-use Rattle.std.specs.Prelude.{Result, Ok, Err, IfOk, IfErr}
+use Rattle.std.specs.Prelude.{Result, Ok, Err, IfOk, IfErr, string_bytes}
 use Rattle.part_events.specs.Package.{Part}
 use Rattle.cell_data.specs.CellValue.{CellValue}
 use Rattle.cell_data.specs.Pairs.{value_pairs, formula_pairs}
@@ -23,9 +23,9 @@ use Rattle.xlsx_commands.specs.declared.asked_rows.AskedRows.{AskedRows}
 use Rattle.xlsx_commands.specs.Command.{Command, cells, sheets, names, merges, links, props, csv}
 use Rattle.xlsx_commands.specs.Command.{csv_table, tables, table, pivots, pivot, precedents}
 use Rattle.xlsx_commands.specs.Command.{dependents, check, part, upgrade, resave, sample, comments}
-use Rattle.xlsx_commands.specs.Command.{resave_file, row_arrays}
+use Rattle.xlsx_commands.specs.Command.{resave_file, json_rows, table_objects}
 use Rattle.xlsx_commands.specs.Outputs.{IsOutput, RefusedWorkbookCause, IsTooLarge, OutputCause}
-use Rattle.xlsx_commands.specs.Outputs.{HasOutput, IsUnwritable}
+use Rattle.xlsx_commands.specs.Outputs.{HasOutput, IsUnwritable, HasNoKeys, HasTwoColumns}
 use Rattle.xlsx_commands.specs.ResavedFile.{fits_file}
 use Rattle.xlsx_commands.specs.PartNames.{PartPathCause}
 use Rattle.xlsx_commands.specs.PropertyLists.{text_of_name}
@@ -33,14 +33,18 @@ use Rattle.xlsx_commands.specs.SampleLines.{sample_name}
 use Rattle.xlsx_commands.specs.SheetLists.{MergesPathCause, CommentsPathCause}
 use Rattle.xlsx_commands.specs.declared.error.ToolError.{ToolError}
 use Rattle.xlsx_commands.specs.declared.error.ToolError.TheVariants.{Workbook, BoxTooLarge}
-use Rattle.xlsx_commands.specs.declared.error.ToolError.TheVariants.{Unwritable}
+use Rattle.xlsx_commands.specs.declared.error.ToolError.TheVariants.{Unwritable, NoHeader}
+use Rattle.xlsx_commands.specs.declared.error.ToolError.TheVariants.{TwoColumns}
 use Rattle.xlsx_commands.proofs.NamedSheets.{OpeningsNever, MergesNever, named_never, merges_never}
 use Rattle.xlsx_commands.proofs.CachesRead.{CachesNever, rows_never_refused}
 use Rattle.xlsx_commands.proofs.PartsNamed.{path_never}
 use Rattle.xlsx_commands.proofs.PivotsListed.{PivotsNever, pivots_never}
 use Rattle.xlsx_commands.proofs.PropertiesListed.{PropertiesNever, listed_never}
 use Rattle.xlsx_commands.proofs.OneListing.{AreReadAlike}
-use Rattle.xlsx_commands.proofs.RowsPlaced.{rows_or_large, rows_never, arrays_never}
+use Rattle.xlsx_commands.proofs.ObjectsPlaced.{read_by_json_rows, json_rows_never}
+use Rattle.xlsx_commands.proofs.ObjectsPlaced.{headless_never, double_key_never, objects_never}
+use Rattle.xlsx_commands.proofs.ObjectsPlaced.{double_name_never}
+use Rattle.xlsx_commands.proofs.RowsPlaced.{rows_or_large, rows_never}
 use Rattle.xlsx_commands.proofs.RowsPlaced.{read_by_row_values}
 use Rattle.xlsx_commands.proofs.TablesListed.{TablesNever, tables_never}
 use Rattle.xlsx_commands.proofs.TablesNamed.{AreasNever, table_never}
@@ -233,10 +237,13 @@ workbook_never never (csv name asked) parts output error prints cause =
 workbook_never never (csv_table name options) parts output error prints cause =
     table_never parts name prints.table error never.openings never.tables never.areas prints.has
     cause
-workbook_never never (row_arrays name asked) parts output error prints cause =
+workbook_never never (json_rows name asked) parts output error prints cause =
     let (values, formulas, styles, reads) =
-    read_by_row_values asked.shown parts name prints.values prints.reads in
+    read_by_json_rows asked.header parts name asked output prints in
     never.sheets parts name values formulas styles error reads cause
+workbook_never never (table_objects name options) parts output error prints cause =
+    table_never parts name prints.table error never.openings never.tables never.areas prints.has
+    cause
 workbook_never never (tables form) parts output error prints cause =
     tables_never parts prints.tables error never.openings never.tables prints.has cause
 workbook_never never (table name) parts output error prints cause =
@@ -274,9 +281,31 @@ large_never never (csv name asked) parts output prints large =
     rows_never parts name asked output (never.alike parts name) prints large
 large_never never (csv_table name options) parts output prints large =
     records_never parts name options output prints large
-large_never never (row_arrays name asked) parts output prints large =
-    arrays_never parts name asked output (never.alike parts name) prints large
+large_never never (json_rows name asked) parts output prints large =
+    json_rows_never asked.header parts name asked output (never.alike parts name) prints large
+large_never never (table_objects name options) parts output prints large =
+    objects_never parts name options output prints large
 large_never never _ parts output prints large = absurd large
+
+-- rows under keys have them
+keyless_never :
+    AreNever → (command : Command) (parts : List Part) (output : List ℕ)
+    → IsOutput command parts output → HasNoKeys command parts → ⊥
+unfolding IsOutput HasNoKeys
+keyless_never never (json_rows name asked) parts output prints none =
+    headless_never asked.header parts name asked output (never.alike parts name) prints none
+keyless_never never _ parts output prints none = absurd none
+
+-- and each once
+double_never :
+    AreNever → (command : Command) (parts : List Part) (output key : List ℕ)
+    → IsOutput command parts output → HasTwoColumns command parts key → ⊥
+unfolding IsOutput HasTwoColumns
+double_never never (json_rows name asked) parts output key prints twice =
+    double_key_never asked.header parts name asked output key (never.alike parts name) prints twice
+double_never never (table_objects name options) parts output key prints twice =
+    double_name_never parts name options output key prints twice
+double_never never _ parts output key prints twice = absurd twice
 
 -- a sheet that a workbook file holds isn't one that none can hold
 unwritable_never :
@@ -300,4 +329,8 @@ never_both never command parts output BoxTooLarge prints cause =
     large_never never command parts output prints cause
 never_both never command parts output Unwritable prints cause =
     unwritable_never never command parts output prints cause
+never_both never command parts output NoHeader prints cause =
+    keyless_never never command parts output prints cause
+never_both never command parts output (TwoColumns key) prints cause =
+    double_never never command parts output (string_bytes key) prints cause
 never_both never command parts output _ prints cause = absurd cause

@@ -69,7 +69,7 @@ meant_there position (cell ∷ cells) blank is =
       | false ↦ meant_there position cells blank is
     ]
 
-fields_meant : (options : CsvOptions) (range : Range Data) (row : ℕ)
+pub fields_meant : (options : CsvOptions) (range : Range Data) (row : ℕ)
     → value_of_data (blank_of range) ≡ nothing
     → map (data_field options) (row_values range row 0)
     ≡ fields_placed options (value_pairs range) (bounds_of range) row
@@ -97,7 +97,7 @@ rows_meant options header range is =
     ∙ ap (λ (record_at : ℕ → List ℕ). flat_map record_at rows)
     (fun_ext (λ row. ap (row_text (writer_of options)) (fields_meant options range row is))))
 
-values_meant : (range : Range Data) (row : ℕ) → value_of_data (blank_of range) ≡ nothing
+pub values_meant : (range : Range Data) (row : ℕ) → value_of_data (blank_of range) ≡ nothing
     → map value_of_data (row_values range row 0)
     ≡ values_placed (value_pairs range) (bounds_of range) row
 values_meant range row is =
@@ -301,7 +301,7 @@ pub not_both : (one two : ℕ) → one ≡ two → one ≤ 16777216 → 16777216
 not_both one two same fits large = omega arith
 
 -- the values of rows that are printed lie in one area, too large or not
-area_never : (parts : List Part) (name : List ℕ) (asked : AskedRows)
+pub area_never : (parts : List Part) (name : List ℕ) (asked : AskedRows)
     (values : List ((ℕ × ℕ) × CellValue)) → AreReadAlike parts parts name
     → HasRowValues asked.shown parts name values
     → area_count (asked_area asked.from_a1 (least_area values)) ≤ 16777216

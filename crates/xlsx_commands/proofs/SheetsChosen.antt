@@ -1,8 +1,11 @@
 -- The sheet that stands at a number, and the first worksheet, sheet by sheet.
-use Rattle.std.proofs.Common.{◌≡◌, ◌∙◌, ℕ, ◌+◌, ◌<◌, ◌≤◌, Bool, true, false, not, ◌&&◌, List, [], map}
-use Rattle.std.proofs.Common.{if◌then◌else◌, length, take, drop, get_or, ap, sym, string_bytes, Ok, Err}
+use Rattle.std.proofs.Common.{◌≡◌, ◌∙◌, ℕ, ◌+◌, ◌<◌, ◌≤◌, Bool, true, false, not, ◌&&◌, List, []}
+use Rattle.std.proofs.Common.{map}
+use Rattle.std.proofs.Common.{if◌then◌else◌, length, take, drop, get_or, ap, sym, string_bytes, Ok}
+use Rattle.std.proofs.Common.{Err}
 use Rattle.std.specs.Prelude.{Result}
-use Rattle.std.proofs.Common.{suc, Option, Some, None, option_map, subst, arith, String, Global, ◌∷◌}
+use Rattle.std.proofs.Common.{suc, Option, Some, None, option_map, subst, arith, String, Global}
+use Rattle.std.proofs.Common.{◌∷◌}
 use Rattle.std.proofs.Common.{refl}
 use Rattle.std.specs.Prelude.{slice_get}
 use Rattle.std.proofs.lemmas.List.{drop_more, drop_all, map_more, take-map}
@@ -14,7 +17,8 @@ use Rattle.xlsx_commands.specs.ChosenSheets.{sheet_at}
 use Rattle.xlsx_commands.specs.Command.{texts}
 use Rattle.xlsx_commands.specs.Request.{chosen_request}
 use Rattle.xlsx_commands.specs.declared.sheet_choice.SheetFault.{SheetFault}
-use Rattle.xlsx_commands.specs.declared.sheet_choice.SheetFault.TheVariants.{NoWorksheet, NamedBefore}
+use Rattle.xlsx_commands.specs.declared.sheet_choice.SheetFault.TheVariants.{NoWorksheet}
+use Rattle.xlsx_commands.specs.declared.sheet_choice.SheetFault.TheVariants.{NamedBefore}
 
 -- what is chosen from a place on
 abbrev pub first_from : List Sheet → ℕ → Result (List ℕ) SheetFault

@@ -72,7 +72,7 @@ blank_of_used grounds header area None range reads = absurd reads
 blank_of_used grounds header area (Some events) range (values, answers, is) = is.blank
 
 -- what is read in an area has no value where it has no cell
-blank_in : (grounds : Grounds) (header : HeaderRow) (area : Option Dimensions)
+pub blank_in : (grounds : Grounds) (header : HeaderRow) (area : Option Dimensions)
     (path : Option (List ℕ)) (parts : List Part) (range : Range Data)
     → ReadsValuesIn grounds header area path parts range → value_of_data (blank_of range) ≡ nothing
 blank_in grounds header None path parts range reads = reads.blank

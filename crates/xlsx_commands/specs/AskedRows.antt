@@ -23,6 +23,7 @@ plain_rows = record {
   };
   from_a1 = false;
   shown = false;
+  header = false;
 }
 
 -- what stands behind a front of a text
@@ -121,11 +122,13 @@ written_asked asked word =
 
 -- What a word asks further. What is shown of a value goes by the format of its cell, so that it
 -- isn't asked for beside dates or digits.
-abbrev pub option_asked : AskedRows → List ℕ → Option AskedRows
+unfoldable pub option_asked : AskedRows → List ℕ → Option AskedRows
 option_asked asked word =
     if bytes_eq word (codes "--shown")
     then unless (are_spelled asked) (record asked { shown = true })
-    else written_asked asked word
+    else (if bytes_eq word (codes "--header")
+    then unless asked.header (record asked { header = true })
+    else written_asked asked word)
 
 -- what words ask further, one behind the other
 unfoldable pub options_asked : AskedRows → List (List ℕ) → Option AskedRows
@@ -133,9 +136,19 @@ options_asked asked [] = Some asked
 options_asked asked (word ∷ words) =
     option_and_then (λ next. options_asked next words) (option_asked asked word)
 
--- what is asked of a table's rows: their area has its own corner, and values are not shown
+-- what is asked of rows as CSV, which have no keys
+abbrev pub of_csv : AskedRows → Option AskedRows
+of_csv asked = if asked.header then None else Some asked
+
+-- what words ask of the rows of a sheet as CSV
+abbrev pub csv_asked : List (List ℕ) → Option AskedRows
+csv_asked words = option_and_then of_csv (options_asked plain_rows words)
+
+-- what is asked of a table's rows: their area has its own corner, their keys are its columns, and
+-- values are not shown
 abbrev pub of_table : AskedRows → Option CsvOptions
-of_table asked = if asked.from_a1 || asked.shown then None else Some asked.options
+of_table asked =
+    if asked.from_a1 || asked.shown || asked.header then None else Some asked.options
 
 -- what words ask of the rows of a table
 abbrev pub table_rows_asked : List (List ℕ) → Option CsvOptions

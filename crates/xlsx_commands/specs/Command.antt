@@ -12,8 +12,8 @@ use Rattle.part_events.specs.Package.{Part}
 use Rattle.xlsx_sample.specs.Sample.{sample_parts}
 use Rattle.xlsx_sections.specs.NumberText.{number_text}
 use Rattle.xlsx_rows.specs.declared.options.CsvOptions.{CsvOptions}
-use Rattle.xlsx_commands.specs.AskedRows.{options_asked, plain_rows, table_rows_asked}
-use Rattle.xlsx_commands.specs.AskedArrays.{arrays_asked}
+use Rattle.xlsx_commands.specs.AskedRows.{plain_rows, csv_asked, table_rows_asked}
+use Rattle.xlsx_commands.specs.AskedArrays.{arrays_asked, objects_asked}
 use Rattle.xlsx_commands.specs.declared.asked_rows.AskedRows.{AskedRows}
 use Rattle.xlsx_commands.specs.declared.command.Command.{Command as Asked}
 use Rattle.xlsx_commands.specs.declared.command.Command.TheVariants as asked
@@ -33,7 +33,8 @@ pub data Command : Type 0 where
   props : LineForm → Command
   csv : List ℕ → AskedRows → Command
   csv_table : List ℕ → CsvOptions → Command
-  row_arrays : List ℕ → AskedRows → Command
+  json_rows : List ℕ → AskedRows → Command
+  table_objects : List ℕ → CsvOptions → Command
   tables : LineForm → Command
   table : List ℕ → Command
   pivots : LineForm → Command
@@ -58,7 +59,8 @@ command_meant (asked.Comments form name) = comments form name.now
 command_meant (asked.Props form) = props form
 command_meant (asked.Csv name rows) = csv name.now rows
 command_meant (asked.CsvTable name options) = csv_table name.now options
-command_meant (asked.Rows name own) = row_arrays name.now own
+command_meant (asked.Rows name own) = json_rows name.now own
+command_meant (asked.RowsTable name options) = table_objects name.now options
 command_meant (asked.Tables form) = tables form
 command_meant (asked.Table name) = table name.now
 command_meant (asked.Pivots form) = pivots form
@@ -160,11 +162,13 @@ three_words word name (further ∷ next ∷ words) = None
 -- a command with words behind its name: what is asked of rows, or a name in a sheet
 abbrev pub asked_command : List ℕ → List ℕ → List (List ℕ) → Option Command
 asked_command word name words =
-    if bytes_eq word (codes "csv") then option_map (csv name) (options_asked plain_rows words)
+    if bytes_eq word (codes "csv") then option_map (csv name) (csv_asked words)
     else (if bytes_eq word (codes "csv-table")
     then option_map (csv_table name) (table_rows_asked words)
-    else (if bytes_eq word (codes "rows") then option_map (row_arrays name) (arrays_asked words)
-    else three_words word name words))
+    else (if bytes_eq word (codes "rows") then option_map (json_rows name) (arrays_asked words)
+    else (if bytes_eq word (codes "rows-table")
+    then option_map (table_objects name) (objects_asked words)
+    else three_words word name words)))
 
 -- a command of a word and a name, with the words behind them
 abbrev pub command_on : List ℕ → List ℕ → List (List ℕ) → Option Command
@@ -188,7 +192,8 @@ own_parts (comments form name) = None
 own_parts (props form) = None
 own_parts (csv name rows) = None
 own_parts (csv_table name options) = None
-own_parts (row_arrays name asked) = None
+own_parts (json_rows name asked) = None
+own_parts (table_objects name options) = None
 own_parts (tables form) = None
 own_parts (table name) = None
 own_parts (pivots form) = None

@@ -12,6 +12,7 @@ pub mod PropertyLists
 pub mod Request
 pub mod ResavedFile
 pub mod RowArrays
+pub mod RowObjects
 pub mod SampleLines
 pub mod SheetLists
 pub mod SheetRows
@@ -19,5 +20,6 @@ pub mod SheetsOpened
 pub mod SheetsRefused
 pub mod Status
 pub mod TableLists
+pub mod TableObjects
 pub mod TableRows
 pub mod TablesOpened

@@ -1,5 +1,5 @@
 -- What each command prints of a package, and why it can't: a row for each command.
-use Rattle.std.specs.Prelude.{◌≡◌, ℕ, List, [], ◌∷◌, ◌++◌}
+use Rattle.std.specs.Prelude.{◌≡◌, ℕ, List, [], ◌∷◌, ◌++◌, string_bytes}
 use Rattle.part_events.specs.Package.{Part}
 use Rattle.xlsx_error.specs.declared.error.XlsxError.{XlsxError}
 use Rattle.cell_data.specs.CellValue.{CellValue}
@@ -18,23 +18,25 @@ use Rattle.xlsx_commands.specs.Command.{Command, cells, sheets, names, merges, l
 use Rattle.xlsx_commands.specs.CacheRows.{ArePivotRows, NamedPivotCause}
 use Rattle.xlsx_commands.specs.Command.{csv_table, tables, table, pivots, pivot, precedents}
 use Rattle.xlsx_commands.specs.Command.{dependents, check, part, upgrade, resave, sample, comments}
-use Rattle.xlsx_commands.specs.Command.{resave_file, row_arrays}
+use Rattle.xlsx_commands.specs.Command.{resave_file, json_rows, table_objects}
 use Rattle.xlsx_commands.specs.FormulaLists.{ArePrecedentLines, AreDependentLines, AreCheckLines}
 use Rattle.xlsx_commands.specs.PartNames.{IsPartLine, NamedPartCause}
 use Rattle.xlsx_commands.specs.PivotLists.{ArePivotLines, ListedPivotsCause}
 use Rattle.xlsx_commands.specs.ResavedFile.{IsResavedFile, HasNoFile}
 use Rattle.xlsx_commands.specs.PropertyLists.{ArePropertyLines, ListedPropertiesCause}
-use Rattle.xlsx_commands.specs.RowArrays.{AreArraysOf}
+use Rattle.xlsx_commands.specs.RowObjects.{AreJsonRows, LacksHeader, GivesTwice}
 use Rattle.xlsx_commands.specs.SampleLines.{AreSampleLines, sample_name}
 use Rattle.xlsx_commands.specs.SheetLists.{AreMergeLines, NamedMergesCause, AreLinkLines}
 use Rattle.xlsx_commands.specs.SheetLists.{NamedLinksCause, AreCommentLines, NamedCommentsCause}
 use Rattle.xlsx_commands.specs.SheetRows.{AreRowsOf, HasLargeArea}
 use Rattle.xlsx_commands.specs.TableLists.{AreTableLines, AreTableValueLines, ListedTablesCause}
 use Rattle.xlsx_commands.specs.TableLists.{NamedTableCause}
+use Rattle.xlsx_commands.specs.TableObjects.{AreTableObjects, HasDoubleName}
 use Rattle.xlsx_commands.specs.TableRows.{AreTableRows, HasLargeTable}
 use Rattle.xlsx_commands.specs.declared.error.ToolError.{ToolError}
 use Rattle.xlsx_commands.specs.declared.error.ToolError.TheVariants.{Workbook, OutOfMemory}
 use Rattle.xlsx_commands.specs.declared.error.ToolError.TheVariants.{BoxTooLarge, Unwritable}
+use Rattle.xlsx_commands.specs.declared.error.ToolError.TheVariants.{NoHeader, TwoColumns}
 
 -- these are the lines of the sheet of this name, as it is read from these parts
 pub record AreLinesOf (parts : List Part) (name lines : List ℕ) : Type 0 where
@@ -83,7 +85,8 @@ IsOutput (comments form name) parts output = AreCommentLines form parts name out
 IsOutput (props form) parts output = ArePropertyLines form parts output
 IsOutput (csv name asked) parts output = AreRowsOf parts name asked output
 IsOutput (csv_table name options) parts output = AreTableRows parts name options output
-IsOutput (row_arrays name asked) parts output = AreArraysOf parts name asked output
+IsOutput (json_rows name asked) parts output = AreJsonRows asked.header parts name asked output
+IsOutput (table_objects name options) parts output = AreTableObjects parts name options output
 IsOutput (tables form) parts output = AreTableLines form parts output
 IsOutput (table name) parts output = AreTableValueLines parts name output
 IsOutput (pivots form) parts output = ArePivotLines form parts output
@@ -108,7 +111,8 @@ RefusedWorkbookCause (comments form name) parts error = NamedCommentsCause parts
 RefusedWorkbookCause (props form) parts error = ListedPropertiesCause parts error
 RefusedWorkbookCause (csv name asked) parts error = SheetCause parts name error
 RefusedWorkbookCause (csv_table name options) parts error = NamedTableCause parts name error
-RefusedWorkbookCause (row_arrays name asked) parts error = SheetCause parts name error
+RefusedWorkbookCause (json_rows name asked) parts error = SheetCause parts name error
+RefusedWorkbookCause (table_objects name options) parts error = NamedTableCause parts name error
 RefusedWorkbookCause (tables form) parts error = ListedTablesCause parts error
 RefusedWorkbookCause (table name) parts error = NamedTableCause parts name error
 RefusedWorkbookCause (pivots form) parts error = ListedPivotsCause parts error
@@ -126,13 +130,25 @@ RefusedWorkbookCause (sample rows) parts error = SheetCause parts sample_name er
 unfoldable pub IsTooLarge : Command → List Part → Type 0
 IsTooLarge (csv name asked) parts = HasLargeArea parts name asked
 IsTooLarge (csv_table name options) parts = HasLargeTable parts name
-IsTooLarge (row_arrays name asked) parts = HasLargeArea parts name asked
+IsTooLarge (json_rows name asked) parts = HasLargeArea parts name asked
+IsTooLarge (table_objects name options) parts = HasLargeTable parts name
 IsTooLarge _ parts = ⊥
 
 -- why it is refused because no workbook file can hold what is read
 unfoldable pub IsUnwritable : Command → List Part → Type 0
 IsUnwritable (resave_file name) parts = HasNoFile parts name
 IsUnwritable _ parts = ⊥
+
+-- why it is refused because no row gives the keys that are asked for
+unfoldable pub HasNoKeys : Command → List Part → Type 0
+HasNoKeys (json_rows name asked) parts = LacksHeader asked.header parts name asked
+HasNoKeys _ parts = ⊥
+
+-- why it is refused because this key is given twice
+unfoldable pub HasTwoColumns : Command → List Part → List ℕ → Type 0
+HasTwoColumns (json_rows name asked) parts key = GivesTwice asked.header parts name asked key
+HasTwoColumns (table_objects name options) parts key = HasDoubleName parts name key
+HasTwoColumns _ parts key = ⊥
 
 -- ---- what the rows make
 
@@ -145,6 +161,8 @@ abbrev pub OutputCause : Command → List Part → ToolError → Type 0
 OutputCause command parts (Workbook error) = RefusedWorkbookCause command parts error
 OutputCause command parts BoxTooLarge = IsTooLarge command parts
 OutputCause command parts Unwritable = IsUnwritable command parts
+OutputCause command parts NoHeader = HasNoKeys command parts
+OutputCause command parts (TwoColumns key) = HasTwoColumns command parts (string_bytes key)
 OutputCause command parts _ = ⊥
 
 -- when a command is refused; want of memory may come at any time
@@ -163,6 +181,15 @@ CallFails cause _ = ⊥
 abbrev pub RowsFail : (XlsxError → Type 0) → Type 0 → ToolError → Type 0
 RowsFail cause large BoxTooLarge = large
 RowsFail cause large error = CallFails cause error
+
+-- when a call is refused that has these causes, in whose area this says that too many cells are,
+-- whose rows lack keys by this, or have one twice by the last
+abbrev pub ObjectsFail :
+    (XlsxError → Type 0) → Type 0 → Type 0 → (List ℕ → Type 0) → ToolError → Type 0
+ObjectsFail cause large none twice BoxTooLarge = large
+ObjectsFail cause large none twice NoHeader = none
+ObjectsFail cause large none twice (TwoColumns key) = twice (string_bytes key)
+ObjectsFail cause large none twice error = CallFails cause error
 
 -- when a call is refused that has these causes, or for which this says that no file can be written
 abbrev pub FileFails : (XlsxError → Type 0) → Type 0 → ToolError → Type 0

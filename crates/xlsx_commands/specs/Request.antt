@@ -4,7 +4,7 @@ use Rattle.std.specs.Prelude.{Option, Some, None, codes, option_map, option_and_
 use Rattle.std.specs.Str.{bytes_eq}
 use Rattle.part_events.specs.Package.{Part}
 use Rattle.xlsx_commands.specs.ChosenSheets.{choice_of, Chooses, ChoiceCause}
-use Rattle.xlsx_commands.specs.Command.{Command, cells, merges, links, comments, csv, row_arrays}
+use Rattle.xlsx_commands.specs.Command.{Command, cells, merges, links, comments, csv, json_rows}
 use Rattle.xlsx_commands.specs.Command.{pivot, precedents, dependents, check, part, resave}
 use Rattle.xlsx_commands.specs.Command.{resave_file}
 use Rattle.xlsx_commands.specs.Command.{command_meant, command_of, command_on}
@@ -33,7 +33,7 @@ is_of_sheet (merges form name) = true
 is_of_sheet (links form name) = true
 is_of_sheet (comments form name) = true
 is_of_sheet (csv name asked) = true
-is_of_sheet (row_arrays name asked) = true
+is_of_sheet (json_rows name asked) = true
 is_of_sheet (pivot sheet name) = true
 is_of_sheet (precedents name) = true
 is_of_sheet (dependents name position) = true
@@ -50,7 +50,7 @@ on_sheet name (merges form other) = merges form name
 on_sheet name (links form other) = links form name
 on_sheet name (comments form other) = comments form name
 on_sheet name (csv other asked) = csv name asked
-on_sheet name (row_arrays other asked) = row_arrays name asked
+on_sheet name (json_rows other asked) = json_rows name asked
 on_sheet name (pivot other own) = pivot name own
 on_sheet name (precedents other) = precedents name
 on_sheet name (dependents other position) = dependents name position

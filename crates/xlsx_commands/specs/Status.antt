@@ -1,5 +1,5 @@
 -- What the program ends with after each refusal: a status and a text.
-use Rattle.std.specs.Prelude.{ℕ, List, ◌++◌, codes}
+use Rattle.std.specs.Prelude.{ℕ, List, ◌++◌, codes, string_bytes}
 use Rattle.std.specs.Fmt.{decimal}
 use Rattle.xlsx_error.specs.XlsxError.{text_of, Refusal, refusal_seen}
 use Rattle.xlsx_error.specs.declared.error.XlsxError.{XlsxError}
@@ -11,10 +11,13 @@ use Rattle.xlsx_commands.specs.declared.error.ToolError.TheVariants.{FileTooLarg
 use Rattle.xlsx_commands.specs.declared.error.ToolError.TheVariants.{NotAWorkbookFile, Workbook}
 use Rattle.xlsx_commands.specs.declared.error.ToolError.TheVariants.{WriteFault, OutOfMemory}
 use Rattle.xlsx_commands.specs.declared.error.ToolError.TheVariants.{BoxTooLarge, Unwritable}
-use Rattle.xlsx_commands.specs.declared.error.ToolError.TheVariants.{NotChosen}
+use Rattle.xlsx_commands.specs.declared.error.ToolError.TheVariants.{NotChosen, NoHeader}
+use Rattle.xlsx_commands.specs.declared.error.ToolError.TheVariants.{TwoColumns}
 use Rattle.xlsx_commands.specs.declared.sheet_choice.SheetFault.{SheetFault}
 use Rattle.xlsx_commands.specs.declared.sheet_choice.SheetFault.TheVariants.{NoSheet, NamedBefore}
 use Rattle.xlsx_commands.specs.declared.sheet_choice.SheetFault.TheVariants.{NoWorksheet}
+use Rattle.json_rows.specs.declared.error.ObjectsError.{ObjectsError}
+use Rattle.json_rows.specs.declared.error.ObjectsError.TheVariants as objects
 use Rattle.xlsx_rows.specs.declared.error.CsvError.{CsvError}
 use Rattle.xlsx_rows.specs.declared.error.CsvError.TheVariants as rows
 use Rattle.zip_archive.specs.declared.fault.ArchiveFault.{ArchiveFault}
@@ -40,6 +43,8 @@ status_of OutOfMemory = 8
 status_of BoxTooLarge = 10
 status_of Unwritable = 15
 status_of (NotChosen fault) = 6
+status_of NoHeader = 16
+status_of (TwoColumns key) = 16
 
 -- why the input is no workbook file. The byte is counted from 0
 abbrev pub fault_text : ArchiveFault → List ℕ
@@ -70,6 +75,8 @@ error_text OutOfMemory = codes "out of memory"
 error_text BoxTooLarge = codes "box too large"
 error_text Unwritable = codes "no workbook file can hold it"
 error_text (NotChosen fault) = choice_text fault
+error_text NoHeader = codes "no header row"
+error_text (TwoColumns key) = codes "two columns '" ++ (string_bytes key ++ codes "'")
 
 -- what the refusal of a workbook becomes
 abbrev pub of_workbook : XlsxError → ToolError
@@ -80,6 +87,13 @@ of_workbook error = Workbook error
 abbrev pub of_rows : CsvError → ToolError
 of_rows rows.BoxTooLarge = BoxTooLarge
 of_rows rows.OutOfMemory = OutOfMemory
+
+-- what the refusal of objects becomes
+abbrev pub of_objects : ObjectsError → ToolError
+of_objects objects.BoxTooLarge = BoxTooLarge
+of_objects objects.NoHeader = NoHeader
+of_objects (objects.TwoColumns key) = TwoColumns key
+of_objects objects.OutOfMemory = OutOfMemory
 
 -- an error of the program as it is seen: which one, and the refusal of a workbook by its texts
 pub data SeenError : Type 0 where
@@ -95,6 +109,8 @@ pub data SeenError : Type 0 where
   box_too_large : SeenError
   unwritable : SeenError
   not_chosen : SheetFault → SeenError
+  no_header : SeenError
+  two_columns : List ℕ → SeenError
 
 -- what is seen of an error
 abbrev pub error_seen : ToolError → SeenError
@@ -110,3 +126,5 @@ error_seen OutOfMemory = out_of_memory
 error_seen BoxTooLarge = box_too_large
 error_seen Unwritable = unwritable
 error_seen (NotChosen fault) = not_chosen fault
+error_seen NoHeader = no_header
+error_seen (TwoColumns key) = two_columns (string_bytes key)

@@ -6,6 +6,7 @@ ghost use Rattle.xlsx_commands.specs.AskedRows.{digits_asked, unless, delimiter_
 ghost use Rattle.xlsx_commands.specs.AskedRows.{digits_given, setting_asked, option_asked};
 ghost use Rattle.xlsx_commands.specs.AskedRows.{written_asked};
 ghost use Rattle.xlsx_commands.specs.AskedRows.{options_asked, plain_rows, table_rows_asked};
+ghost use Rattle.xlsx_commands.specs.AskedRows.{csv_asked, of_table};
 
 use xlsx_rows::{CsvOptions, Delimiter, Digits};
 
@@ -17,6 +18,8 @@ pub struct AskedRows {
     pub from_a1: bool,
     /// Each value as a spreadsheet program shows it.
     pub shown: bool,
+    /// The fields of the first row are the keys of the others, which are objects of JSON.
+    pub header: bool,
 }
 
 impl AskedRows {
@@ -25,6 +28,7 @@ impl AskedRows {
         options: CsvOptions::PLAIN,
         from_a1: false,
         shown: false,
+        header: false,
     };
 }
 
@@ -168,14 +172,21 @@ fn written_asked(asked: AskedRows, word: &str) -> Option<AskedRows>
 
 /// What a word asks further. None where it asks nothing, what was asked before, or what goes
 /// against that.
+#[tactic(auto, unfolding(crate::specs::AskedRows::option_asked))]
 fn option_asked(asked: AskedRows, word: &str) -> Option<AskedRows>
     ensures { result ≡ option_asked asked word.now }
 {
-    if word == "--shown" {
-        let shown = true;
-        return unless(are_spelled(asked), AskedRows { shown, ..asked });
+    match word {
+        "--shown" => {
+            let shown = true;
+            unless(are_spelled(asked), AskedRows { shown, ..asked })
+        }
+        "--header" => {
+            let header = true;
+            unless(asked.header, AskedRows { header, ..asked })
+        }
+        _ => written_asked(asked, word),
     }
-    written_asked(asked, word)
 }
 
 /// What words ask of the rows of a sheet, each at most once, in any order. None where a word asks
@@ -190,14 +201,28 @@ pub fn rows_asked_by(words: &[String]) -> Option<AskedRows>
     Some(asked)
 }
 
-/// What words ask of the rows of a table, whose area has its own corner, and whose values are not
-/// shown.
-pub fn table_rows_asked(words: &[String]) -> Option<CsvOptions>
-    ensures { result ≡ table_rows_asked (map string_bytes words.now) }
+/// What words ask of the rows of a sheet as CSV, which have no keys.
+pub fn csv_asked(words: &[String]) -> Option<AskedRows>
+    ensures { result ≡ csv_asked (map string_bytes words.now) }
 {
     let asked = rows_asked_by(words)?;
-    if asked.from_a1 || asked.shown {
+    if asked.header { None } else { Some(asked) }
+}
+
+/// What is asked of the rows of a table, whose area has its own corner, whose keys are its columns,
+/// and whose values are not shown.
+pub fn of_table(asked: AskedRows) -> Option<CsvOptions>
+    ensures { result ≡ of_table asked }
+{
+    if asked.from_a1 || asked.shown || asked.header {
         return None;
     }
     Some(asked.options)
+}
+
+/// What words ask of the rows of a table as CSV.
+pub fn table_rows_asked(words: &[String]) -> Option<CsvOptions>
+    ensures { result ≡ table_rows_asked (map string_bytes words.now) }
+{
+    of_table(rows_asked_by(words)?)
 }

@@ -1,16 +1,16 @@
 ghost use Rattle.std.specs.Prelude.{◌≡◌, option_map};
 ghost use Rattle.xlsx_commands.specs.Command.{texts, command_meant, bare_command, named_command};
 ghost use Rattle.xlsx_commands.specs.Command.{rows_asked, sample, placed_command, command_of};
-ghost use Rattle.xlsx_commands.specs.AskedRows.{options_asked, plain_rows, table_rows_asked};
+ghost use Rattle.xlsx_commands.specs.AskedRows.{csv_asked, table_rows_asked};
 ghost use Rattle.xlsx_commands.specs.Command.{position_asked, dependents, csv, csv_table};
 ghost use Rattle.xlsx_commands.specs.Command.{three_words, asked_command, resave_asked};
 ghost use Rattle.xlsx_commands.specs.Command.{book_list, sheet_list, if_json, listed_command};
-ghost use Rattle.xlsx_commands.specs.AskedArrays.{of_json, arrays_asked};
-ghost use Rattle.xlsx_commands.specs.Command.{row_arrays};
+ghost use Rattle.xlsx_commands.specs.AskedArrays.{of_json, arrays_asked, objects_asked};
+ghost use Rattle.xlsx_commands.specs.Command.{json_rows, table_objects};
 ghost use Rattle.list_lines.specs.declared.content.LineForm.TheVariants as json;
 ghost use Rattle.xlsx_commands.specs.Command.{command_on};
 
-use crate::asked_rows::{AskedRows, rows_asked_by, table_rows_asked};
+use crate::asked_rows::{AskedRows, csv_asked, of_table, rows_asked_by, table_rows_asked};
 use cell_refs::get_row_column;
 use list_lines::LineForm;
 use xlsx_rows::CsvOptions;
@@ -40,9 +40,11 @@ pub enum Command<'a> {
     Csv(&'a str, AskedRows),
     /// The columns and the rows of the table of this name, as CSV, and how they are written.
     CsvTable(&'a str, CsvOptions),
-    /// The rows of the values of the worksheet of this name, as arrays of JSON, and what is asked
-    /// of them.
+    /// The rows of the values of the worksheet of this name, as arrays or as objects of JSON, and
+    /// what is asked of them.
     Rows(&'a str, AskedRows),
+    /// The rows of the table of this name, as objects of JSON, and how they are written.
+    RowsTable(&'a str, CsvOptions),
     /// The workbook's tables.
     Tables(LineForm),
     /// The values in the table of this name.
@@ -219,9 +221,9 @@ fn placed_command<'a>(word: &str, sheet: &'a str, name: &'a str) -> Option<Comma
 
 fn csv_command<'a>(name: &'a str, words: &[String]) -> Option<Command<'a>>
     ensures { option_map (λ command. command_meant command) result
-        ≡ option_map (csv name.now) (options_asked plain_rows (texts words.now)) }
+        ≡ option_map (csv name.now) (csv_asked (texts words.now)) }
 {
-    let asked = rows_asked_by(words)?;
+    let asked = csv_asked(words)?;
     Some(Command::Csv(name, asked))
 }
 
@@ -262,10 +264,24 @@ fn arrays_asked(words: &[String]) -> Option<AskedRows>
 
 fn rows_command<'a>(name: &'a str, words: &[String]) -> Option<Command<'a>>
     ensures { option_map (λ command. command_meant command) result
-        ≡ option_map (row_arrays name.now) (arrays_asked (texts words.now)) }
+        ≡ option_map (json_rows name.now) (arrays_asked (texts words.now)) }
 {
     let asked = arrays_asked(words)?;
     Some(Command::Rows(name, asked))
+}
+
+fn objects_asked(words: &[String]) -> Option<CsvOptions>
+    ensures { result ≡ objects_asked (texts words.now) }
+{
+    of_table(arrays_asked(words)?)
+}
+
+fn rows_table_command<'a>(name: &'a str, words: &[String]) -> Option<Command<'a>>
+    ensures { option_map (λ command. command_meant command) result
+        ≡ option_map (table_objects name.now) (objects_asked (texts words.now)) }
+{
+    let options = objects_asked(words)?;
+    Some(Command::RowsTable(name, options))
 }
 
 fn three_words<'a>(word: &str, name: &'a str, words: &'a [String]) -> Option<Command<'a>>
@@ -287,6 +303,7 @@ fn asked_command<'a>(word: &str, name: &'a str, words: &'a [String]) -> Option<C
         "csv" => csv_command(name, words),
         "csv-table" => csv_table_command(name, words),
         "rows" => rows_command(name, words),
+        "rows-table" => rows_table_command(name, words),
         _ => three_words(word, name, words),
     }
 }

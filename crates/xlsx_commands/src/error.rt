@@ -3,6 +3,7 @@ ghost use Rattle.xlsx_commands.specs.Status.{file_status, status_of};
 
 use crate::sheet_choice::SheetFault;
 use input_package::InputPackage;
+use json_rows::ObjectsError;
 use std::alloc::{AllocError, AllocFailed};
 use std::error::Error;
 use std::fmt;
@@ -37,6 +38,10 @@ pub enum ToolError {
     Unwritable,
     /// The words choose a sheet without telling its name, and none is chosen.
     NotChosen(SheetFault),
+    /// The sheet has no row whose fields are the keys of the others.
+    NoHeader,
+    /// Two columns have this key.
+    TwoColumns(String),
 }
 
 /// The status that the program ends with where its input is no workbook file.
@@ -65,6 +70,7 @@ impl ToolError {
             ToolError::OutOfMemory => 8,
             ToolError::BoxTooLarge => 10,
             ToolError::Unwritable => 15,
+            ToolError::NoHeader | ToolError::TwoColumns(_) => 16,
         }
     }
 }
@@ -100,6 +106,8 @@ impl fmt::Display for ToolError {
             ToolError::BoxTooLarge => f.write_str("box too large"),
             ToolError::Unwritable => f.write_str("no workbook file can hold it"),
             ToolError::NotChosen(fault) => write!(f, "{fault}"),
+            ToolError::NoHeader => f.write_str("no header row"),
+            ToolError::TwoColumns(key) => write!(f, "two columns '{key}'"),
         }
     }
 }
@@ -158,6 +166,21 @@ impl From<CsvError> for ToolError {
         match refusal {
             CsvError::BoxTooLarge => ToolError::BoxTooLarge,
             CsvError::OutOfMemory => ToolError::OutOfMemory,
+        }
+    }
+}
+
+impl From<ObjectsError> for ToolError {
+    ghost use Rattle.xlsx_commands.specs.Status.{of_objects};
+
+    ghost from_gives = { λ refusal e. e ≡ of_objects refusal };
+
+    fn from(refusal: ObjectsError) -> ToolError {
+        match refusal {
+            ObjectsError::BoxTooLarge => ToolError::BoxTooLarge,
+            ObjectsError::NoHeader => ToolError::NoHeader,
+            ObjectsError::TwoColumns(key) => ToolError::TwoColumns(key),
+            ObjectsError::OutOfMemory => ToolError::OutOfMemory,
         }
     }
 }

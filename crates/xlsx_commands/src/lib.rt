@@ -4,16 +4,18 @@
 //! Rooms: `command` (the words that ask for a command), `asked_rows` (the words that ask more of
 //! rows), `cell_lines`, `book_lists`, `merge_lines`, `link_lines`, `comment_lines`,
 //! `property_lines`, `table_lines`, `pivot_lines`, `pivot_rows`, `sheet_rows`, `table_rows`,
-//! `row_arrays`, `formula_lines`, `part_line`, `upgraded_text`, `resaved_text`, `resaved_file` and
-//! `sample_lines` (what each command prints), `named_sheet` (what is asked of the first sheet of a
-//! name), `output` (each command's own package, where it has one, and its output), `request` and
-//! `sheet_choice` (what words ask for that choose a sheet and tell no name), `chosen_sheet` (the
-//! sheet that is chosen, and the answer), `laws`, `chosen_laws`, and `error` (`ToolError`).
+//! `row_arrays`, `row_objects`, `table_objects`, `formula_lines`, `part_line`, `upgraded_text`,
+//! `resaved_text`, `resaved_file` and `sample_lines` (what each command prints), `named_sheet`
+//! (what is asked of the first sheet of a name), `output` (each command's own package, where it has
+//! one, and its output), `request` and `sheet_choice` (what words ask for that choose a sheet and
+//! tell no name), `chosen_sheet` (the sheet that is chosen, and the answer), `laws`, `chosen_laws`,
+//! and `error` (`ToolError`).
 //!
 //! **A command is a row of a few tables**: of the words that ask for it (`command_of`), of the
 //! package that it works on where it reads no input (`own_parts`), of its output (`IsOutput`), of
 //! why its workbook refuses it (`RefusedWorkbookCause`), of why an area does that has too many
-//! cells (`IsTooLarge`), and of the law that an output and a cause exclude each other
+//! cells (`IsTooLarge`), of why keys are missing or one is given twice (`HasNoKeys`,
+//! `HasTwoColumns`), of the law that an output and a cause exclude each other
 //! (`causes_leave_no_output`), and of the law that two outputs are one
 //! (`commands_have_one_output`). The tables are closed to what stands above, so that a further
 //! command changes none of its clauses, definitions and proofs.
@@ -32,7 +34,8 @@
 //! that is read has one text of rows, or too many cells for it, whatever range its values were put
 //! in. That the rows of a range are these is the lemma `rows_meant` of `RowsPlaced`. The rows of a
 //! table are said so too, by the area that its part says and behind a header of that width
-//! (`table_records`), and `TablesPlaced` brings the range that was read to them.
+//! (`table_records`), and `TablesPlaced` brings the range that was read to them. `ObjectsPlaced`
+//! does the same where rows are objects under keys (`objects_placed`).
 //!
 //! That what is read can be written is said here, where it is needed, and not among the laws on
 //! what is written (`ReadsWritable`): of a cell comes no value that a written cell can't have.
@@ -61,10 +64,12 @@ mod request;
 mod resaved_file;
 mod resaved_text;
 mod row_arrays;
+mod row_objects;
 mod sample_lines;
 mod sheet_choice;
 mod sheet_rows;
 mod table_lines;
+mod table_objects;
 mod table_rows;
 mod upgraded_text;
 

@@ -16,10 +16,11 @@ use crate::pivot_rows::pivot_rows;
 use crate::property_lines::property_lines;
 use crate::resaved_file::resaved_file;
 use crate::resaved_text::resaved_text;
-use crate::row_arrays::row_arrays;
+use crate::row_objects::json_rows;
 use crate::sample_lines::sample_lines;
 use crate::sheet_rows::sheet_rows;
 use crate::table_lines::{table_lines, table_value_lines};
+use crate::table_objects::table_objects;
 use crate::table_rows::table_rows;
 use crate::upgraded_text::upgraded_text;
 use input_package::InputPackage;
@@ -43,6 +44,7 @@ pub fn own_package(alloc: Global, command: Command<'_>) -> Result<Option<InputPa
         Command::Csv(_, _) => None,
         Command::CsvTable(_, _) => None,
         Command::Rows(_, _) => None,
+        Command::RowsTable(_, _) => None,
         Command::Tables(_) => None,
         Command::Table(_) => None,
         Command::Pivots(_) => None,
@@ -60,7 +62,7 @@ pub fn own_package(alloc: Global, command: Command<'_>) -> Result<Option<InputPa
 }
 
 /// The output of a command on a package, whole.
-#[tactic(auto, unfolding(crate::specs::Outputs::IsOutput, crate::specs::Outputs::RefusedWorkbookCause, crate::specs::Outputs::IsTooLarge, crate::specs::Outputs::IsUnwritable))]
+#[tactic(auto, unfolding(crate::specs::Outputs::IsOutput, crate::specs::Outputs::RefusedWorkbookCause, crate::specs::Outputs::IsTooLarge, crate::specs::Outputs::IsUnwritable, crate::specs::Outputs::HasNoKeys, crate::specs::Outputs::HasTwoColumns))]
 pub fn output_of(
     alloc: Global,
     command: Command<'_>,
@@ -80,7 +82,8 @@ pub fn output_of(
         Command::Props(form) => property_lines(alloc, package, form),
         Command::Csv(name, asked) => sheet_rows(alloc, package, name, asked),
         Command::CsvTable(name, options) => table_rows(alloc, package, name, options),
-        Command::Rows(name, asked) => row_arrays(alloc, package, name, asked),
+        Command::Rows(name, asked) => json_rows(alloc, package, name, asked),
+        Command::RowsTable(name, options) => table_objects(alloc, package, name, options),
         Command::Tables(form) => table_lines(alloc, package, form),
         Command::Table(name) => table_value_lines(alloc, package, name),
         Command::Pivots(form) => pivot_lines(alloc, package, form),

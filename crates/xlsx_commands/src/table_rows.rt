@@ -37,7 +37,7 @@ fn fitted_names(alloc: Global, names: &[String], width: usize) -> Result<Vec<Str
 }
 
 /// The names of the columns of a table, as many as its area is wide, or all where that is empty.
-fn header_of(alloc: Global, table: &Table<Data>) -> Result<Vec<String>, AllocError>
+pub(crate) fn header_of(alloc: Global, table: &Table<Data>) -> Result<Vec<String>, AllocError>
     ensures { IfOk result (λ header. map string_bytes header.items
         ≡ header_over (bounds_of (table_data table.now)) (table_columns table.now)) }
 {

@@ -26,7 +26,8 @@ use Rattle.xlsx_commands.specs.declared.error.ToolError.TheVariants.{FileTooLarg
 use Rattle.xlsx_commands.specs.declared.error.ToolError.TheVariants.{NotAWorkbookFile, Workbook}
 use Rattle.xlsx_commands.specs.declared.error.ToolError.TheVariants.{WriteFault, OutOfMemory}
 use Rattle.xlsx_commands.specs.declared.error.ToolError.TheVariants.{BoxTooLarge, Unwritable}
-use Rattle.xlsx_commands.specs.declared.error.ToolError.TheVariants.{NotChosen}
+use Rattle.xlsx_commands.specs.declared.error.ToolError.TheVariants.{NotChosen, NoHeader}
+use Rattle.xlsx_commands.specs.declared.error.ToolError.TheVariants.{TwoColumns}
 
 -- ---- the output of a command on what a source spells
 
@@ -77,6 +78,22 @@ from_output request parts old new Unwritable feeds fails = (
     fed = λ tells. given_by (request_parts request) parts old new (feeds.fed tells);
   },
 )
+from_output request parts old new NoHeader feeds fails = (
+  feeds.faults,
+  record {
+    parts = parts;
+    cause = fails;
+    fed = λ tells. given_by (request_parts request) parts old new (feeds.fed tells);
+  },
+)
+from_output request parts old new (TwoColumns key) feeds fails = (
+  feeds.faults,
+  record {
+    parts = parts;
+    cause = fails;
+    fed = λ tells. given_by (request_parts request) parts old new (feeds.fed tells);
+  },
+)
 from_output request parts old new (NotChosen fault) feeds fails = (
   feeds.faults,
   record {
@@ -86,19 +103,26 @@ from_output request parts old new (NotChosen fault) feeds fails = (
   },
 )
 from_output request parts old new Usage feeds fails =
-    absurd (never_answered request parts Usage (λ command cause. cause) (λ choice cause. cause) fails)
+    absurd (never_answered request parts Usage (λ command cause. cause) (λ choice cause. cause)
+    fails)
 from_output request parts old new ReadFault feeds fails =
-    absurd (never_answered request parts ReadFault (λ command cause. cause) (λ choice cause. cause) fails)
+    absurd (never_answered request parts ReadFault (λ command cause. cause) (λ choice cause. cause)
+    fails)
 from_output request parts old new InputTooLarge feeds fails =
-    absurd (never_answered request parts InputTooLarge (λ command cause. cause) (λ choice cause. cause) fails)
+    absurd (never_answered request parts InputTooLarge (λ command cause. cause) (λ choice cause.
+    cause) fails)
 from_output request parts old new FileTooLarge feeds fails =
-    absurd (never_answered request parts FileTooLarge (λ command cause. cause) (λ choice cause. cause) fails)
+    absurd (never_answered request parts FileTooLarge (λ command cause. cause) (λ choice cause.
+    cause) fails)
 from_output request parts old new NotAPackage feeds fails =
-    absurd (never_answered request parts NotAPackage (λ command cause. cause) (λ choice cause. cause) fails)
+    absurd (never_answered request parts NotAPackage (λ command cause. cause) (λ choice cause.
+    cause) fails)
 from_output request parts old new (NotAWorkbookFile fault) feeds fails =
-    absurd (never_answered request parts (NotAWorkbookFile fault) (λ command cause. cause) (λ choice cause. cause) fails)
+    absurd (never_answered request parts (NotAWorkbookFile fault) (λ command cause. cause) (λ choice
+    cause. cause) fails)
 from_output request parts old new WriteFault feeds fails =
-    absurd (never_answered request parts WriteFault (λ command cause. cause) (λ choice cause. cause) fails)
+    absurd (never_answered request parts WriteFault (λ command cause. cause) (λ choice cause. cause)
+    fails)
 
 -- ---- the sink
 
@@ -237,6 +261,12 @@ not_refused never words old new request parts output BoxTooLarge is prints own r
     refuses.asked refuses.cause.1
 not_refused never words old new request parts output Unwritable is prints own refuses =
     no_cause never words old.source request refuses.request parts output Unwritable is prints
+    refuses.asked refuses.cause.1
+not_refused never words old new request parts output NoHeader is prints own refuses =
+    no_cause never words old.source request refuses.request parts output NoHeader is prints
+    refuses.asked refuses.cause.1
+not_refused never words old new request parts output (TwoColumns key) is prints own refuses =
+    no_cause never words old.source request refuses.request parts output (TwoColumns key) is prints
     refuses.asked refuses.cause.1
 not_refused never words old new request parts output (NotChosen fault) is prints own refuses =
     no_cause never words old.source request refuses.request parts output (NotChosen fault) is prints

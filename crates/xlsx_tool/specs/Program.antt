@@ -19,6 +19,7 @@ help_text =
     ++ (codes "       xlsx_tool csv NAME [OPTION].. < INPUT\n"
     ++ (codes "       xlsx_tool csv-table NAME [OPTION].. < INPUT\n"
     ++ (codes "       xlsx_tool rows NAME --json [OPTION].. < INPUT\n"
+    ++ (codes "       xlsx_tool rows-table NAME --json [OPTION].. < INPUT\n"
     ++ (codes "       xlsx_tool table NAME < INPUT\n"
     ++ (codes "       xlsx_tool pivot SHEET NAME < INPUT\n"
     ++ (codes "       xlsx_tool precedents NAME < INPUT\n"
@@ -44,6 +45,7 @@ help_text =
     ++ (codes "  csv        row of the values: a record of CSV\n"
     ++ (codes "  csv-table  header or row of the table NAME: a record of CSV\n"
     ++ (codes "  rows       row of the values: an array of JSON\n"
+    ++ (codes "  rows-table row of the table NAME: an object of JSON, by its columns\n"
     ++ (codes "  table      value in the table NAME: position, value\n"
     ++ (codes "  pivot      row of the cache of the pivot table NAME on SHEET: its values\n"
     ++ (codes "  precedents formula: its cell, the areas that it names\n"
@@ -65,12 +67,14 @@ help_text =
     ++ (codes "  --bom          the bytes EF BB BF in front\n"
     ++ (codes "  --from-a1      of csv alone: records from row 1, and fields from column A\n"
     ++ (codes "  --shown        of csv and rows, without --dates and --digits: what cells show\n\n"
-    ++ (codes "rows has --json first, and behind it --dates, --digits=N, --from-a1 or --shown.\n\n"
+    ++ (codes "rows has --json first, and behind it --dates, --digits=N, --from-a1, --shown, or\n"
+    ++ (codes "--header: the fields of the first row are the keys of objects. rows-table has\n"
+    ++ (codes "--json first, and behind it --dates or --digits=N.\n\n"
     ++ (codes "upgrade prints the package text in version 2: an empty element is one event.\n\n"
     ++ (codes "resave writes a package of the values and formulas of the worksheet NAME alone\n"
     ++ (codes "and prints its text in version 2, or by --xlsx a workbook file.\n\n"
     ++ codes "sample makes a package of 1 to 20,000 rows and prints how much is read of it.\n"
-    ))))))))))))))))))))))))))))))))))))))))))))))))))))))))
+    ))))))))))))))))))))))))))))))))))))))))))))))))))))))))))))
 
 -- the line of the version
 abbrev pub version_text : List ℕ

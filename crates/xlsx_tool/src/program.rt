@@ -23,6 +23,7 @@ Usage: xlsx_tool cells NAME [--json] < INPUT
        xlsx_tool csv NAME [OPTION].. < INPUT
        xlsx_tool csv-table NAME [OPTION].. < INPUT
        xlsx_tool rows NAME --json [OPTION].. < INPUT
+       xlsx_tool rows-table NAME --json [OPTION].. < INPUT
        xlsx_tool table NAME < INPUT
        xlsx_tool pivot SHEET NAME < INPUT
        xlsx_tool precedents NAME < INPUT
@@ -52,6 +53,7 @@ One line is printed, of the worksheet NAME or of the workbook, for each
   csv        row of the values: a record of CSV
   csv-table  header or row of the table NAME: a record of CSV
   rows       row of the values: an array of JSON
+  rows-table row of the table NAME: an object of JSON, by its columns
   table      value in the table NAME: position, value
   pivot      row of the cache of the pivot table NAME on SHEET: its values
   precedents formula: its cell, the areas that it names
@@ -77,7 +79,9 @@ OPTIONs of csv and csv-table, each at most once:
   --from-a1      of csv alone: records from row 1, and fields from column A
   --shown        of csv and rows, without --dates and --digits: what cells show
 
-rows has --json first, and behind it --dates, --digits=N, --from-a1 or --shown.
+rows has --json first, and behind it --dates, --digits=N, --from-a1, --shown, or
+--header: the fields of the first row are the keys of objects. rows-table has
+--json first, and behind it --dates or --digits=N.
 
 upgrade prints the package text in version 2: an empty element is one event.
 

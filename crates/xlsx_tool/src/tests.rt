@@ -364,11 +364,13 @@ const STATUSES: &str =
     13 not a workbook file: no record of the end of an archive; \
     14 not a workbook file: a compound file, as of .xls or encrypted ones; \
     13 not a workbook file: no header in the directory at byte 32; 6 Relationship not found; \
-    7 write fault; 8 out of memory; 10 box too large; 15 no workbook file can hold it; ";
+    7 write fault; 8 out of memory; 10 box too large; 15 no workbook file can hold it; \
+    16 no header row; 16 two columns 'Amount'; ";
 
 #[test]
 fn refusals_have_statuses_and_texts(rt: HostRuntime) -> Result<(), Fail> {
     let mut told = String::new(rt.alloc());
+    let key = String::from_str(rt.alloc(), "Amount")?;
     for error in [
         ToolError::Usage,
         ToolError::ReadFault,
@@ -383,6 +385,8 @@ fn refusals_have_statuses_and_texts(rt: HostRuntime) -> Result<(), Fail> {
         ToolError::OutOfMemory,
         ToolError::BoxTooLarge,
         ToolError::Unwritable,
+        ToolError::NoHeader,
+        ToolError::TwoColumns(key),
     ] {
         write!(told, "{} {error}; ", error.status())?;
     }

@@ -1,5 +1,6 @@
 -- A row for each command: what packages have that have the same parts where it looks.
 use Rattle.std.proofs.Common.{ℕ, List, Option, Some, sym, ◌∙◌, subst, inl, inr, Bool, true, false}
+use Rattle.std.proofs.Common.{string_bytes}
 use Rattle.cell_data.specs.CellValue.{CellValue}
 use Rattle.list_lines.specs.declared.content.LineForm.TheVariants.{Text, Json}
 use Rattle.part_events.specs.Package.{Part}
@@ -10,17 +11,20 @@ use Rattle.xlsx_core.proofs.ShownLaws.{shown_over}
 use Rattle.xlsx_commands.specs.Command.{Command, cells, sheets, names, merges, links, props, csv}
 use Rattle.xlsx_commands.specs.Command.{csv_table, tables, table, pivots, pivot, precedents}
 use Rattle.xlsx_commands.specs.Command.{dependents, check, part, upgrade, resave, sample, comments}
-use Rattle.xlsx_commands.specs.Command.{resave_file, row_arrays}
+use Rattle.xlsx_commands.specs.Command.{resave_file, json_rows, table_objects}
 use Rattle.xlsx_commands.specs.Outputs.{IsOutput, RefusedWorkbookCause, IsTooLarge, OutputCause}
-use Rattle.xlsx_commands.specs.Outputs.{IsUnwritable}
+use Rattle.xlsx_commands.specs.Outputs.{IsUnwritable, HasNoKeys, HasTwoColumns}
 use Rattle.xlsx_commands.specs.Outputs.{IsUpgrade}
 use Rattle.xlsx_commands.specs.PartNames.{PartPathCause}
 use Rattle.xlsx_commands.specs.PropertyLists.{ListedPropertiesCause, text_of_name}
+use Rattle.xlsx_commands.specs.RowObjects.{AreJsonRows, LacksHeader, GivesTwice}
 use Rattle.xlsx_commands.specs.SampleLines.{sample_name}
 use Rattle.xlsx_commands.specs.SheetRows.{HasRowValues}
 use Rattle.xlsx_commands.specs.declared.error.ToolError.{ToolError}
 use Rattle.xlsx_commands.specs.declared.error.ToolError.TheVariants.{Workbook, BoxTooLarge}
-use Rattle.xlsx_commands.specs.declared.error.ToolError.TheVariants.{Unwritable}
+use Rattle.xlsx_commands.specs.declared.asked_rows.AskedRows.{AskedRows}
+use Rattle.xlsx_commands.specs.declared.error.ToolError.TheVariants.{Unwritable, NoHeader}
+use Rattle.xlsx_commands.specs.declared.error.ToolError.TheVariants.{TwoColumns}
 use Rattle.cell_data.specs.Pairs.{value_pairs, formula_pairs}
 use Rattle.xlsx_ways.specs.Ways.{HaveSameWay, HaveSameOpening, HaveSameProperties, HaveSameCells}
 use Rattle.xlsx_ways.specs.Ways.{HaveSameRows}
@@ -57,6 +61,42 @@ values_over false one two name values same reads =
     (reads.0, styles, own)
 values_over true one two name values same shows = shown_over one two name values same shows
 
+-- rows as JSON, as arrays or as objects
+json_rows_over : (header : Bool) (one two : List Part) (name : List ℕ) (asked : AskedRows)
+    (rows : List ℕ) → HaveSameRows asked.shown one two name
+    → AreJsonRows header one name asked rows → AreJsonRows header two name asked rows
+json_rows_over false one two name asked rows same prints = record {
+  values = prints.values;
+  reads = values_over asked.shown one two name prints.values same prints.reads;
+  fits = prints.fits;
+  listed = prints.listed;
+}
+json_rows_over true one two name asked rows same prints = record {
+  values = prints.values;
+  reads = values_over asked.shown one two name prints.values same prints.reads;
+  placed = prints.placed;
+}
+
+header_lacked_over : (header : Bool) (one two : List Part) (name : List ℕ) (asked : AskedRows)
+    → HaveSameRows asked.shown one two name → LacksHeader header one name asked
+    → LacksHeader header two name asked
+header_lacked_over false one two name asked same lacks = absurd lacks
+header_lacked_over true one two name asked same lacks = record {
+  values = lacks.values;
+  reads = values_over asked.shown one two name lacks.values same lacks.reads;
+  none = lacks.none;
+}
+
+given_twice_over : (header : Bool) (one two : List Part) (name : List ℕ) (asked : AskedRows)
+    (key : List ℕ) → HaveSameRows asked.shown one two name → GivesTwice header one name asked key
+    → GivesTwice header two name asked key
+given_twice_over false one two name asked key same gives = absurd gives
+given_twice_over true one two name asked key same gives = record {
+  values = gives.values;
+  reads = values_over asked.shown one two name gives.values same gives.reads;
+  placed = gives.placed;
+}
+
 -- a package that has the same way back
 pub way_back : (command : Command) (one two : List Part) → HaveSameWay command one two
     → HaveSameWay command two one
@@ -72,7 +112,8 @@ way_back (comments form name) one two same =
     let back = opening_back one two same.0 in (back, comments_back one two name back same.1)
 way_back (props form) one two same = (opening_back one two same.0, properties_back one two same.1)
 way_back (csv name asked) one two same = rows_back asked.shown one two name same
-way_back (row_arrays name asked) one two same = rows_back asked.shown one two name same
+way_back (json_rows name asked) one two same = rows_back asked.shown one two name same
+way_back (table_objects name options) one two same = table_data_back one two name same
 way_back (csv_table name options) one two same = table_data_back one two name same
 way_back (tables form) one two same =
     (opening_back one two same.0, each_tables_back one two same.0 same.1)
@@ -146,10 +187,13 @@ output_over (csv name asked) one two output same prints = record {
   fits = prints.fits;
   listed = prints.listed;
 }
-output_over (row_arrays name asked) one two output same prints = record {
-  values = prints.values;
-  reads = values_over asked.shown one two name prints.values same prints.reads;
+output_over (json_rows name asked) one two output same prints =
+    json_rows_over asked.header one two name asked output same prints
+output_over (table_objects name options) one two output same prints = record {
+  table = prints.table;
+  has = table_over one two name prints.table same prints.has;
   fits = prints.fits;
+  apart = prints.apart;
   listed = prints.listed;
 }
 output_over (csv_table name options) one two output same prints = record {
@@ -276,7 +320,8 @@ cause_over (cells form name) one two error same cause =
     sheet_cause_over one two name error (cells_of_sheet one two name same) cause
 cause_over (sheets form) one two error same cause = opening_cause_over one two error same cause
 cause_over (names form) one two error same cause = opening_cause_over one two error same cause
-cause_over (merges form name) one two error same cause = merges_cause_over one two name error same cause
+cause_over (merges form name) one two error same cause = merges_cause_over one two name error same
+    cause
 cause_over (links form name) one two error same cause =
     links_cause_over one two name error same.0 same.1 cause
 cause_over (comments form name) one two error same cause =
@@ -285,13 +330,17 @@ cause_over (props form) one two error same cause =
     listed_properties_over one two error same.0 same.1 cause
 cause_over (csv name asked) one two error same cause =
     sheet_cause_over one two name error (cells_of_rows asked.shown one two name same) cause
-cause_over (row_arrays name asked) one two error same cause =
+cause_over (json_rows name asked) one two error same cause =
     sheet_cause_over one two name error (cells_of_rows asked.shown one two name same) cause
+cause_over (table_objects name options) one two error same cause =
+    table_cause_over one two name error same cause
 cause_over (csv_table name options) one two error same cause =
     table_cause_over one two name error same cause
-cause_over (tables form) one two error same cause = tables_listed_over one two error same.0 same.1 cause
+cause_over (tables form) one two error same cause = tables_listed_over one two error same.0 same.1
+    cause
 cause_over (table name) one two error same cause = table_cause_over one two name error same cause
-cause_over (pivots form) one two error same cause = pivots_listed_over one two error same.0 same.1 cause
+cause_over (pivots form) one two error same cause = pivots_listed_over one two error same.0 same.1
+    cause
 cause_over (pivot sheet name) one two error same cause =
     pivot_cause_over one two sheet name error same cause
 cause_over (precedents name) one two error same cause =
@@ -318,9 +367,14 @@ large_over (csv name asked) one two same large = record {
   reads = values_over asked.shown one two name large.values same large.reads;
   large = large.large;
 }
-large_over (row_arrays name asked) one two same large = record {
+large_over (json_rows name asked) one two same large = record {
   values = large.values;
   reads = values_over asked.shown one two name large.values same large.reads;
+  large = large.large;
+}
+large_over (table_objects name options) one two same large = record {
+  table = large.table;
+  has = table_over one two name large.table same large.has;
   large = large.large;
 }
 large_over (csv_table name options) one two same large = record {
@@ -329,6 +383,28 @@ large_over (csv_table name options) one two same large = record {
   large = large.large;
 }
 large_over _ one two same large = absurd large
+
+-- and rows without keys
+keyless_over : (command : Command) (one two : List Part) → HaveSameWay command one two
+    → HasNoKeys command one → HasNoKeys command two
+unfolding HaveSameWay HasNoKeys
+keyless_over (json_rows name asked) one two same none =
+    header_lacked_over asked.header one two name asked same none
+keyless_over _ one two same none = absurd none
+
+-- and a key that is given twice
+double_over : (command : Command) (one two : List Part) (key : List ℕ)
+    → HaveSameWay command one two → HasTwoColumns command one key → HasTwoColumns command two key
+unfolding HaveSameWay HasTwoColumns
+double_over (json_rows name asked) one two key same twice =
+    given_twice_over asked.header one two name asked key same twice
+double_over (table_objects name options) one two key same twice = record {
+  table = twice.table;
+  has = table_over one two name twice.table same twice.has;
+  fits = twice.fits;
+  twice = twice.twice;
+}
+double_over _ one two key same twice = absurd twice
 
 -- and a sheet that no workbook file can hold
 unwritable_over : (command : Command) (one two : List Part) → HaveSameWay command one two
@@ -352,4 +428,7 @@ output_cause_over command one two (Workbook error) same cause =
     cause_over command one two error same cause
 output_cause_over command one two BoxTooLarge same large = large_over command one two same large
 output_cause_over command one two Unwritable same none = unwritable_over command one two same none
+output_cause_over command one two NoHeader same none = keyless_over command one two same none
+output_cause_over command one two (TwoColumns key) same twice =
+    double_over command one two (string_bytes key) same twice
 output_cause_over command one two error same cause = cause

@@ -18,7 +18,7 @@ use Rattle.xlsx_commands.specs.CacheRows.{HasCache}
 use Rattle.xlsx_commands.specs.Command.{Command, cells, sheets, names, merges, links, props, csv}
 use Rattle.xlsx_commands.specs.Command.{csv_table, tables, table, pivots, pivot, precedents}
 use Rattle.xlsx_commands.specs.Command.{dependents, check, part, upgrade, resave, sample, comments}
-use Rattle.xlsx_commands.specs.Command.{resave_file, row_arrays}
+use Rattle.xlsx_commands.specs.Command.{resave_file, json_rows, table_objects}
 use Rattle.xlsx_commands.specs.SampleLines.{sample_name}
 use Rattle.xlsx_commands.specs.SheetsOpened.{sheets_opened}
 use Rattle.xlsx_commands.specs.TableLists.{HasNamedTable}
@@ -149,7 +149,8 @@ HaveSameWay (comments form name) one two = HaveSameOpening one two × HaveSameCo
 HaveSameWay (props form) one two = HaveSameOpening one two × HaveSameProperties one two
 HaveSameWay (csv name asked) one two = HaveSameRows asked.shown one two name
 HaveSameWay (csv_table name options) one two = HaveSameTableData one two name
-HaveSameWay (row_arrays name asked) one two = HaveSameRows asked.shown one two name
+HaveSameWay (json_rows name asked) one two = HaveSameRows asked.shown one two name
+HaveSameWay (table_objects name options) one two = HaveSameTableData one two name
 HaveSameWay (tables form) one two =
     HaveSameOpening one two × OfEachSheet (HaveSameTables one two) one
 HaveSameWay (table name) one two = HaveSameTableData one two name

@@ -11,7 +11,8 @@ loop-key-preserved c =
     let apart = not_among _ _ (is_among key.now before) c.in_ok-insert.ensures.added (known key) new
     in (
       key.now ∷ before,
-      λ other. seen_more key other before _ _ (c.in_ok-insert.ensures.updates.0 other) (known other),
+      λ other. seen_more key other before _ _ (c.in_ok-insert.ensures.updates.0 other) (known
+      other),
       sym (double_further c.args.keys.now c.loop-key.key-index c.key-item.result key.now before
           c.key-item.is c.loop-key-test.true c.as_str.ensures.value apart) ∙ rest,
     )

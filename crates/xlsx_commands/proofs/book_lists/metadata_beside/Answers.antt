@@ -11,5 +11,6 @@ returns-in_err-opened-clause-err c =
     let cause = OpeningCause c.args.package.parts in
     rw (handed.1, handed.2)
     (memory_fails cause cause (told_state c.args.package) c.open-opened.new.xml.source
-    c.in_err-opened.field-0.0 (c.into_package-package.result, c.into_package-package.ensures) refl (λ own. own)
+    c.in_err-opened.field-0.0 (c.into_package-package.result, c.into_package-package.ensures) refl
+    (λ own. own)
     (rw c.new-xml.ensures at c.in_err-opened.ensures.err))

@@ -16,5 +16,6 @@ returns-in_err-values-clause-err c =
     let cause = SheetCause c.args.package.parts c.args.name.now in
     rw (handed.1, handed.2)
     (memory_fails cause cause (told_state c.args.package)
-    (told_state c.read_sheet_shown-result.result.package) _ (c.read_sheet_shown-result.result.package, refl)
+    (told_state c.read_sheet_shown-result.result.package) _
+    (c.read_sheet_shown-result.result.package, refl)
     refl (λ own. own) fails)

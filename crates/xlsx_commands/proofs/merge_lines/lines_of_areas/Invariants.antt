@@ -4,4 +4,5 @@ use Rattle.xlsx_commands.proofs.merge_lines.lines_of_areas.Given as goal
 
 abbrev pub invariant-loop-area : goal.invariant-loop-area
 invariant-loop-area l =
-    string_bytes l.out ++ merge_lines l.form (drop l.area-index l.areas) ≡ merge_lines l.form l.areas
+    string_bytes l.out ++ merge_lines l.form (drop l.area-index l.areas) ≡ merge_lines l.form
+    l.areas

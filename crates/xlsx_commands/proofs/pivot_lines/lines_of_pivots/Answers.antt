@@ -11,9 +11,12 @@ pivots-preserved c =
     let left = pairs_left c.next.new.self in
     let steps : pairs_left c.pivots.pair-iterator ≡ pair ∷ left = c.in-Some.ensures.steps in
     record {
-      listed = ap (λ (text : List ℕ). text ++ pivot_lines c.args.form left) c.in_ok-push_pivot_line.ensures.ok
-          ∙ append_assoc (string_bytes c.pivots.out) (pivot_line c.args.form pair.0 pair.1) (pivot_lines c.args.form left)
-          ∙ ap (λ (pairs : List (List ℕ × List ℕ)). string_bytes c.pivots.out ++ pivot_lines c.args.form pairs)
+      listed = ap (λ (text : List ℕ). text ++ pivot_lines c.args.form left)
+          c.in_ok-push_pivot_line.ensures.ok
+          ∙ append_assoc (string_bytes c.pivots.out) (pivot_line c.args.form pair.0 pair.1)
+          (pivot_lines c.args.form left)
+          ∙ ap (λ (pairs : List (List ℕ × List ℕ)). string_bytes c.pivots.out
+          ++ pivot_lines c.args.form pairs)
           (sym steps)
           ∙ c.pivots.invariant.listed;
     }
@@ -21,6 +24,7 @@ pivots-preserved c =
 pub returns : goal.returns
 returns c =
     sym (append-nil (string_bytes c.pivots.out))
-    ∙ ap (λ (pairs : List (List ℕ × List ℕ)). string_bytes c.pivots.out ++ pivot_lines c.args.form pairs)
+    ∙ ap (λ (pairs : List (List ℕ × List ℕ)). string_bytes c.pivots.out
+    ++ pivot_lines c.args.form pairs)
     (sym c.in-None.ensures.steps.0)
     ∙ c.pivots.invariant.listed

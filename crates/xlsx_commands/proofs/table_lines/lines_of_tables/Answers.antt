@@ -21,10 +21,12 @@ tables-preserved c =
     record {
       within = omega (arith, next.within);
       names = sym next.others ∙ ap (λ (n : ℕ). map name_said (drop n tables)) (sym (add-one index));
-      listed = ap (λ (n : ℕ). string_bytes c.push_table.new.out ++ table_lines c.args.form (drop n tables))
+      listed = ap (λ (n : ℕ). string_bytes c.push_table.new.out
+          ++ table_lines c.args.form (drop n tables))
           (add-one index)
           ∙ lines_more c.args.form tables index next.own (string_bytes c.tables.out)
-          (string_bytes c.push_table.new.out) (table_lines c.args.form tables) next.first pushed now.listed;
+          (string_bytes c.push_table.new.out) (table_lines c.args.form tables) next.first pushed
+          now.listed;
     }
 
 pub returns : goal.returns
@@ -33,5 +35,6 @@ returns c =
     let now = c.tables.invariant in
     let none = none_left (drop c.tables.index tables) (sym now.names ∙ c.in-None.ensures.steps.0) in
     sym (append-nil (string_bytes c.tables.out))
-    ∙ ap (λ (left : List SheetTable). string_bytes c.tables.out ++ table_lines c.args.form left) (sym none)
+    ∙ ap (λ (left : List SheetTable). string_bytes c.tables.out
+    ++ table_lines c.args.form left) (sym none)
     ∙ now.listed
