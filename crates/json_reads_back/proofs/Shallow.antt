@@ -23,6 +23,19 @@ use Rattle.sheet_listing.specs.CellObjects.{date_json}
 use Rattle.sheet_listing.specs.CellObjects.{formula_json, fill_json}
 use Rattle.sheet_listing.specs.CellObjects.{value_json as cell_json}
 use Rattle.json_reads_back.specs.LinesRead.{IsReadBack, IsHeld, AreListsReadBack, AreCellsReadBack}
+use Rattle.json_reads_back.specs.LinesRead.{IsHeldAs, AreRowsReadBack}
+use Rattle.json.specs.Json.{number as number_of}
+use Rattle.json.specs.Print.{IsNumber}
+use Rattle.json_rows.specs.RowObjects.{row_members}
+use Rattle.json_rows.specs.RowValues.{item_json, row_json}
+use Rattle.std.specs.Fmt.{signed_decimal}
+use Rattle.std.specs.List.{AllByRecursion}
+use Rattle.std.specs.Prelude.{IfSome}
+use Rattle.decimals.specs.Decimals.{decimal_from, printed}
+use Rattle.excel_dates.specs.IsoText.{iso_text}
+use Rattle.json_lines.specs.JsonLines.{IsOfDecimal}
+use Rattle.xlsx_rows.specs.RowsText.{digits_of, integer_field, rounded_or, shown_number}
+use Rattle.xlsx_rows.specs.declared.options.CsvOptions.{CsvOptions}
 
 -- ---- values that are no array and no object
 
@@ -158,3 +171,77 @@ cells_back place value formula style held =
     let typ = more_flat _ (Some (string _)) _ (plain_text _) values in
     let cell = more_flat _ (Some (string _)) _ (plain_text _) typ in
     read_back _ cell
+
+-- ---- rows
+
+rounded_number : (other : List ℕ) (digits : ℕ) (found : Option (ℤ × ℤ)) → IsNumber other
+    → IfSome found (λ own. IsOfDecimal (shown_number (Some digits) own))
+    → IsNumber (rounded_or other digits found)
+rounded_number other digits None is held = is
+rounded_number other digits (Some own) is held =
+    printed_number (shown_number (Some digits) own) held
+
+integer_number : (digits : Option ℕ) (n : ℤ) → FitsSigned w64 n
+    → IfSome (decimal_from (n, pos 0)) (λ own. IsOfDecimal (shown_number digits own))
+    → IsNumber (integer_field digits n)
+integer_number None n fits held = IsNumber-signed_decimal n (whole_plain n fits)
+integer_number (Some digits) n fits held =
+    rounded_number (signed_decimal n) digits (decimal_from (n, pos 0))
+    (IsNumber-signed_decimal n (whole_plain n fits)) held
+
+plain_number : (own : List ℕ) → IsNumber own → IsPlain (number_of own)
+plain_number own is = record { shallow = refl; numbers = is }
+
+days_plain : (dates told : Bool) (shown exact days : List ℕ) → IsNumber exact → IsNumber days
+    → IsPlain (if dates then (if told then string shown else number_of exact) else number_of days)
+days_plain true true shown exact days one two = plain_text shown
+days_plain true false shown exact days one two = plain_number exact one
+days_plain false told shown exact days one two = plain_number days two
+
+item_plain : (options : CsvOptions) (value : CellValue) → IsHeldAs options value
+    → IsPlain (item_json options value)
+item_plain options nothing held = record { shallow = refl; numbers = tt }
+item_plain options (integer n) held =
+    plain_number _ (integer_number (digits_of options.digits) n held.0 held.1)
+item_plain options (number decimal) held =
+    plain_number _ (printed_number (shown_number (digits_of options.digits) decimal) held)
+item_plain options (text bytes) held = plain_text bytes
+item_plain options (shared_text place) held = record { shallow = refl; numbers = tt }
+item_plain options (truth holds) held = record { shallow = refl; numbers = tt }
+item_plain options (time days kind is_1904) held =
+    days_plain options.dates (is_told (moment_of days kind is_1904)) (iso_text days kind is_1904)
+    (printed days) (printed (shown_number (digits_of options.digits) days))
+    (printed_number days held.0)
+    (printed_number (shown_number (digits_of options.digits) days) held.1)
+item_plain options (iso_time bytes) held = plain_text bytes
+item_plain options (failure error) held = plain_text _
+
+row_plain : (options : CsvOptions) (values : List CellValue)
+    → AllByRecursion (IsHeldAs options) values
+    → (items_depth (row_json options values) ≡ 0) × ItemsHaveNumbers (row_json options values)
+row_plain options [] held = (refl, tt)
+row_plain options (value ∷ values) held =
+    let own = item_plain options value held.0 in
+    let rest = row_plain options values held.1 in
+    (omega (arith, own.shallow, rest.0), (own.numbers, rest.1))
+
+row_flat : (options : CsvOptions) (keys : List (List ℕ)) (values : List CellValue)
+    → AllByRecursion (IsHeldAs options) values → AreFlat (row_members options keys values)
+row_flat options [] values held = none_flat
+row_flat options (key ∷ keys) [] held = none_flat
+row_flat options (key ∷ keys) (value ∷ values) held =
+    more_flat key (Some (item_json options value)) (row_members options keys values)
+    (item_plain options value held.0) (row_flat options keys values held.1)
+
+array_back : (options : CsvOptions) (values : List CellValue)
+    → AllByRecursion (IsHeldAs options) values → IsReadBack (array (row_json options values))
+array_back options values held =
+    let plain = row_plain options values held in
+    document-print (array (row_json options values)) plain.1 (omega (arith, plain.0))
+
+pub rows_back : AreRowsReadBack
+rows_back = record {
+  arrays = array_back;
+  objects = λ options keys values held.
+      read_back (row_members options keys values) (row_flat options keys values held);
+}

@@ -7,7 +7,14 @@ use Rattle.json.specs.Json.{Json, document}
 use Rattle.json_lines.specs.JsonLines.{json_text, IsOfDecimal}
 use Rattle.list_lines.specs.Fields.{Field, Series, line_value}
 use Rattle.sheet_listing.specs.CellObjects.{cell_object}
-use Rattle.std.specs.Prelude.{Option}
+use Rattle.json.specs.Json.{array, object}
+use Rattle.json_rows.specs.RowObjects.{row_members}
+use Rattle.json_rows.specs.RowValues.{row_json}
+use Rattle.std.specs.List.{AllByRecursion}
+use Rattle.std.specs.Prelude.{Option, IfSome, pos}
+use Rattle.decimals.specs.Decimals.{decimal_from}
+use Rattle.xlsx_rows.specs.RowsText.{digits_of, shown_number}
+use Rattle.xlsx_rows.specs.declared.options.CsvOptions.{CsvOptions}
 
 -- the text of a value is read as the value
 abbrev pub IsReadBack : Json → Type 0
@@ -20,6 +27,17 @@ IsHeld (number decimal) = IsOfDecimal decimal
 IsHeld (time days kind is_1904) = IsOfDecimal days
 IsHeld _ = ⊤
 
+-- a value that a cell holds, with the number that it is written as where digits are asked for
+abbrev pub IsHeldAs : CsvOptions → CellValue → Type 0
+IsHeldAs options (integer n) =
+    FitsSigned w64 n
+    × IfSome (decimal_from (n, pos 0))
+    (λ own. IsOfDecimal (shown_number (digits_of options.digits) own))
+IsHeldAs options (number decimal) = IsOfDecimal (shown_number (digits_of options.digits) decimal)
+IsHeldAs options (time days kind is_1904) =
+    IsOfDecimal days × IsOfDecimal (shown_number (digits_of options.digits) days)
+IsHeldAs options _ = ⊤
+
 -- each line of a list is read as the value of its fields
 abbrev pub AreListsReadBack : Type 0
 AreListsReadBack = (fields : List Field) (series : Series) → IsReadBack (line_value fields series)
@@ -29,3 +47,13 @@ abbrev pub AreCellsReadBack : Type 0
 AreCellsReadBack =
     (position : ℕ × ℕ) (value : CellValue) (formula : List ℕ) (style : Option Style) →
     IsHeld value → IsReadBack (cell_object position value formula style)
+
+-- each row of values, as an array and as an object under any keys
+pub record AreRowsReadBack : Type 0 where
+  pub arrays :
+      (options : CsvOptions) (values : List CellValue) → AllByRecursion (IsHeldAs options) values →
+      IsReadBack (array (row_json options values))
+  pub objects :
+      (options : CsvOptions) (keys : List (List ℕ)) (values : List CellValue) →
+      AllByRecursion (IsHeldAs options) values →
+      IsReadBack (object (row_members options keys values))
