@@ -9,7 +9,7 @@ use Rattle.json.specs.Json.{object, Members, no_members, member}
 use Rattle.json_lines.specs.JsonLines.{json_line}
 use Rattle.json_rows.specs.RowValues.{item_json}
 use Rattle.json_rows.specs.declared.error.ObjectsError.{ObjectsError}
-use Rattle.json_rows.specs.declared.error.ObjectsError.TheVariants.{TwoColumns, NoHeader}
+use Rattle.json_rows.specs.declared.error.ObjectsError.TheVariants.{TwoColumns}
 use Rattle.xlsx_rows.specs.RowsText.{data_field}
 use Rattle.xlsx_rows.specs.declared.options.CsvOptions.{CsvOptions}
 

@@ -12,7 +12,7 @@ loop-key-preserved c =
     in (
       key.now ∷ before,
       λ other. seen_more key other before _ _ (c.in_ok-insert.ensures.updates.0 other) (known
-      other),
+          other),
       sym (double_further c.args.keys.now c.loop-key.key-index c.key-item.result key.now before
           c.key-item.is c.loop-key-test.true c.as_str.ensures.value apart) ∙ rest,
     )
