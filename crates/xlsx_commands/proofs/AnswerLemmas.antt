@@ -1,9 +1,9 @@
 -- What is asked of a chosen sheet has one sheet, and an answer or a cause of a refusal, not both.
-use Rattle.std.proofs.Common.{◌≡◌, ◌⊎◌, inl, inr, ◌∙◌, ap, sym, subst, ℕ, List, map}
+use Rattle.std.proofs.Common.{◌≡◌, inl, inr, ◌∙◌, ap, sym, subst, ℕ, List, map}
 use Rattle.std.specs.Prelude.{Result, Ok, Err}
 use Rattle.part_events.specs.Package.{Part}
 use Rattle.xlsx_core.proofs.SheetLaws.{are_alike}
-use Rattle.xlsx_open.specs.Opening.{Opening, OpensAs, ListedSheet, without_path}
+use Rattle.xlsx_open.specs.Opening.{Opening, OpensAs, without_path}
 use Rattle.xlsx_workbook.specs.Sheets.{PlacedSheet}
 use Rattle.xlsx_commands.specs.ChosenSheets.{chosen_name, Chooses, ChoiceCause}
 use Rattle.xlsx_commands.specs.Command.{Command}

@@ -1,13 +1,13 @@
 -- The workbook file that is made of a sheet that was read, and when none is.
-use Rattle.std.proofs.Common.{◌≡◌, ◌∙◌, ℕ, zero, suc, ◌+◌, ◌<◌, ◌≤◌, ◌^◌, List, [], ◌∷◌, map}
+use Rattle.std.proofs.Common.{◌≡◌, ◌∙◌, ℕ, zero, suc, ◌<◌, ◌≤◌, ◌^◌, List, [], ◌∷◌}
 use Rattle.std.proofs.Common.{length}
-use Rattle.std.proofs.Common.{get_or, Bool, true, false, refl, sym, ap, arith, inl, inr, subst}
-use Rattle.std.specs.Prelude.{◌⊎◌, ◌&&◌, not, nat_le, nat_lt, Result, Ok, Err, IfOk, IfErr, Vec}
+use Rattle.std.proofs.Common.{Bool, true, false, refl, ap, arith, inl, inr, subst}
+use Rattle.std.specs.Prelude.{◌⊎◌, not, nat_le, nat_lt, Result, Ok, Err, IfOk, IfErr, Vec}
 use Rattle.std.specs.Prelude.{String}
 use Rattle.std.specs.List.{All, list_all}
 use Rattle.std.specs.Str.{IsUtf8}
 use Rattle.std.specs.declared.alloc.Global.{Global}
-use Rattle.std.proofs.lemmas.Bool.{and_parts, and_from, and_left, and_right, ltb-true, le-leb}
+use Rattle.std.proofs.lemmas.Bool.{and_parts, and_from, and_right, ltb-true, le-leb}
 use Rattle.std.proofs.lemmas.Bool.{lt-leb, leb-true, false_from_ne_true}
 use Rattle.cell_data.specs.Pairs.{value_pairs, formula_pairs}
 use Rattle.cell_data.specs.declared.range.Range.{Range}

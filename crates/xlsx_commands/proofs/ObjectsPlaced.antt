@@ -1,6 +1,6 @@
 -- The rows of a sheet or of a table as objects: those of a range by what its values mean, and when
 -- there are none.
-use Rattle.std.proofs.Common.{◌≡◌, ◌∙◌, ℕ, zero, suc, ◌+◌, ◌-◌, ◌<◌, ◌≤◌, List, map}
+use Rattle.std.proofs.Common.{◌≡◌, ◌∙◌, ℕ, zero, suc, ◌-◌, ◌<◌, ◌≤◌, List, map}
 use Rattle.std.proofs.Common.{refl, sym, ap, subst, arith, Option, Some, None, string_bytes}
 use Rattle.std.proofs.Common.{Global, Result, Ok, Err, Bool, true, false, inl, inr}
 use Rattle.std.proofs.lemmas.Bool.{cases_lt}
@@ -17,7 +17,6 @@ use Rattle.cell_data.specs.declared.range.Range.{Range}
 use Rattle.cell_data.specs.declared.table.Table.{Table}
 use Rattle.cell_data.specs.declared.value.Data.{Data}
 use Rattle.cell_data.specs.declared.value.HeaderRow.TheVariants.{FirstNonEmptyRow}
-use Rattle.cell_refs.specs.Positions.{least_area}
 use Rattle.cell_refs.specs.declared.dimensions.Dimensions.{Dimensions}
 use Rattle.json_rows.specs.RowObjects.{data_object, object_line, object_lines, keys_over}
 use Rattle.json_rows.specs.RowObjects.{rows_behind, headed_lines, first_double, IsOfKeys}

@@ -36,7 +36,6 @@ use Rattle.xlsx_core.proofs.ShownLaws.{shown_where_read, read_where_shown, one_s
 use Rattle.cell_data.specs.Pairs.{with_meaning, value_pairs}
 use Rattle.xlsx_core.specs.Worksheets.{HasLeastRange}
 use Rattle.xlsx_error.specs.declared.error.XlsxError.{XlsxError}
-use Rattle.xlsx_error.specs.declared.error.XlsxError.TheVariants as workbook
 use Rattle.xlsx_rows.specs.RowsText.{field_of, data_field, header_text, record_text, rows_text}
 use Rattle.xlsx_rows.specs.RowsText.{bom_text, writer_of}
 use Rattle.xlsx_rows.specs.declared.options.CsvOptions.{CsvOptions}
@@ -48,7 +47,7 @@ use Rattle.xlsx_commands.specs.SheetRows.{fields_placed, rows_placed, area_count
 use Rattle.xlsx_commands.specs.SheetRows.{HasLargeArea, asked_area, from_first, rows_asked}
 use Rattle.xlsx_commands.specs.SheetRows.{HasRowValues}
 use Rattle.xlsx_commands.specs.declared.asked_rows.AskedRows.{AskedRows}
-use Rattle.xlsx_commands.specs.Status.{of_workbook, of_rows}
+use Rattle.xlsx_commands.specs.Status.{of_rows}
 use Rattle.xlsx_commands.specs.declared.error.ToolError.{ToolError}
 use Rattle.xlsx_commands.specs.declared.error.ToolError.TheVariants as tool
 use Rattle.xlsx_commands.proofs.OneListing.{AreReadAlike}

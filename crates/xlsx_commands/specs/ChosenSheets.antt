@@ -5,7 +5,6 @@ use Rattle.std.specs.Prelude.{Result, Ok, Err, codes, map, slice_get, take, nat_
 use Rattle.std.specs.List.{list_any}
 use Rattle.std.specs.Str.{bytes_eq}
 use Rattle.part_events.specs.Package.{Part}
-use Rattle.xlsx_error.specs.declared.error.XlsxError.{XlsxError}
 use Rattle.xlsx_open.specs.Opening.{Opening, OpensAs, OpeningCause, ListedSheet, without_path}
 use Rattle.xlsx_sections.specs.NumberText.{number_text}
 use Rattle.xlsx_workbook.specs.declared.sheet.SheetType.{SheetType}

@@ -1,4 +1,4 @@
-use Rattle.std.proofs.Common.{◌≡◌, ◌∙◌, ap, sym, List}
+use Rattle.std.proofs.Common.{ap, sym}
 use Rattle.part_events.specs.Memory.{Contents}
 use Rattle.xlsx_core.specs.SheetReading.{SheetCause}
 use Rattle.xlsx_commands.proofs.FilesMade.{file_made, file_refused}
