@@ -1,12 +1,12 @@
 -- The sheet that stands at a number, and the first worksheet, sheet by sheet.
 use Rattle.std.proofs.Common.{◌≡◌, ◌∙◌, ℕ, ◌+◌, ◌<◌, ◌≤◌, Bool, true, false, not, ◌&&◌, List, []}
-use Rattle.std.proofs.Common.{map}
-use Rattle.std.proofs.Common.{if◌then◌else◌, length, take, drop, get_or, ap, sym, string_bytes, Ok}
-use Rattle.std.proofs.Common.{Err}
+use Rattle.std.proofs.Common.{if◌then◌else◌, length, take, drop, get_or, ap, sym, string_bytes}
+use Rattle.std.proofs.Common.{map, Ok, Err}
 use Rattle.std.specs.Prelude.{Result}
 use Rattle.std.proofs.Common.{suc, Option, Some, None, option_map, subst, arith, String, Global}
-use Rattle.std.proofs.Common.{◌∷◌}
-use Rattle.std.proofs.Common.{refl}
+use Rattle.std.proofs.Common.{◌∷◌, refl, ◌||◌}
+use Rattle.std.specs.Str.{bytes_eq}
+use Rattle.std.proofs.lemmas.List.Folds.{list_any-append}
 use Rattle.std.specs.Prelude.{slice_get}
 use Rattle.std.proofs.lemmas.List.{drop_more, drop_all, map_more, take-map}
 use Rattle.std.proofs.lemmas.Option.{slice_get-map}
@@ -68,6 +68,27 @@ unfolding first_worksheet
 none_chosen sheets place past =
     ap (λ (left : List Sheet). first_worksheet (map listed_sheet (take place sheets))
     (map listed_sheet left)) (drop_all place sheets past)
+
+any_or : (own others : Bool) → (others || (own || false)) ≡ (if own then true else others)
+any_or true true = refl
+any_or true false = refl
+any_or false true = refl
+any_or false false = refl
+
+-- behind a sheet its name is one of those before
+pub names_more : (sheets : List Sheet) (place : ℕ) (sheet : Sheet) (name : List ℕ)
+    → place < length sheets → get_or sheets place sheet ≡ sheet
+    → has_name name (map listed_sheet (take (place + 1) sheets))
+    ≡ (if bytes_eq (string_bytes sheet.name) name then true
+    else has_name name (map listed_sheet (take place sheets)))
+names_more sheets place sheet name within is =
+    let front = map listed_sheet (take place sheets) in
+    ap (has_name name) (map_more listed_sheet sheets place sheet within)
+    ∙ list_any-append (λ listed. bytes_eq listed.name name) front
+    (listed_sheet (get_or sheets place sheet) ∷ [])
+    ∙ ap (λ (own : Sheet).
+    has_name name front || (bytes_eq (string_bytes own.name) name || false)) is
+    ∙ any_or (bytes_eq (string_bytes sheet.name) name) (has_name name front)
 
 -- the sheet at a number, unless an earlier one has its name
 pub at_number : (sheets : List Sheet) (number before : ℕ) (sheet : Sheet) → number ≡ suc before

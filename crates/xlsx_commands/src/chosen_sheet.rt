@@ -1,5 +1,8 @@
 //! The sheet that is chosen among those of a workbook, and the answer to what is asked of it.
-ghost use Rattle.std.specs.Prelude.{◌≡◌, ◌&&◌, not, map, option_map, string_bytes, IfOk, IfErr};
+ghost use Rattle.std.specs.Prelude.{◌≡◌, ◌&&◌, ℕ, List, true, not, map, option_map};
+ghost use Rattle.std.specs.Prelude.{if◌then◌else◌, string_bytes, IfOk, OnOk, IfErr};
+ghost use Rattle.std.specs.BTreeSet.{contains_text};
+ghost use Rattle.std.specs.Str.{bytes_eq};
 ghost use Rattle.std.specs.Result.{result_map_both};
 ghost use Rattle.xlsx_open.specs.Opening.{listed_sheet};
 ghost use Rattle.xlsx_commands.specs.ChosenSheets.{has_name, is_worksheet, chosen_name, Chooses};
@@ -18,6 +21,7 @@ use crate::request::Request;
 use crate::sheet_choice::{SheetChoice, SheetFault};
 use input_package::InputPackage;
 use std::alloc::{AllocError, Global};
+use std::collections::BTreeSet;
 use xlsx_open::{Sheet, SheetType};
 
 fn is_worksheet(typ: SheetType) -> bool
@@ -62,36 +66,60 @@ fn numbered_sheet(sheets: &[Sheet], number: u64) -> Result<&Sheet, SheetFault>
     }
 }
 
-/// Whether it is a worksheet, and none of the earlier sheets has its name.
-fn is_chosen(sheet: &Sheet, earlier: &[Sheet]) -> bool
-    ensures { result ≡ (is_worksheet sheet.now.typ
-        && not (has_name (string_bytes sheet.now.name) (map listed_sheet earlier.now))) }
+/// Keeps a name beside those that are kept.
+fn keep_name(
+    alloc: Global,
+    names: &mut BTreeSet<String>,
+    name: &str,
+) -> Result<(), AllocError>
+    ensures { OnOk result ((other : List ℕ) → contains_text names.new other
+        ≡ (if bytes_eq name.now other then true else contains_text names.old other)) }
 {
-    is_worksheet(sheet.typ) && !has_name(sheet.name.as_str(), earlier)
+    names.insert(String::from_str(alloc, name)?)?;
+    Ok(())
+}
+
+/// Whether it is a worksheet, and none of the earlier names is its name.
+fn is_chosen(sheet: &Sheet, earlier: &BTreeSet<String>) -> bool
+    ensures { result ≡ (is_worksheet sheet.now.typ
+        && not (contains_text earlier.now (string_bytes sheet.now.name))) }
+{
+    is_worksheet(sheet.typ) && !earlier.contains(sheet.name.as_str())
 }
 
 /// The first worksheet that no earlier sheet has the name of.
-fn first_worksheet(sheets: &[Sheet]) -> Result<&Sheet, SheetFault>
-    ensures { result_map_both (λ sheet. string_bytes sheet.now.name) (λ fault. fault) result
-        ≡ chosen_name FirstWorksheet (map listed_sheet sheets.now) }
+fn first_worksheet(
+    alloc: Global,
+    sheets: &[Sheet],
+) -> Result<Result<&Sheet, SheetFault>, AllocError>
+    ensures { IfOk result (λ found.
+        result_map_both (λ sheet. string_bytes sheet.now.name) (λ fault. fault) found
+        ≡ chosen_name FirstWorksheet (map listed_sheet sheets.now)) }
 {
+    let mut earlier = BTreeSet::new(alloc);
     'sheets: for place in 0..sheets.len() {
         let sheet = &sheets[place];
-        if is_chosen(sheet, &sheets[..place]) {
-            return Ok(sheet);
+        if is_chosen(sheet, &earlier) {
+            return Ok(Ok(sheet));
         }
+        keep_name(alloc, &mut earlier, sheet.name.as_str())?;
     }
-    Err(SheetFault::NoWorksheet)
+    Ok(Err(SheetFault::NoWorksheet))
 }
 
 /// The sheet that is chosen among these.
-fn chosen_sheet(sheets: &[Sheet], choice: SheetChoice) -> Result<&Sheet, SheetFault>
-    ensures { result_map_both (λ sheet. string_bytes sheet.now.name) (λ fault. fault) result
-        ≡ chosen_name choice (map listed_sheet sheets.now) }
+fn chosen_sheet(
+    alloc: Global,
+    sheets: &[Sheet],
+    choice: SheetChoice,
+) -> Result<Result<&Sheet, SheetFault>, AllocError>
+    ensures { IfOk result (λ found.
+        result_map_both (λ sheet. string_bytes sheet.now.name) (λ fault. fault) found
+        ≡ chosen_name choice (map listed_sheet sheets.now)) }
 {
     match choice {
-        SheetChoice::Numbered(number) => numbered_sheet(sheets, number),
-        SheetChoice::FirstWorksheet => first_worksheet(sheets),
+        SheetChoice::Numbered(number) => Ok(numbered_sheet(sheets, number)),
+        SheetChoice::FirstWorksheet => first_worksheet(alloc, sheets),
     }
 }
 
@@ -106,7 +134,7 @@ fn name_chosen(
     ensures err { IfErr result (ChoiceFails choice «package».parts) }
 {
     let (metadata, package) = metadata_beside(alloc, package)?;
-    match chosen_sheet(&metadata.sheets, choice) {
+    match chosen_sheet(alloc, &metadata.sheets, choice)? {
         Ok(sheet) => Ok((String::from_str(alloc, sheet.name.as_str())?, package)),
         Err(fault) => Err(ToolError::NotChosen(fault)),
     }
