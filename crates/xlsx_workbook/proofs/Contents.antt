@@ -1,7 +1,8 @@
 -- How what is kept of a workbook's section goes on with the events that are taken.
 use Rattle.std.proofs.Common.{◌≡◌, ℕ, suc, ◌+◌, ◌≤◌, List, ◌∷◌, ◌++◌, length, Bool, true, false}
 use Rattle.std.proofs.Common.{Option, Some, None, Result, Ok, Err, refl, sym, ◌∙◌, ap, inl, inr}
-use Rattle.std.proofs.Common.{append_assoc, string_bytes, String, Global}
+use Rattle.std.proofs.Common.{append_assoc, string_bytes, String, Global, [], if◌then◌else◌}
+use Rattle.std.specs.List.{flat_map}
 use Rattle.std.specs.Prelude.{is_some, option_map}
 use Rattle.part_events.specs.Event.{Tag, Event, start, end, leaf, is_start}
 use Rattle.part_events.specs.JoinedText.{joined_text, event_text, is_unknown, unknown_entity}
@@ -17,12 +18,14 @@ use Rattle.xlsx_sections.specs.PartSection.{PartSection, inside_of}
 use Rattle.xlsx_sections.specs.Refusal.{Refusal, RefusedAt, no_character, placed_at}
 use Rattle.xlsx_sections.specs.Names.{name_by}
 use Rattle.xlsx_workbook.specs.DefinedNames.{name_with_text, defined_name, is_defined_name}
-use Rattle.xlsx_workbook.specs.DefinedNames.{names_in, behind_in_section}
+use Rattle.xlsx_workbook.specs.DefinedNames.{names_in, behind_in_section, scope_of, scope_said}
+use Rattle.xlsx_workbook.specs.DefinedNames.{scope_where_named, scopes_in}
 use Rattle.xlsx_relationships.specs.Relationships.{Related}
 use Rattle.xlsx_workbook.specs.Sheets.{is_sheet, is_properties, sheet_of, epoch_of, sheets_in}
 use Rattle.xlsx_workbook.specs.Sheets.{epoch_in}
 use Rattle.xlsx_workbook.specs.Workbook.{KeepsSheets, AreSheetsRefused, AreContentsRefused}
 use Rattle.xlsx_workbook.specs.Workbook.{TextRefused, KeepsName, sheets_of, names_of}
+use Rattle.xlsx_workbook.specs.declared.name_scope.NameScope.{NameScope}
 use Rattle.xlsx_workbook.specs.declared.workbook.WorkbookContents.{WorkbookContents}
 
 -- sheets, names and dates that are kept, with what the events say that are left
@@ -32,6 +35,7 @@ pub record KeepsContents (folder : List ℕ) (related : List ℕ
     pub sheets : prepended (sheets_of found) (sheets_in folder related left)
         ≡ sheets_in folder related all
     pub names : prepended (names_of found) (names_in left) ≡ names_in all
+    pub scopes : found.scopes.items ++ scopes_in left ≡ scopes_in all
     pub epoch : or_earlier found.epoch (epoch_in left) ≡ epoch_in all
 
 pub sheets_further : {folder : List ℕ} {related : List ℕ
@@ -154,6 +158,34 @@ name_next base tag old new takes steps current was ends is =
     ap (λ (elements : List Element). some_answers defined_name elements)
     (next_element is_defined_name base tag old new takes steps current was ends is).elements
 
+-- and its scope, if it has a name
+pub scope_next : (base : ℕ) (tag : Tag) (old new : Reading) → TakesEvent old new
+    → StepsAhead true old new → start tag ≡ new.source.current → base ≤ length old.names
+    → section_end base old ≡ section_end base new → is_defined_name tag ≡ true
+    → scopes_in (section_ahead base old)
+    ≡ scope_where_named (scope_of tag) (name_by (placed_at tag (length (section_ahead base new))))
+    ++ scopes_in (section_behind base new)
+scope_next base tag old new takes steps current was ends is =
+    ap (flat_map scope_said)
+    (next_element is_defined_name base tag old new takes steps current was ends is).elements
+
+-- the scope of a name was taken, if there is a name
+pub scope_taken : (all left others : List Event) (scope : NameScope)
+    (own : Result (Option (List ℕ)) Refusal) (name : Option (String Global))
+    (found last : List NameScope) → found ++ scopes_in left ≡ scopes_in all
+    → scopes_in left ≡ scope_where_named scope own ++ scopes_in others
+    → own ≡ Ok (option_map string_bytes name)
+    → last ≡ found ++ (if is_some name then scope ∷ [] else [])
+    → last ++ scopes_in others ≡ scopes_in all
+scope_taken all left others scope own None found last keeps next same taken =
+    ap (λ (front : List NameScope). front ++ scopes_in others) taken
+    ∙ append_assoc found [] (scopes_in others)
+    ∙ ap (λ (more : List NameScope). found ++ more) (sym (rw same at next)) ∙ keeps
+scope_taken all left others scope own (Some text) found last keeps next same taken =
+    ap (λ (front : List NameScope). front ++ scopes_in others) taken
+    ∙ append_assoc found (scope ∷ []) (scopes_in others)
+    ∙ ap (λ (more : List NameScope). found ++ more) (sym (rw same at next)) ∙ keeps
+
 pub name_refused : {folder : List ℕ} {related : List ℕ
     → Option Related} {found : WorkbookContents} (s : PartSection) (tag : Tag)
     (left inside others : List Event) (behind : ℕ) (name : Result (Option (List ℕ)) Refusal)
@@ -167,23 +199,17 @@ name_refused {found = found} s tag left inside others behind name refusal keeps 
     inr (inl (sym keeps.names ∙ here))
 
 -- the element of a defined name was taken
-pub name_taken : {folder : List ℕ} {related : List ℕ
-    → Option Related} {all : List Event} {found last : WorkbookContents} (tag : Tag)
+pub name_taken : (all : List Event) (found last : WorkbookContents) (tag : Tag)
     (left inside others : List Event) (behind : ℕ) (after : WorkbookContents)
-    (name : Option (List ℕ)) → KeepsContents folder related all found left
-    → KeepsSheets folder related found left last others → names_of after ≡ names_of found
-    → IsNameNext tag left inside behind others → name_by (placed_at tag behind) ≡ Ok name
+    (name : Option (List ℕ)) → prepended (names_of found) (names_in left) ≡ names_in all
+    → names_of after ≡ names_of found → IsNameNext tag left inside behind others
+    → name_by (placed_at tag behind) ≡ Ok name
     → KeepsName name inside behind (names_of after) (names_of last)
-    → KeepsContents folder related all last others
-name_taken {found = found} tag left inside others behind after name keeps sheets same next named
-    taken = record {
-      sheets = sheets.sheets ∙ keeps.sheets;
-      names =
-          taken (names_in others)
-          ∙ ap (λ (names : List (List ℕ × List ℕ)). prepended names
-          (and_others_if (name_with_text inside behind (Ok name)) (names_in others))) same
-          ∙ ap (λ (own : Result (Option (List ℕ)) Refusal). prepended (names_of found)
-          (and_others_if (name_with_text inside behind own) (names_in others))) (sym named)
-          ∙ ap (prepended (names_of found)) (sym next) ∙ keeps.names;
-      epoch = sheets.epoch ∙ keeps.epoch;
-    }
+    → prepended (names_of last) (names_in others) ≡ names_in all
+name_taken all found last tag left inside others behind after name keeps same next named taken =
+    taken (names_in others)
+    ∙ ap (λ (names : List (List ℕ × List ℕ)). prepended names
+    (and_others_if (name_with_text inside behind (Ok name)) (names_in others))) same
+    ∙ ap (λ (own : Result (Option (List ℕ)) Refusal). prepended (names_of found)
+    (and_others_if (name_with_text inside behind own) (names_in others))) (sym named)
+    ∙ ap (prepended (names_of found)) (sym next) ∙ keeps

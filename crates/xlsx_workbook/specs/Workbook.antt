@@ -11,7 +11,7 @@ use Rattle.xlsx_error.specs.declared.error.XlsxError.TheVariants.{OutOfMemory, X
 use Rattle.xlsx_sections.specs.Answers.{and_others_if, or_earlier, prepended}
 use Rattle.xlsx_sections.specs.PartSection.{PartSection, inside_of}
 use Rattle.xlsx_sections.specs.Refusal.{Refusal}
-use Rattle.xlsx_workbook.specs.DefinedNames.{name_with_text, is_defined_name, names_in}
+use Rattle.xlsx_workbook.specs.DefinedNames.{name_with_text, is_defined_name, names_in, scopes_in}
 use Rattle.xlsx_workbook.specs.KeptContents.{pair_of, sheet_of_entry}
 use Rattle.xlsx_relationships.specs.KeptRelationships.{related_by_id}
 use Rattle.xlsx_relationships.specs.Relationships.{Related}
@@ -75,12 +75,14 @@ is_name_start (start tag) = is_defined_name tag
 is_name_start (end name) = false
 is_name_start (leaf kind) = false
 
--- what a workbook's section holds: its sheets, its defined names, and what it says of the dates
+-- what a workbook's section holds: its sheets, its defined names with their scopes, and what it says
+-- of the dates
 pub record IsContents
     (folder : List ℕ) (related : List ℕ → Option Related)
     (inside : List Event) (found : WorkbookContents) : Type 0 where
   pub sheets : sheets_in folder related inside ≡ Ok (sheets_of found)
   pub names : names_in inside ≡ Ok (names_of found)
+  pub scopes : scopes_in inside ≡ found.scopes.items
   pub epoch : epoch_in inside ≡ Ok found.epoch
 
 -- why a workbook's section holds nothing that can be taken

@@ -2,7 +2,7 @@
 //! 1, section 18.2).
 //!
 //! Rooms: `paths` (the name of the workbook's part, and `KeptPath`), `workbook` (its section),
-//! `sheet_element`, `sheet` (`Sheet`, `Metadata`). The events of the section are looked at once;
+//! `sheet_element`, `sheet` (`Sheet`, `Metadata`), `name_scope` (which sheets see a defined name). The events of the section are looked at once;
 //! those inside a defined name are taken as events of the section, too.
 //!
 //! **Of a sheet's path its pieces are kept** (`KeptPath`): the workbook's folder and the target of
@@ -12,12 +12,14 @@
 #![tactic(auto)]
 
 mod equality;
+mod name_scope;
 mod paths;
 mod sheet;
 mod sheet_element;
 mod workbook;
 
 pub use equality::{copies_are_the_same, equality_is_by_all_fields};
+pub use name_scope::NameScope;
 pub use paths::{KeptPath, file_of};
 pub use sheet::{Metadata, Sheet, SheetEntry, SheetType, SheetVisible};
 pub use workbook::{SheetPlaces, WorkbookContents, read_contents};

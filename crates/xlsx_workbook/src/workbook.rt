@@ -23,6 +23,7 @@ ghost use Rattle.xlsx_workbook.specs.Workbook.{KeepsSheetsAt, IsNameRefusedAt, I
 ghost use Rattle.xlsx_workbook.specs.Workbook.{AreContentsRefusedAt};
 ghost use Rattle.xlsx_workbook.specs.WorkbookErrors.{IsWorkbookError};
 
+use crate::name_scope::{NameScope, push_scope, scope_of};
 use crate::sheet::SheetEntry;
 use crate::sheet_element::{keep_epoch, push_sheet};
 use part_events::{Package, PartEvent, StartTag, XlReader};
@@ -39,6 +40,8 @@ pub struct WorkbookContents {
     pub entries: Vec<SheetEntry>,
     /// The defined names, with their texts.
     pub names: Vec<(String, String)>,
+    /// The scope of each defined name, in the order of the names.
+    pub scopes: Vec<NameScope>,
     /// Whether dates count from 1904, where it was said.
     pub epoch: Option<bool>,
 }
@@ -65,6 +68,7 @@ fn take_start(
         KeepsSheets folder related found.old (start (tag_of tag.entry) ∷ others)
         found.new others) }
     ensures names { OnOk result (names_of found.new ≡ names_of found.old) }
+    ensures scopes { OnOk result (found.new.scopes ≡ found.old.scopes) }
     ensures err { let folder = arc_str_bytes places.entry.folder.now in
         let related = related_by_id places.entry.relationships.now in
         IfErr result (λ error. (others : List Event) →
@@ -103,6 +107,7 @@ fn take_event(
         OnOk result ((others : List Event) →
         KeepsSheets folder related found.old (event_of event.entry ∷ others) found.new others) }
     ensures names { OnOk result (names_of found.new ≡ names_of found.old) }
+    ensures scopes { OnOk result (found.new.scopes ≡ found.old.scopes) }
     ensures err { let folder = arc_str_bytes places.entry.folder.now in
         let related = related_by_id places.entry.relationships.now in
         IfErr result (λ error. (others : List Event) →
@@ -181,6 +186,7 @@ fn read_name<P: Package>(
         xml.old.source.is_told ≡ true →
         OnOk result (KeepsName (option_map string_bytes name) inside
         (length (section_ahead base xml.old)) (names_of found.old) (names_of found.new)) }
+    ensures scopes { OnOk result (found.new.scopes ≡ found.old.scopes) }
     ensures err { let name = option_map string_bytes name in
         let refused = IsNameRefusedAt places.entry found.old name in
         IfErr result (SectionFails (always (codes "workbook")) refused base xml.old xml.new) }
@@ -235,6 +241,7 @@ fn contents_in<P: Package>(
     let mut found = WorkbookContents {
         entries: Vec::new(alloc),
         names: Vec::new(alloc),
+        scopes: Vec::new(alloc),
         epoch: None,
     };
     'events: while let Some(at) = next_event_in(xml, base, "workbook")? {
@@ -242,7 +249,9 @@ fn contents_in<P: Package>(
         take_event(alloc, &mut found, places, event, at)?;
         if let Some(tag) = name_start(event) {
             let name = name_by(alloc, tag, at)?;
+            let (is_named, scope) = (name.is_some(), scope_of(tag));
             read_name(xml, &mut found, places, base, name)?;
+            push_scope(&mut found.scopes, is_named, scope)?;
         }
     }
     Ok(found)

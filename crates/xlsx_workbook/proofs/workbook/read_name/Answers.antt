@@ -112,6 +112,7 @@ events-preserved g c =
       own = search rules;
       wanted = search rules;
       names = search rules;
+      scopes = search rules;
       sheets = λ told. sheets_further (c.events.invariant.sheets told)
           (event_taken (outer.left told) c.in_ok-take_event.ensures.ok);
       text = λ told wanted. joins_further (inner.left told)

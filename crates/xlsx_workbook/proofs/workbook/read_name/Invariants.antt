@@ -22,6 +22,7 @@ invariant-events g l =
       own : l.name ≡ l.fn.name;
       wanted : l.wanted ≡ is_some l.name;
       names : names_of l.found ≡ names_of l.fn.found;
+      scopes : l.found.scopes ≡ l.fn.found.scopes;
       sheets :
           old.source.is_told ≡ true →
           KeepsSheets (arc_str_bytes l.places.folder.now) related l.fn.found
