@@ -1,8 +1,10 @@
 -- How the readings of a package's parts make an opening.
 use Rattle.std.proofs.Common.{◌≡◌, ◌+◌, ◌≤◌, ℕ, List, [], ◌∷◌, Bool, true, false, Option, Some}
-use Rattle.std.proofs.Common.{None, Result, Ok, Err, map, refl, ◌∙◌, ap, subst, inl, inr}
+use Rattle.std.proofs.Common.{None, Result, Ok, Err, map, option_map, refl, sym, ◌∙◌, ap, subst}
+use Rattle.std.proofs.Common.{inl, inr}
 use Rattle.std.proofs.Common.{arith, codes}
 use Rattle.std.specs.Prelude.{option_and_then, unwrap_or, IsSomeAnd, MatchOption, OnOk}
+use Rattle.part_events.specs.Event.{Event}
 use Rattle.part_events.specs.Package.{Part, PackageState, SameParts, UsesPackage, LeavesPackage}
 use Rattle.part_events.specs.Package.{Uses, CountsUp, part_of, event_count}
 use Rattle.part_events.proofs.Uses.{uses_then, leaves_then}
@@ -17,6 +19,7 @@ use Rattle.xlsx_sections.specs.PartSection.{closed_section_of}
 use Rattle.xlsx_sections.specs.SectionEvents.{section_events_of}
 use Rattle.xlsx_theme.specs.ThemePart.{theme_colors}
 use Rattle.xlsx_stylesheet.specs.StyleSheet.{cell_formats_in, end_in_styles}
+use Rattle.xlsx_workbook.specs.DefinedNames.{scopes_in}
 use Rattle.xlsx_workbook.specs.KeptContents.{pair_of, path_kept, sheet_of_entry}
 use Rattle.xlsx_relationships.specs.Paths.{folder_of}
 use Rattle.xlsx_workbook.specs.Paths.{workbook_part, theme_part}
@@ -24,6 +27,7 @@ use Rattle.xlsx_workbook.specs.Paths.{styles_part}
 use Rattle.xlsx_relationships.specs.Relationships.{Related, IsPathRefused}
 use Rattle.xlsx_workbook.specs.Sheets.{PlacedSheet}
 use Rattle.xlsx_workbook.specs.Workbook.{IsContents, AreContentsRefused}
+use Rattle.xlsx_workbook.specs.declared.name_scope.NameScope.{NameScope}
 use Rattle.xlsx_workbook.specs.declared.paths.KeptPath.{KeptPath}
 use Rattle.xlsx_workbook.specs.declared.sheet.Metadata.{Metadata}
 use Rattle.xlsx_workbook.specs.declared.sheet.SheetEntry.{SheetEntry}
@@ -31,7 +35,7 @@ use Rattle.xlsx_workbook.specs.declared.workbook.WorkbookContents.{WorkbookConte
 use Rattle.xlsx_open.specs.Opening.{OpeningCause, RootCause, WorkbookCause, ContentsCause}
 use Rattle.xlsx_open.specs.Opening.{Opening, HoldsOpening, ListedSheet, listed_sheet, without_path}
 use Rattle.xlsx_open.specs.Opening.{HasPath, HasRelationships, HasWorkbook, HasNothing, IsOpening}
-use Rattle.xlsx_open.specs.Opening.{OpensAs}
+use Rattle.xlsx_open.specs.Opening.{OpensAs, scopes_at}
 use Rattle.xlsx_open.specs.Opening.{OpeningFails, WorkbookOpens, WorkbookFails}
 use Rattle.xlsx_open.specs.Opening.{OpensPackage, TakesBook, BookCause, BookOpens, BookFails}
 use Rattle.xlsx_open.specs.Opening.{epoch_or_1900, book_events}
@@ -58,6 +62,12 @@ some_weaker : {A : Type 0} (o : Option A) (P Q : A → Type 0) → ((x : A) → 
     → IsSomeAnd o Q
 some_weaker None P Q weaker is = is
 some_weaker (Some x) P Q weaker is = weaker x is
+
+some_scopes : (o : Option (List Event)) (scopes : List NameScope)
+    → IsSomeAnd o (λ inside. scopes_in inside ≡ scopes)
+    → scopes ≡ unwrap_or (option_map scopes_in o) []
+some_scopes None scopes is = absurd is
+some_scopes (Some inside) scopes is = sym is
 
 matched : {A B : Type 0} (o : Option A) (f : A → Option B) (Q : Type 0) (P : B → Type 0)
     → IsSomeAnd (option_and_then f o) P → MatchOption o Q (λ _. IsSomeAnd (option_and_then f o) P)
@@ -113,6 +123,21 @@ pub has_nothing : (parts : List Part) (path : List ℕ) (related : List ℕ → 
     (record { sheets = []; names = []; shared = shared; is_1904 = false })
 has_nothing parts path related shared absent =
     rw absent (record { sheets = refl; names = refl; epoch = refl })
+
+-- the scopes of contents are those that the workbook's part says
+pub has_scopes : (parts : List Part) (path folder : List ℕ) (related : List ℕ → Option Related)
+    (found : WorkbookContents) → IsSomeAnd (closed_section_of (codes "workbook") path parts)
+    (λ inside. IsContents folder related inside found) → found.scopes.items ≡ scopes_at parts path
+has_scopes parts path folder related found is =
+    some_scopes (closed_section_of (codes "workbook") path parts) found.scopes.items
+    (some_weaker (closed_section_of (codes "workbook") path parts)
+    (λ inside. IsContents folder related inside found)
+    (λ inside. scopes_in inside ≡ found.scopes.items) (λ inside holds. holds.scopes) is)
+
+-- a part that is absent says none
+pub no_scopes : (parts : List Part) (path : List ℕ) → part_of parts path ≡ None
+    → scopes_at parts path ≡ []
+no_scopes parts path absent = rw absent refl
 
 -- the package's relationships are refused
 pub root_fails : (old new : PackageState) (error : XlsxError)

@@ -1,6 +1,6 @@
 -- What opening a workbook finds in the parts of a package, and why it is refused.
 use Rattle.std.specs.Prelude.{◌≡◌, ◌⊎◌, ⊤, ℕ, ◌+◌, ◌≤◌, List, [], Bool, true, false, codes, Option}
-use Rattle.std.specs.Prelude.{Some, map, unwrap_or, Result, Ok, Err, IsSomeAnd}
+use Rattle.std.specs.Prelude.{Some, map, unwrap_or, option_map, Result, Ok, Err, IsSomeAnd}
 use Rattle.std.specs.Prelude.{MatchOption, MatchResult, string_bytes}
 use Rattle.part_events.specs.Event.{Event}
 use Rattle.part_events.specs.Package.{Part, PackageState, KeepsFaults, SameParts, part_of}
@@ -18,7 +18,7 @@ use Rattle.xlsx_sections.specs.SectionEvents.{section_events_of}
 use Rattle.xlsx_theme.specs.ThemePart.{TakesTheme}
 use Rattle.xlsx_stylesheet.specs.StylesErrors.{IsStylesEnd}
 use Rattle.xlsx_strings.specs.Strings.{IsStringsEnd}
-use Rattle.xlsx_workbook.specs.DefinedNames.{names_in}
+use Rattle.xlsx_workbook.specs.DefinedNames.{names_in, scopes_in}
 use Rattle.xlsx_workbook.specs.KeptContents.{pair_of, path_kept}
 use Rattle.xlsx_relationships.specs.Paths.{folder_of}
 use Rattle.xlsx_workbook.specs.Paths.{workbook_part, relationships_part}
@@ -27,6 +27,7 @@ use Rattle.xlsx_relationships.specs.Relationships.{Related, path_in, related_in,
 use Rattle.xlsx_relationships.specs.Relationships.{AreRelationshipsRefused}
 use Rattle.xlsx_workbook.specs.Sheets.{PlacedSheet, sheets_in, epoch_in}
 use Rattle.xlsx_workbook.specs.Workbook.{AreContentsRefused}
+use Rattle.xlsx_workbook.specs.declared.name_scope.NameScope.{NameScope}
 use Rattle.xlsx_workbook.specs.declared.paths.KeptPath.{KeptPath}
 use Rattle.xlsx_workbook.specs.declared.sheet.Sheet.{Sheet}
 use Rattle.xlsx_workbook.specs.declared.sheet.Metadata.{Metadata}
@@ -81,6 +82,20 @@ HasPath parts path =
 -- the workbook's part lies in this folder
 abbrev pub LiesIn : List Part → List ℕ → Type 0
 LiesIn parts folder = (path : List ℕ) × HasPath parts path × (folder ≡ folder_of path)
+
+-- the scopes of the defined names that the workbook's part at a path says
+abbrev pub scopes_at : List Part → List ℕ → List NameScope
+scopes_at parts path =
+    unwrap_or (option_map scopes_in (closed_section_of (codes "workbook") path parts)) []
+
+-- the package's relationships lead to a workbook whose defined names have these scopes
+abbrev pub HasScopes : List Part → List NameScope → Type 0
+HasScopes parts scopes =
+    (path : List ℕ) × HasPath parts path × (scopes ≡ scopes_at parts (workbook_part path))
+
+-- these are the scopes where the package tells its content
+abbrev pub TellsScopes : PackageState → List NameScope → Type 0
+TellsScopes old scopes = old.is_told ≡ true → HasScopes old.parts scopes
 
 -- the workbook's relationships, each by its Id
 abbrev pub HasRelationships : List Part → List ℕ → (List ℕ → Option Related) → Type 0

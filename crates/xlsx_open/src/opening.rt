@@ -7,7 +7,8 @@ ghost use Rattle.xlsx_workbook.specs.Paths.{workbook_part, relationships_part};
 ghost use Rattle.xlsx_open.specs.Opening.{Opening, HoldsOpening, OpensAs, IsOpeningError};
 ghost use Rattle.xlsx_open.specs.Opening.{OpensPackage, WorkbookOpens, WorkbookFails, BookOpens};
 ghost use Rattle.xlsx_open.specs.Opening.{BookFails, OpeningFails, workbook_events, book_events};
-ghost use Rattle.xlsx_open.specs.Opening.{workbook_sections, TakesBook, LiesIn};
+ghost use Rattle.xlsx_open.specs.Opening.{workbook_sections, TakesBook, LiesIn, scopes_at};
+ghost use Rattle.xlsx_open.specs.Opening.{HasScopes};
 ghost use Rattle.xlsx_relationships.specs.Paths.{folder_of};
 ghost use Rattle.xlsx_open.specs.SharedParts.{shared_said};
 
@@ -17,7 +18,9 @@ use std::alloc::{AllocError, Global};
 use std::sync::ArcStr;
 use xlsx_error::XlsxError;
 use xlsx_relationships::{folder_of, joined, read_path, read_relationships};
-use xlsx_workbook::{KeptPath, Metadata, SheetPlaces, WorkbookContents, file_of, read_contents};
+use xlsx_workbook::{
+    KeptPath, Metadata, NameScope, SheetPlaces, WorkbookContents, file_of, read_contents,
+};
 
 fn workbook_part(alloc: Global, path: &str) -> Result<String, AllocError>
     ensures { IfOk result (λ part. string_bytes part ≡ workbook_part path.now) }
@@ -38,6 +41,8 @@ fn relationships_part(alloc: Global, path: &str) -> Result<String, AllocError>
 #[derive(Debug, Drop)]
 pub struct Opened {
     pub metadata: Metadata,
+    /// The scope of each defined name, in the order of the names.
+    pub scopes: Vec<NameScope>,
     /// The path of the part of each sheet, in the order of the sheets.
     pub paths: Vec<KeptPath>,
     /// The folder of the workbook's part, with the slash at its end.
@@ -58,6 +63,7 @@ fn from_contents(
     ensures paths { IfOk result (λ o.
         o.paths.items ≡ map (λ entry. entry.path) contents.entries.items) }
     ensures names { IfOk result (λ o. o.metadata.names.items ≡ contents.names.items) }
+    ensures scopes { IfOk result (λ o. o.scopes.items ≡ contents.scopes.items) }
     ensures folder { IfOk result (λ o. o.folder ≡ folder) }
     ensures shared { IfOk result (λ o. o.shared ≡ shared) }
     ensures epoch { IfOk result (λ o. o.is_1904 ≡ unwrap_or contents.epoch false) }
@@ -73,6 +79,7 @@ fn from_contents(
             sheets,
             names: contents.names,
         },
+        scopes: contents.scopes,
         paths,
         folder,
         shared,
@@ -84,6 +91,7 @@ fn from_contents(
 fn nothing_opened(alloc: Global, folder: ArcStr, shared: SharedParts) -> Opened
     ensures opened { HoldsOpening result.metadata result.paths.items result.shared result.is_1904
         (record { sheets = []; names = []; shared = shared_said shared; is_1904 = false }) }
+    ensures scopes { result.scopes.items ≡ [] }
     ensures folder { result.folder ≡ folder }
 {
     Opened {
@@ -91,6 +99,7 @@ fn nothing_opened(alloc: Global, folder: ArcStr, shared: SharedParts) -> Opened
             sheets: Vec::new(alloc),
             names: Vec::new(alloc),
         },
+        scopes: Vec::new(alloc),
         paths: Vec::new(alloc),
         folder,
         shared,
@@ -113,6 +122,9 @@ fn open_workbook<P: Package>(
         × HoldsOpening o.metadata o.paths.items o.shared o.is_1904 opening
         × (opening.shared ≡ shared_said shared)
         × WorkbookOpens xml.old.source.parts path.now opening) }
+    ensures scopes { let old = xml.old.source in
+        old.is_told ≡ true → IfOk result (λ o.
+        o.scopes.items ≡ scopes_at old.parts (workbook_part path.now)) }
     ensures folder { IfOk result (λ o. arc_str_bytes o.folder ≡ folder_of path.now) }
     ensures err { IfErr result (WorkbookFails path.now xml.old.source xml.new.source) }
     ensures kind { IfErr result IsOpeningError }
@@ -142,6 +154,9 @@ fn open_at<P: Package>(xml: &mut XlReader<P>, path: &str) -> Result<Opened, Xlsx
     ensures opened { xml.old.source.is_told ≡ true → IfOk result (λ o. (opening : Opening)
         × HoldsOpening o.metadata o.paths.items o.shared o.is_1904 opening
         × BookOpens xml.old.source.parts path.now opening) }
+    ensures scopes { let old = xml.old.source in
+        old.is_told ≡ true → IfOk result (λ o.
+        o.scopes.items ≡ scopes_at old.parts (workbook_part path.now)) }
     ensures folder { IfOk result (λ o. arc_str_bytes o.folder ≡ folder_of path.now) }
     ensures err { IfErr result (BookFails path.now xml.old.source xml.new.source) }
     ensures kind { IfErr result IsOpeningError }
@@ -171,6 +186,8 @@ pub fn open<P: Package>(xml: &mut XlReader<P>) -> Result<Opened, XlsxError>
         × OpensAs xml.old.source.parts opening) }
     ensures folder { xml.old.source.is_told ≡ true →
         IfOk result (λ o. LiesIn xml.old.source.parts (arc_str_bytes o.folder)) }
+    ensures scopes { xml.old.source.is_told ≡ true →
+        IfOk result (λ o. HasScopes xml.old.source.parts o.scopes.items) }
     ensures err { IfErr result (OpeningFails xml.old.source xml.new.source) }
     ensures kind { IfErr result IsOpeningError }
 {

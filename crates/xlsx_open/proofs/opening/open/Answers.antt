@@ -2,11 +2,13 @@ use Rattle.std.proofs.Common.{◌≡◌, ℕ, List, true, ◌∙◌, ap, subst, 
 use Rattle.std.specs.Arc.{arc_str_bytes}
 use Rattle.std.specs.Prelude.{OnOk}
 use Rattle.std.proofs.lemmas.Result.{err_from_is_err_and, IfOk-weaker, IfErr-weaker}
-use Rattle.part_events.specs.Package.{Uses}
+use Rattle.part_events.specs.Package.{Part, Uses}
 use Rattle.xlsx_error.specs.declared.error.XlsxError.TheVariants.{Io}
 use Rattle.xlsx_relationships.specs.Paths.{folder_of}
 use Rattle.xlsx_open.specs.Opening.{Opening, HoldsOpening, OpensAs, OpeningFails, LiesIn}
-use Rattle.xlsx_open.specs.Opening.{BookOpens, BookFails, book_events, TakesBook}
+use Rattle.xlsx_open.specs.Opening.{BookOpens, BookFails, book_events, TakesBook, scopes_at}
+use Rattle.xlsx_open.specs.Opening.{HasScopes}
+use Rattle.xlsx_workbook.specs.Paths.{workbook_part}
 use Rattle.xlsx_open.proofs.Openings.{root_fails, opens_as, book_fails, opens_package}
 use Rattle.xlsx_open.proofs.opening.open.Goals as goal
 
@@ -70,3 +72,20 @@ returns-clause-folder g c = λ told.
     (λ o. LiesIn old.parts (arc_str_bytes o.folder))
     (λ o is. (path, c.in_ok-path.ensures.path told, is ∙ ap folder_of c.as_str.ensures.value))
     c.open_at.ensures.folder
+
+pub returns-clause-scopes : goal.returns-clause-scopes
+returns-clause-scopes g c = λ told.
+    let old = c.args.xml.now.source in
+    let mid = c.read_path.new.xml.source in
+    let path = string_bytes c.in_ok-path.path in
+    let same = c.in_ok-path.ensures.uses.parts in
+    IfOk-weaker c.open_at.result
+    (λ o. o.scopes.items ≡ scopes_at mid.parts (workbook_part c.as_str.result.now))
+    (λ o. HasScopes old.parts o.scopes.items)
+    (λ o is. (
+      path,
+      c.in_ok-path.ensures.path told,
+      is ∙ ap (λ (own : List ℕ). scopes_at mid.parts (workbook_part own)) c.as_str.ensures.value
+          ∙ ap (λ (parts : List Part). scopes_at parts (workbook_part path)) same.parts,
+    ))
+    (c.open_at.ensures.scopes (same.is_told ∙ told))

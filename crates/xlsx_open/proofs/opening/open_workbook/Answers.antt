@@ -11,11 +11,11 @@ use Rattle.xlsx_relationships.specs.Paths.{folder_of}
 use Rattle.xlsx_workbook.specs.Paths.{workbook_part, relationships_part}
 use Rattle.xlsx_relationships.specs.Relationships.{related_in}
 use Rattle.xlsx_workbook.specs.Workbook.{IsContents, AreContentsRefused}
-use Rattle.xlsx_open.specs.Opening.{HasRelationships}
+use Rattle.xlsx_open.specs.Opening.{HasRelationships, scopes_at}
 use Rattle.xlsx_open.specs.SharedParts.{shared_said}
 use Rattle.xlsx_open.proofs.Openings.{opening_of, holds_contents, has_contents, has_nothing}
 use Rattle.part_events.proofs.Uses.{leaves_then}
-use Rattle.xlsx_open.proofs.Openings.{contents_fail}
+use Rattle.xlsx_open.proofs.Openings.{contents_fail, has_scopes, no_scopes}
 use Rattle.xlsx_open.proofs.opening.open_workbook.Goals as goal
 
 pub returns-in-Some-clause-opened : goal.returns-in-Some-clause-opened
@@ -137,3 +137,34 @@ returns-in_err-contents-clause-uses g c =
     let p = err_from_is_err_and c.from_residual-in_err-contents.result
     c.from_residual-in_err-contents.ensures.1 in
     rw (p.1, p.2) (leaves_then (omega arith) first second)
+
+pub returns-in-Some-clause-scopes : goal.returns-in-Some-clause-scopes
+returns-in-Some-clause-scopes g c = λ told.
+    let mid = c.read_relationships.new.xml.source in
+    let path = c.args.path.now in
+    let related = related_by_id c.in_ok-relationships.relationships in
+    let found = c.in-Some.contents in
+    let same = c.in_ok-relationships.ensures.uses.parts in
+    let contents : IsSomeAnd (closed_section_of (codes "workbook") c.as_str-2.result.now mid.parts)
+    (λ inside. IsContents (arc_str_bytes c.in_ok-folder.folder) related inside found) =
+    rw c.in-Some.is at (c.in_ok-contents.ensures.contents (same.is_told ∙ told)) in
+    c.in_ok-from_contents-in-Some.ensures.scopes
+    ∙ has_scopes mid.parts c.as_str-2.result.now (arc_str_bytes c.in_ok-folder.folder) related found
+    contents
+    ∙ ap (λ (part : List ℕ). scopes_at mid.parts part)
+    (c.as_str-2.ensures.value ∙ c.in_ok-part-2.ensures)
+    ∙ ap (λ (parts : List Part). scopes_at parts (workbook_part path)) same.parts
+
+pub returns-clause-scopes : goal.returns-clause-scopes
+returns-clause-scopes g c = λ told.
+    let old = c.args.xml.now.source in
+    let mid = c.read_relationships.new.xml.source in
+    let path = c.args.path.now in
+    let same = c.in_ok-relationships.ensures.uses.parts in
+    let absent : part_of mid.parts c.as_str-2.result.now ≡ None =
+    rw c.in-None.is at (c.in_ok-contents.ensures.contents (same.is_told ∙ told)) in
+    let absent_here : part_of old.parts (workbook_part path) ≡ None =
+    ap (λ (parts : List Part). part_of parts (workbook_part path)) (sym same.parts)
+    ∙ ap (λ (part : List ℕ). part_of mid.parts part)
+    (sym (c.as_str-2.ensures.value ∙ c.in_ok-part-2.ensures)) ∙ absent in
+    c.nothing_opened.ensures.scopes ∙ sym (no_scopes old.parts (workbook_part path) absent_here)
