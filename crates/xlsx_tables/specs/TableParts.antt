@@ -18,10 +18,14 @@ use Rattle.xlsx_parts.specs.FirstElement.{first_said}
 use Rattle.xlsx_tables.specs.declared.table_part.TablePart.{TablePart}
 use Rattle.xlsx_tables.specs.declared.table_start.TableStart.{TableStart}
 
--- a table: its name, the names of its columns, and the area of its data
+-- a table: its name, the names of its columns, its area with headers and totals, how many rows
+-- these have, and the area of its data
 pub record TableSaid : Type 0 where
   pub name : List ℕ
   pub columns : List (List ℕ)
+  pub whole : Dimensions
+  pub headers : ℕ
+  pub totals : ℕ
   pub area : Option Dimensions
 
 -- an area without so many rows at its start and at its end
@@ -48,15 +52,25 @@ abbrev pub rows_counted : ℕ → Option (List ℕ) → Result ℕ Refusal
 rows_counted other None = Ok other
 rows_counted other (Some text) = counted_by text (number_below (2 ^ 32) text)
 
--- what the start of a table says: its name, and the area of its data
+-- what the start of a table says: its name, its area with headers and totals, how many rows these
+-- have, and the area of its data
 pub record StartSaid : Type 0 where
   pub name : List ℕ
+  pub whole : Dimensions
+  pub headers : ℕ
+  pub totals : ℕ
   pub area : Option Dimensions
 
 -- what the start says, once the rows of totals are counted
 abbrev pub with_totals : List ℕ → Dimensions → ℕ → Result ℕ Refusal → Result StartSaid Refusal
 with_totals name area headers (Ok totals) =
-    Ok (record { name = name; area = data_area headers totals area })
+    Ok (record {
+      name = name;
+      whole = area;
+      headers = headers;
+      totals = totals;
+      area = data_area headers totals area;
+    })
 with_totals name area headers (Err refusal) = Err refusal
 
 -- what the start says, once the rows of headers are counted
@@ -117,7 +131,14 @@ columns_in inside = some_answers name_by (starts_by is_column inside)
 abbrev pub with_columns :
     StartSaid → Result (List (List ℕ)) Refusal → Result TableSaid Refusal
 with_columns begun (Ok columns) =
-    Ok (record { name = begun.name; columns = columns; area = begun.area })
+    Ok (record {
+      name = begun.name;
+      columns = columns;
+      whole = begun.whole;
+      headers = begun.headers;
+      totals = begun.totals;
+      area = begun.area;
+    })
 with_columns begun (Err refusal) = Err refusal
 
 -- the same; the refusal of the start comes first
@@ -137,12 +158,21 @@ table_of events = first_said (codes "table") table_said events
 
 -- what is kept of a start and of a table, apart from where their texts lie in memory
 abbrev pub start_kept : TableStart → StartSaid
-start_kept begun = record { name = string_bytes begun.name; area = begun.area }
+start_kept begun = record {
+  name = string_bytes begun.name;
+  whole = begun.whole;
+  headers = begun.headers;
+  totals = begun.totals;
+  area = begun.area;
+}
 
 -- what a table's part says, as it is kept
 abbrev pub table_kept : TablePart → TableSaid
 table_kept part = record {
   name = string_bytes part.display_name;
   columns = map string_bytes part.columns.items;
+  whole = part.whole;
+  headers = part.headers;
+  totals = part.totals;
   area = part.area;
 }

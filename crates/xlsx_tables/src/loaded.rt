@@ -47,6 +47,27 @@ impl LoadedTable {
         &self.part.columns
     }
 
+    /// Its area with headers and totals, as `ref` names it, its rows and columns counted from 0.
+    pub fn whole(&self) -> Dimensions
+        ensures { result ≡ (loaded_of self.now).1.whole }
+    {
+        self.part.whole
+    }
+
+    /// How many rows of headers it has, whether its area has them or not.
+    pub fn headers(&self) -> u32
+        ensures { result ≡ (loaded_of self.now).1.headers }
+    {
+        self.part.headers
+    }
+
+    /// How many rows of totals it has, whether its area has them or not.
+    pub fn totals(&self) -> u32
+        ensures { result ≡ (loaded_of self.now).1.totals }
+    {
+        self.part.totals
+    }
+
     /// The area of its data, without headers and totals, its rows and columns counted from 0. None
     /// where it has no cell.
     pub fn area(&self) -> Option<Dimensions>

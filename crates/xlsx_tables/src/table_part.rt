@@ -32,6 +32,12 @@ pub struct TablePart {
     pub display_name: String,
     /// The names of its columns, in order.
     pub columns: Vec<String>,
+    /// Its area with headers and totals, as `ref` names it, its rows and columns counted from 0.
+    pub whole: Dimensions,
+    /// How many rows of headers it has.
+    pub headers: u32,
+    /// How many rows of totals it has.
+    pub totals: u32,
     /// The area of its data, without headers and totals, its rows and columns counted from 0. None
     /// where it has no cell.
     pub area: Option<Dimensions>,
@@ -107,15 +113,18 @@ fn table_of<P: Package>(xml: &mut XlReader<P>) -> Result<TablePart, XlsxError>
     Ok(TablePart {
         display_name: begun.name,
         columns,
+        whole: begun.whole,
+        headers: begun.headers,
+        totals: begun.totals,
         area: begun.area,
     })
 }
 
 /// Reads the first table of a part of which no event was taken, to its end (ECMA-376 part 1,
 /// section 18.5.1.2): its `displayName`, decoded, the names of its `tableColumn` starts, decoded,
-/// in order, and the area of its data.
+/// in order, the area of `ref`, and the area of its data.
 ///
-/// The area is `ref` without as many first rows as `headerRowCount` says, else one, and as many
+/// The data are `ref` without as many first rows as `headerRowCount` says, else one, and as many
 /// last ones as `totalsRowCount` says, else none. Rows and columns are counted from 0.
 ///
 /// A part that has no table, or ends in it, is `XmlEof("Table")`, and an end that breaks the

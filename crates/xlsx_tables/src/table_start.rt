@@ -22,10 +22,14 @@ use xlsx_sections::{decode_at, number_text};
 
 type TableTexts<'a> = (AttrValue<'a>, AttrValue<'a>, AttrValue<'a>, AttrValue<'a>);
 
-/// What the start of a table says: its name, and the area of its data.
+/// What the start of a table says: its name, its area with headers and totals, how many rows these
+/// have, and the area of its data.
 #[derive(Debug, Drop)]
 pub struct TableStart {
     pub name: String,
+    pub whole: Dimensions,
+    pub headers: u32,
+    pub totals: u32,
     pub area: Option<Dimensions>,
 }
 
@@ -106,6 +110,9 @@ fn start_from(
     let totals = rows_counted(alloc, totals, 0)?;
     Ok(TableStart {
         name,
+        whole: area,
+        headers,
+        totals,
         area: data_area(headers, totals, area),
     })
 }
