@@ -11,6 +11,7 @@ use Rattle.xlsx_core.specs.declared.xlsx.Xlsx.{Xlsx}
 abbrev pub workbook_of : {P : Type 0} → Xlsx P → Workbook
 workbook_of xlsx = record {
   metadata = xlsx.metadata;
+  scopes = xlsx.scopes;
   paths = xlsx.paths;
   folder = xlsx.folder;
   shared = xlsx.shared;

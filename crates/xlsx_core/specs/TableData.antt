@@ -72,6 +72,9 @@ head_said head =
     table_of_sheet (string_bytes head.sheet) (record {
       name = string_bytes head.name;
       columns = map string_bytes head.columns.items;
+      whole = head.whole;
+      headers = head.headers;
+      totals = head.totals;
       area = head.area;
     })
 

@@ -58,6 +58,7 @@ palette_of_book xlsx = xlsx.shared.style_sheet.styles.items
 -- a call keeps what a workbook was opened as, and its header row
 pub record KeepsBook {P : Type 0} (old new : Xlsx P) : Type 0 where
   pub metadata : new.metadata ≡ old.metadata
+  pub scopes : new.scopes ≡ old.scopes
   pub paths : new.paths ≡ old.paths
   pub folder : new.folder ≡ old.folder
   pub shared : new.shared ≡ old.shared
@@ -73,6 +74,7 @@ pub record KeepsWorkbook {P : Type 0} (old new : Xlsx P) : Type 0 where
 pub record SetsHeaderRow {P : Type 0} (header : HeaderRow) (old new : Xlsx P) : Type 0 where
   pub xml : new.xml ≡ old.xml
   pub metadata : new.metadata ≡ old.metadata
+  pub scopes : new.scopes ≡ old.scopes
   pub paths : new.paths ≡ old.paths
   pub folder : new.folder ≡ old.folder
   pub shared : new.shared ≡ old.shared

@@ -94,7 +94,7 @@ pub use xlsx_cells::{SheetCursor, XlsxCellFormula, XlsxCellFormulaMetadataRecord
 pub use xlsx_comments::{Comment, Comments};
 pub use xlsx_error::XlsxError;
 pub use xlsx_formulas::XlsxFormulaMetadata;
-pub use xlsx_open::{Metadata, Sheet, SheetType, SheetVisible};
+pub use xlsx_open::{Metadata, NameScope, Sheet, SheetType, SheetVisible};
 pub use xlsx_pivot_cache::PivotCacheIter;
 pub use xlsx_pivots::PivotTables;
 pub use xlsx_properties::{Property, WorkbookProperties};

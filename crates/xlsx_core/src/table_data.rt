@@ -34,6 +34,9 @@ struct TableHead {
     name: String,
     sheet: String,
     columns: Vec<String>,
+    whole: Dimensions,
+    headers: u32,
+    totals: u32,
     area: Option<Dimensions>,
 }
 
@@ -82,6 +85,9 @@ impl<P: Package> Xlsx<P> {
             name: String::from_str(self.xml.alloc(), table.name())?,
             sheet: String::from_str(self.xml.alloc(), sheet)?,
             columns: copied_texts(self.xml.alloc(), table.columns())?,
+            whole: table.whole(),
+            headers: table.headers(),
+            totals: table.totals(),
             area: table.area(),
         })
     }

@@ -210,6 +210,45 @@ impl<P: Package> Xlsx<P> {
         self.numbered_table(index).area()
     }
 
+    /// The area of the table at this index, counted from 0, with headers and totals, as its `ref`
+    /// names it. Its rows and columns are counted from 0.
+    ///
+    /// It can be called once `tables_loaded`, with an index below `table_count`.
+    pub fn table_whole(&self, index: usize) -> Dimensions
+        requires loaded { IsSome self.now.lists.tables }
+        requires index { index < length (loaded_tables self.now) }
+        ensures { Some result ≡ option_map (λ (own : SheetTable). own.table.whole)
+            (slice_get (loaded_tables self.now) index) }
+    {
+        self.numbered_table(index).whole()
+    }
+
+    /// How many rows of headers the table at this index has, counted from 0, whether its area has
+    /// them or not.
+    ///
+    /// It can be called once `tables_loaded`, with an index below `table_count`.
+    pub fn table_headers(&self, index: usize) -> u32
+        requires loaded { IsSome self.now.lists.tables }
+        requires index { index < length (loaded_tables self.now) }
+        ensures { Some result ≡ option_map (λ (own : SheetTable). own.table.headers)
+            (slice_get (loaded_tables self.now) index) }
+    {
+        self.numbered_table(index).headers()
+    }
+
+    /// How many rows of totals the table at this index has, counted from 0, whether its area has
+    /// them or not.
+    ///
+    /// It can be called once `tables_loaded`, with an index below `table_count`.
+    pub fn table_totals(&self, index: usize) -> u32
+        requires loaded { IsSome self.now.lists.tables }
+        requires index { index < length (loaded_tables self.now) }
+        ensures { Some result ≡ option_map (λ (own : SheetTable). own.table.totals)
+            (slice_get (loaded_tables self.now) index) }
+    {
+        self.numbered_table(index).totals()
+    }
+
     /// The names of the columns of the table at this index, counted from 0, in order.
     ///
     /// It can be called once `tables_loaded`, with an index below `table_count`.
@@ -233,6 +272,19 @@ impl<P: Package> Xlsx<P> {
             (slice_get (loaded_tables self.now) index) }
     {
         sheet_name(&self.metadata.sheets, self.numbered_table(index).sheet())
+    }
+
+    /// The number of the sheet of the table at this index, both counted from 0.
+    ///
+    /// It can be called once `tables_loaded`, with an index below `table_count`.
+    pub fn table_sheet_number(&self, index: usize) -> usize
+        requires loaded { IsSome self.now.lists.tables }
+        requires index { index < length (loaded_tables self.now) }
+        ensures { Some (sheet_name self.now.metadata.sheets.items result)
+            ≡ option_map (λ (own : SheetTable). own.sheet)
+            (slice_get (loaded_tables self.now) index) }
+    {
+        self.numbered_table(index).sheet()
     }
 
     /// The names of the tables, in order. It can be called once `tables_loaded`.

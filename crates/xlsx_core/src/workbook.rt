@@ -18,7 +18,7 @@ use part_events::{Package, XlReader};
 use std::sync::ArcStr;
 use xlsx_cells::{SheetCursor, XlsxCellReader};
 use xlsx_error::XlsxError;
-use xlsx_open::{KeptPath, Metadata, SharedParts};
+use xlsx_open::{KeptPath, Metadata, NameScope, SharedParts};
 
 /// What is known of an open workbook beside its package: what it was opened as, the header row that
 /// was set, and the lists that were loaded.
@@ -29,6 +29,7 @@ use xlsx_open::{KeptPath, Metadata, SharedParts};
 #[derive(Drop)]
 pub struct Workbook {
     pub(crate) metadata: Metadata,
+    pub(crate) scopes: Vec<NameScope>,
     pub(crate) paths: Vec<KeptPath>,
     pub(crate) folder: ArcStr,
     pub(crate) shared: SharedParts,
@@ -59,6 +60,7 @@ impl<P: Package> Xlsx<P> {
         let Xlsx {
             xml,
             metadata,
+            scopes,
             paths,
             folder,
             shared,
@@ -68,6 +70,7 @@ impl<P: Package> Xlsx<P> {
         } = self;
         let workbook = Workbook {
             metadata,
+            scopes,
             paths,
             folder,
             shared,
@@ -86,6 +89,7 @@ impl<P: Package> Xlsx<P> {
         Xlsx {
             xml,
             metadata: workbook.metadata,
+            scopes: workbook.scopes,
             paths: workbook.paths,
             folder: workbook.folder,
             shared: workbook.shared,

@@ -4,7 +4,7 @@ ghost use Rattle.std.specs.Arc.{arc_str_bytes};
 ghost use Rattle.xlsx_error.specs.declared.error.XlsxError.TheVariants.{Io};
 ghost use Rattle.xlsx_open.specs.Opening.{Opening, HoldsOpening, OpensAs, OpensSoundly};
 ghost use Rattle.xlsx_open.specs.Opening.{IsOpeningError, OpensFrom, FailsToOpen, OpeningFails};
-ghost use Rattle.xlsx_open.specs.Opening.{LiesIn};
+ghost use Rattle.xlsx_open.specs.Opening.{LiesIn, TellsScopes};
 ghost use Rattle.xlsx_sections.specs.Failing.{SoundFails};
 
 use crate::lists::Lists;
@@ -14,13 +14,14 @@ use part_events::{Package, XlReader};
 use std::alloc::Global;
 use std::sync::ArcStr;
 use xlsx_error::XlsxError;
-use xlsx_open::{KeptPath, Metadata, SharedParts, open};
+use xlsx_open::{KeptPath, Metadata, NameScope, SharedParts, open};
 
 /// An open workbook, and the package that it is read from.
 #[derive(Drop)]
 pub struct Xlsx<P: Package> {
     pub(crate) xml: XlReader<P>,
     pub(crate) metadata: Metadata,
+    pub(crate) scopes: Vec<NameScope>,
     pub(crate) paths: Vec<KeptPath>,
     pub(crate) folder: ArcStr,
     pub(crate) shared: SharedParts,
@@ -65,8 +66,7 @@ impl<P: Package> Xlsx<P> {
     /// Ok(xlsx)
     /// ```
     pub fn new(alloc: Global, package: P) -> Result<Xlsx<P>, OpenFailure<P>>
-        ensures uses { MatchResult result
-            (λ xlsx. OpensFrom (P.state «package») xlsx.xml.source)
+        ensures uses { MatchResult result (λ xlsx. OpensFrom (P.state «package») xlsx.xml.source)
             (λ failure.
             FailsToOpen Io (P.state «package») (P.state failure.package) failure.error) }
         ensures opens { let old = P.state «package» in
@@ -76,6 +76,7 @@ impl<P: Package> Xlsx<P> {
         ensures folder { let old = P.state «package» in
             old.is_told ≡ true → IfOk result (λ xlsx.
             LiesIn old.parts (arc_str_bytes xlsx.folder)) }
+        ensures scopes { IfOk result (λ xlsx. TellsScopes (P.state «package») xlsx.scopes.items) }
         ensures header_row { IfOk result (λ xlsx. xlsx.header_row ≡ FirstNonEmptyRow) }
         ensures regions { IfOk result (λ xlsx. xlsx.lists.regions ≡ None) }
         ensures properties { IfOk result (λ xlsx. xlsx.lists.properties ≡ None) }
@@ -92,6 +93,7 @@ impl<P: Package> Xlsx<P> {
             Ok(opened) => Ok(Xlsx {
                 xml,
                 metadata: opened.metadata,
+                scopes: opened.scopes,
                 paths: opened.paths,
                 folder: opened.folder,
                 shared: opened.shared,
@@ -133,6 +135,7 @@ impl<P: Package> Xlsx<P> {
         let Xlsx {
             xml,
             metadata: _,
+            scopes: _,
             paths: _,
             folder: _,
             shared: _,
@@ -194,5 +197,13 @@ impl<P: Package> Xlsx<P> {
         ensures { result.now ≡ self.now.metadata }
     {
         &self.metadata
+    }
+
+    /// Which sheets see each defined name, in the order of the names (ECMA-376 part 1, section
+    /// 18.2.5).
+    pub fn name_scopes(&self) -> &[NameScope]
+        ensures { result.now ≡ self.now.scopes.items }
+    {
+        &self.scopes
     }
 }
