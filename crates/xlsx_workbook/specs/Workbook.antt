@@ -75,8 +75,8 @@ is_name_start (start tag) = is_defined_name tag
 is_name_start (end name) = false
 is_name_start (leaf kind) = false
 
--- what a workbook's section holds: its sheets, its defined names with their scopes, and what it says
--- of the dates
+-- what a workbook's section holds: its sheets, its defined names with their scopes, and what it
+-- says of the dates
 pub record IsContents
     (folder : List ℕ) (related : List ℕ → Option Related)
     (inside : List Event) (found : WorkbookContents) : Type 0 where

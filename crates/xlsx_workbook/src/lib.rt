@@ -2,8 +2,9 @@
 //! 1, section 18.2).
 //!
 //! Rooms: `paths` (the name of the workbook's part, and `KeptPath`), `workbook` (its section),
-//! `sheet_element`, `sheet` (`Sheet`, `Metadata`), `name_scope` (which sheets see a defined name). The events of the section are looked at once;
-//! those inside a defined name are taken as events of the section, too.
+//! `sheet_element`, `sheet` (`Sheet`, `Metadata`), `name_scope` (which sheets see a defined name).
+//! The events of the section are looked at once; those inside a defined name are taken as events of
+//! the section, too.
 //!
 //! **Of a sheet's path its pieces are kept** (`KeptPath`): the workbook's folder and the target of
 //! the sheet's relationship, each shared with all that name it. What it says is the path
