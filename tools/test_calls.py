@@ -342,6 +342,17 @@ class Tables(unittest.TestCase):
             )
 
     @checked
+    def test_tables_have_their_whole_areas_and_counts(self):
+        for table, wanted in tables("tables")[4]:
+            yield opened(
+                table,
+                with_table(NUTS, table),
+                (("table_shapes",), "not loaded"),
+                (("load_tables",), ""),
+                (("table_shapes",), wanted),
+            )
+
+    @checked
     def test_tables_go_by_the_names_of_sheets(self):
         # Two sheets of one name, and one of another whose part is that of the first.
         one, two = (with_data(f'<c r="A1"><v>{number}</v></c>') for number in (1, 2))
@@ -735,6 +746,13 @@ class Workbooks(unittest.TestCase):
         own = package(*LEADING[:2], (WORKBOOK_NAME, dated), theme)
         known = (("has_1904_epoch",), "true"), (("theme_defaulted",), "false"), (("faults",), "0")
         yield opened("both", own, *known)
+
+    @checked
+    def test_names_have_their_scopes(self):
+        for names, wanted in tables("scopes")[0]:
+            book = book_of(("S", "rId1")).replace("</workbook>", f"{names}</workbook>")
+            own = package(*LEADING[:2], (WORKBOOK_NAME, book))
+            yield opened(names, own, (("name_scopes",), wanted))
 
     @checked
     def test_a_sample_of_five_rows_is_read(self):

@@ -1,6 +1,6 @@
 //! Tables, those of a part and those of an open workbook.
 
-use crate::areas::push_bounds;
+use crate::areas::{push_area, push_bounds};
 use crate::ranges::push_cells;
 use crate::runs::Opened;
 use crate::values::{Told, push_done, push_refusal};
@@ -31,6 +31,25 @@ fn push_tables(out: &mut String, xlsx: &Xlsx<FailingPackage>) -> Result<()> {
     for index in 0..xlsx.table_count() {
         out.push_str(xlsx.table_sheet(index))?;
         push_shape(out, xlsx.table_area(index), xlsx.table_columns(index))?;
+    }
+    Ok(())
+}
+
+/// The whole area of a table, and its rows of headers and of totals.
+pub fn push_whole(out: &mut String, whole: Dimensions, headers: u32, totals: u32) -> Result<()> {
+    push_area(out, whole)?;
+    Ok(write!(out, " {headers} {totals};")?)
+}
+
+/// The number of the sheet of each table, its whole area, and its rows of headers and of totals.
+fn push_shapes(out: &mut String, xlsx: &Xlsx<FailingPackage>) -> Result<()> {
+    if !xlsx.tables_loaded() {
+        return Ok(out.push_str("not loaded")?);
+    }
+    for index in 0..xlsx.table_count() {
+        write!(out, "{} ", xlsx.table_sheet_number(index))?;
+        let (headers, totals) = (xlsx.table_headers(index), xlsx.table_totals(index));
+        push_whole(out, xlsx.table_whole(index), headers, totals)?;
     }
     Ok(())
 }
@@ -76,6 +95,7 @@ pub fn push_table_answer(out: &mut String, opened: &mut Opened, words: &[&str]) 
     match word(words, 0) {
         "load_tables" => push_done(out, xlsx.load_tables())?,
         "tables" => push_tables(out, xlsx)?,
+        "table_shapes" => push_shapes(out, xlsx)?,
         "table_names" => push_names(out, xlsx, word(words, 1))?,
         "table" | "table_ref" => push_data(out, xlsx, words)?,
         _ => return Ok(false),
