@@ -1,1 +1,3 @@
 pub mod Choosing
+pub mod FrontKept
+pub mod Joined

@@ -1,1 +1,2 @@
+pub mod JoinedCodes
 pub mod TwoSections

@@ -1,10 +1,12 @@
-ghost use Rattle.std.specs.Prelude.{◌≡◌, ℕ, ℤ, Bool, List, codes, true, false, pos, nat_abs};
+ghost use Rattle.std.specs.Prelude.{◌≡◌, ◌++◌, ℕ, ℤ, Bool, List, codes, true, false, pos, nat_abs};
 ghost use Rattle.std.specs.Int.{is_negative};
 ghost use Rattle.cell_data.specs.CellValue.{number, text};
 ghost use Rattle.format_codes.specs.declared.piece.CodePiece.{CodePiece};
 ghost use Rattle.format_codes.specs.Choosing.{ShownSection, chosen};
 ghost use Rattle.shown_text.specs.GeneralText.{shown_digits};
 ghost use Rattle.shown_text.specs.ShownText.{shown_text, text_in_section, is_sized, sized_text};
+ghost use Rattle.format_codes.specs.Sections.{sections};
+ghost use Rattle.shown_text_laws.specs.JoinedCodes.{leaves_open};
 ghost use Rattle.shown_text_laws.specs.TwoSections.{HasTwoSections};
 
 /// Under `@` a text is shown as it is.
@@ -28,4 +30,11 @@ pub fn sections_go_by_sign()
     ensures size { (section : ShownSection) (exact : ℤ × ℤ) → section.unsigned ≡ true
         → is_sized section (shown_digits exact).1 ≡ true
         → sized_text section exact ≡ sized_text section (pos (nat_abs exact.0), exact.1) }
+{}
+
+/// A code that is two codes with `;` between them has the sections of the first and of the second,
+/// where the first leaves nothing open.
+pub fn cut_at_dividers()
+    ensures { (first second : List ℕ) → leaves_open first ≡ false
+        → sections (first ++ codes ";" ++ second) ≡ sections first ++ sections second }
 {}
