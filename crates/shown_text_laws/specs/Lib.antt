@@ -1,2 +1,3 @@
 pub mod JoinedCodes
+pub mod NumberCodes
 pub mod TwoSections

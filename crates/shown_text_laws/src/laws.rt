@@ -1,4 +1,4 @@
-ghost use Rattle.std.specs.Prelude.{◌≡◌, ◌++◌, ℕ, ℤ, Bool, List, codes, true, false, pos, nat_abs};
+ghost use Rattle.std.specs.Prelude.{◌≡◌, ◌++◌, ◌+ℤ◌, ◌-ℤ◌, ℕ, ℤ, Bool, List, codes, true, false, pos, nat_abs};
 ghost use Rattle.std.specs.Int.{is_negative};
 ghost use Rattle.cell_data.specs.CellValue.{number, text};
 ghost use Rattle.format_codes.specs.declared.piece.CodePiece.{CodePiece};
@@ -7,6 +7,7 @@ ghost use Rattle.shown_text.specs.GeneralText.{shown_digits};
 ghost use Rattle.shown_text.specs.ShownText.{shown_text, text_in_section, is_sized, sized_text};
 ghost use Rattle.format_codes.specs.Sections.{sections};
 ghost use Rattle.shown_text_laws.specs.JoinedCodes.{leaves_open};
+ghost use Rattle.shown_text_laws.specs.NumberCodes.{IsShownBySection, without_commas};
 ghost use Rattle.shown_text_laws.specs.TwoSections.{HasTwoSections};
 
 /// Under `@` a text is shown as it is.
@@ -37,4 +38,17 @@ pub fn sections_go_by_sign()
 pub fn cut_at_dividers()
     ensures { (first second : List ℕ) → leaves_open first ≡ false
         → sections (first ++ codes ";" ++ second) ≡ sections first ++ sections second }
+{}
+
+/// Under `0.0%` a number is shown as a hundred times it under `0.0`, and `%` behind that; under
+/// `0.0,` as a thousandth of it under `0.0`.
+pub fn percents_and_thousands()
+    ensures percents { (is_1904 : Bool) (m power : ℤ) → IsShownBySection (m, power)
+        → IsShownBySection (m, power +ℤ pos 2)
+        → shown_text is_1904 (codes "0.0%") (number (m, power))
+        ≡ shown_text is_1904 (codes "0.0") (number (m, power +ℤ pos 2)) ++ codes "%" }
+    ensures thousands { (is_1904 : Bool) (m power : ℤ) → IsShownBySection (m, power)
+        → IsShownBySection (m, power -ℤ pos 3)
+        → shown_text is_1904 (codes "0.0,") (number (m, power))
+        ≡ shown_text is_1904 (codes "0.0") (number (m, power -ℤ pos 3)) }
 {}

@@ -3,4 +3,6 @@
 
 mod laws;
 
-pub use laws::{cut_at_dividers, sections_go_by_sign, texts_stand_at_their_place};
+pub use laws::{
+    cut_at_dividers, percents_and_thousands, sections_go_by_sign, texts_stand_at_their_place,
+};

@@ -1,0 +1,100 @@
+-- What codes that are written out show of a number.
+use Rattle.std.proofs.Common.{◌≡◌, ◌≤◌, ◌&&◌, ℕ, ℤ, List, [], ◌∷◌, Bool, true, false, codes}
+use Rattle.std.proofs.Common.{refl, length, cond, arith}
+use Rattle.std.specs.Prelude.{nat_abs, nat_le, pos, ◌+ℤ◌}
+use Rattle.decimals.specs.Rounding.{digits_behind, rounded_number}
+use Rattle.std.specs.Int.{is_negative}
+use Rattle.cell_data.specs.CellValue.{number}
+use Rattle.format_codes.specs.Choosing.{ShownSection, is_supported, number_section}
+use Rattle.format_codes.specs.declared.kind.SectionKind.TheVariants as kind
+use Rattle.format_codes.specs.declared.piece.CodePiece.{CodePiece}
+use Rattle.format_codes.specs.declared.piece.CodePiece.TheVariants as piece
+use Rattle.format_codes.specs.declared.piece.Filler.TheVariants.{Zero, Nothing}
+use Rattle.format_codes.specs.Kinds.{kind_of}
+use Rattle.format_codes.specs.Sections.{pieces}
+use Rattle.shown_text.specs.GeneralText.{shown_digits}
+use Rattle.shown_text.specs.ShownText.{shown_text, is_sized, sized_text, signed_text}
+use Rattle.shown_text.specs.ShownText.{most_pieces}
+use Rattle.shown_text_laws.specs.NumberCodes.{IsShownBySection}
+
+-- a section of numbers without conditions
+abbrev pub section_of : List CodePiece → ShownSection
+section_of all = record { kind = kind.Number; pieces = all; unsigned = false }
+
+abbrev pub one_place : List CodePiece
+one_place = piece.Digit Zero ∷ piece.Point ∷ piece.Digit Zero ∷ []
+
+abbrev pub one_place_percent : List CodePiece
+one_place_percent = piece.Digit Zero ∷ piece.Point ∷ piece.Digit Zero ∷ piece.Percent ∷ []
+
+abbrev pub one_place_thousands : List CodePiece
+one_place_thousands = piece.Digit Zero ∷ piece.Point ∷ piece.Digit Zero ∷ piece.Comma ∷ []
+
+abbrev pub two_places : List CodePiece
+two_places = piece.Digit Zero ∷ piece.Point ∷ piece.Digit Zero ∷ piece.Digit Zero ∷ []
+
+abbrev pub two_places_grouped : List CodePiece
+two_places_grouped =
+    piece.Digit Nothing ∷ piece.Comma ∷ piece.Digit Nothing ∷ piece.Digit Nothing
+    ∷ piece.Digit Zero ∷ piece.Point ∷ piece.Digit Zero ∷ piece.Digit Zero ∷ []
+
+pub under_one_place : (is_1904 : Bool) (exact : ℤ × ℤ)
+    → shown_text is_1904 (codes "0.0") (number exact) ≡ sized_text (section_of one_place) exact
+unfolding shown_text number_section is_supported pieces kind_of
+under_one_place is_1904 exact = refl
+
+pub under_percent : (is_1904 : Bool) (exact : ℤ × ℤ)
+    → shown_text is_1904 (codes "0.0%") (number exact)
+    ≡ sized_text (section_of one_place_percent) exact
+unfolding shown_text number_section is_supported pieces kind_of
+under_percent is_1904 exact = refl
+
+pub under_thousands : (is_1904 : Bool) (exact : ℤ × ℤ)
+    → shown_text is_1904 (codes "0.0,") (number exact)
+    ≡ sized_text (section_of one_place_thousands) exact
+unfolding shown_text number_section is_supported pieces kind_of
+under_thousands is_1904 exact = refl
+
+pub under_two_places : (is_1904 : Bool) (exact : ℤ × ℤ)
+    → shown_text is_1904 (codes "0.00") (number exact) ≡ sized_text (section_of two_places) exact
+unfolding shown_text number_section is_supported pieces kind_of
+under_two_places is_1904 exact = refl
+
+pub under_grouped : (is_1904 : Bool) (exact : ℤ × ℤ)
+    → shown_text is_1904 (codes "#,##0.00") (number exact)
+    ≡ sized_text (section_of two_places_grouped) exact
+unfolding shown_text number_section is_supported pieces kind_of
+under_grouped is_1904 exact = refl
+
+both_hold : (a b : Bool) → a ≡ true → b ≡ true → (a && b) ≡ true
+both_hold true b first second = second
+both_hold false b first second = absurd (cc)
+
+within : (m n : ℕ) → m ≤ n → nat_le m n ≡ true
+within m n le = grind arith
+
+chosen_first : {A : Type 0} (c : Bool) (x y : A) → c ≡ true → cond c x y ≡ x
+chosen_first true x y holds = refl
+chosen_first false x y holds = absurd (cc)
+
+-- a number that is shown by its section
+pub by_section : (all : List CodePiece) (exact : ℤ × ℤ)
+    → nat_le (length all) most_pieces ≡ true → IsShownBySection exact
+    → sized_text (section_of all) exact
+    ≡ signed_text (section_of all) (is_negative exact.0) (nat_abs (shown_digits exact).0)
+    (shown_digits exact).1
+by_section all exact few small =
+    chosen_first (is_sized (section_of all) (shown_digits exact).1) _ _
+    (both_hold _ _ (within _ _ small) few)
+
+-- the digits of a number don't go by its power
+pub same_size : (m power other : ℤ)
+    → nat_abs (shown_digits (m, power)).0 ≡ nat_abs (shown_digits (m, other)).0
+unfolding rounded_number
+same_size m power other = refl
+
+-- and its power moves with its own
+pub power_of : (m power : ℤ)
+    → (shown_digits (m, power)).1 ≡ power +ℤ pos (digits_behind 15 (nat_abs m))
+unfolding rounded_number
+power_of m power = refl
