@@ -52,3 +52,10 @@ pub fn percents_and_thousands()
         → shown_text is_1904 (codes "0.0,") (number (m, power))
         ≡ shown_text is_1904 (codes "0.0") (number (m, power -ℤ pos 3)) }
 {}
+
+/// The text of a number under `#,##0.00` without its commas is its text under `0.00`.
+pub fn commas_only_group()
+    ensures { (is_1904 : Bool) (exact : ℤ × ℤ)
+        → without_commas (shown_text is_1904 (codes "#,##0.00") (number exact))
+        ≡ shown_text is_1904 (codes "0.00") (number exact) }
+{}
