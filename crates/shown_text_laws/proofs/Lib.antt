@@ -1,5 +1,6 @@
 pub mod AllDigits
 pub mod Choosing
+pub mod Dates
 pub mod FrontKept
 pub mod Grouped
 pub mod Joined

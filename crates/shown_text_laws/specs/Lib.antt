@@ -1,3 +1,4 @@
 pub mod JoinedCodes
 pub mod NumberCodes
+pub mod ReadTimes
 pub mod TwoSections

@@ -1,4 +1,4 @@
-ghost use Rattle.std.specs.Prelude.{◌≡◌, ◌++◌, ◌+ℤ◌, ◌-ℤ◌, ℕ, ℤ, Bool, List, codes, true, false, pos, nat_abs};
+ghost use Rattle.std.specs.Prelude.{◌≡◌, ◌≤◌, ◌/◌, ◌++◌, ◌+ℤ◌, ◌-ℤ◌, ℕ, ℤ, Bool, List, codes, true, false, pos, nat_abs};
 ghost use Rattle.std.specs.Int.{is_negative};
 ghost use Rattle.cell_data.specs.CellValue.{number, text};
 ghost use Rattle.format_codes.specs.declared.piece.CodePiece.{CodePiece};
@@ -8,6 +8,12 @@ ghost use Rattle.shown_text.specs.ShownText.{shown_text, text_in_section, is_siz
 ghost use Rattle.format_codes.specs.Sections.{sections};
 ghost use Rattle.shown_text_laws.specs.JoinedCodes.{leaves_open};
 ghost use Rattle.shown_text_laws.specs.NumberCodes.{IsShownBySection, without_commas};
+ghost use Rattle.excel_dates.specs.CalendarDates.{date_of_day, first_day, last_day};
+ghost use Rattle.excel_dates.specs.IsoText.{date_text};
+ghost use Rattle.excel_dates.specs.Serials.{day_length, is_below, milliseconds_of};
+ghost use Rattle.shown_text.specs.DateTexts.{longest_time};
+ghost use Rattle.std.specs.Fmt.{sign_text};
+ghost use Rattle.shown_text_laws.specs.ReadTimes.{IsTimeOf};
 ghost use Rattle.shown_text_laws.specs.TwoSections.{HasTwoSections};
 
 /// Under `@` a text is shown as it is.
@@ -58,4 +64,18 @@ pub fn commas_only_group()
     ensures { (is_1904 : Bool) (exact : ℤ × ℤ)
         → without_commas (shown_text is_1904 (codes "#,##0.00") (number exact))
         ≡ shown_text is_1904 (codes "0.00") (number exact) }
+{}
+
+/// Under `yyyy-mm-dd` the serial of a moment of a day that has a date is shown as that date, and
+/// under `[h]:mm:ss.000` any serial as its milliseconds, with the sign of one below 0.
+pub fn shown_dates_are_dates()
+    ensures dates { (is_1904 : Bool) (days : ℤ × ℤ) → is_negative days.0 ≡ false
+        → first_day is_1904 ≤ milliseconds_of days / day_length
+        → milliseconds_of days / day_length ≤ last_day is_1904
+        → shown_text is_1904 (codes "yyyy-mm-dd") (number days)
+        ≡ date_text (date_of_day is_1904 (milliseconds_of days / day_length)) }
+    ensures times { (is_1904 : Bool) (days : ℤ × ℤ) → milliseconds_of days ≤ longest_time
+        → (text : List ℕ) × IsTimeOf (milliseconds_of days) text
+        × (shown_text is_1904 (codes "[h]:mm:ss.000") (number days)
+        ≡ sign_text (is_below days) ++ text) }
 {}
