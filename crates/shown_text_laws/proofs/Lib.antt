@@ -7,3 +7,4 @@ pub mod Joined
 pub mod Literals
 pub mod Places
 pub mod Scaled
+pub mod ShortTexts

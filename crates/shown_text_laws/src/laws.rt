@@ -1,9 +1,9 @@
-ghost use Rattle.std.specs.Prelude.{◌≡◌, ◌≤◌, ◌/◌, ◌++◌, ◌+ℤ◌, ◌-ℤ◌, ℕ, ℤ, Bool, List, codes, true, false, pos, nat_abs};
+ghost use Rattle.std.specs.Prelude.{◌≡◌, ◌≤◌, ◌<◌, ◌+◌, ◌^◌, ◌/◌, length, ◌++◌, ◌+ℤ◌, ◌-ℤ◌, ℕ, ℤ, Bool, List, codes, true, false, pos, nat_abs};
 ghost use Rattle.std.specs.Int.{is_negative};
 ghost use Rattle.cell_data.specs.CellValue.{number, text};
 ghost use Rattle.format_codes.specs.declared.piece.CodePiece.{CodePiece};
 ghost use Rattle.format_codes.specs.Choosing.{ShownSection, chosen};
-ghost use Rattle.shown_text.specs.GeneralText.{shown_digits};
+ghost use Rattle.shown_text.specs.GeneralText.{first_power, general_text, shown_digits};
 ghost use Rattle.shown_text.specs.ShownText.{shown_text, text_in_section, is_sized, sized_text};
 ghost use Rattle.format_codes.specs.Sections.{sections};
 ghost use Rattle.shown_text_laws.specs.JoinedCodes.{leaves_open};
@@ -78,4 +78,12 @@ pub fn shown_dates_are_dates()
         → (text : List ℕ) × IsTimeOf (milliseconds_of days) text
         × (shown_text is_1904 (codes "[h]:mm:ss.000") (number days)
         ≡ sign_text (is_below days) ++ text) }
+{}
+
+/// General has eleven bytes and a sign at most, where the power of ten of the first digit is above
+/// -99 and below 99.
+pub fn general_is_short()
+    ensures { (exact : ℤ × ℤ) → nat_abs exact.0 < 2 ^ 128
+        → nat_abs (first_power (nat_abs (shown_digits exact).0) (shown_digits exact).1) < 99
+        → length (general_text exact) ≤ 11 + length (sign_text (is_negative exact.0)) }
 {}
