@@ -5,6 +5,7 @@ pub mod FrontKept
 pub mod Grouped
 pub mod Joined
 pub mod Literals
+pub mod NearFractions
 pub mod Places
 pub mod Scaled
 pub mod ShortTexts

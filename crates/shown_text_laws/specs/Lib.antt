@@ -1,4 +1,5 @@
 pub mod JoinedCodes
+pub mod NearFractions
 pub mod NumberCodes
 pub mod ReadTimes
 pub mod TwoSections

@@ -7,6 +7,8 @@ ghost use Rattle.shown_text.specs.GeneralText.{first_power, general_text, shown_
 ghost use Rattle.shown_text.specs.ShownText.{shown_text, text_in_section, is_sized, sized_text};
 ghost use Rattle.format_codes.specs.Sections.{sections};
 ghost use Rattle.shown_text_laws.specs.JoinedCodes.{leaves_open};
+ghost use Rattle.shown_text.specs.FractionTexts.{nearest_fraction};
+ghost use Rattle.shown_text_laws.specs.NearFractions.{HasNoneNearer};
 ghost use Rattle.shown_text_laws.specs.NumberCodes.{IsShownBySection, without_commas};
 ghost use Rattle.excel_dates.specs.CalendarDates.{date_of_day, first_day, last_day};
 ghost use Rattle.excel_dates.specs.IsoText.{date_text};
@@ -86,4 +88,11 @@ pub fn general_is_short()
     ensures { (exact : ℤ × ℤ) → nat_abs exact.0 < 2 ^ 128
         → nat_abs (first_power (nat_abs (shown_digits exact).0) (shown_digits exact).1) < 99
         → length (general_text exact) ≤ 11 + length (sign_text (is_negative exact.0)) }
+{}
+
+/// No fraction with a denominator up to a greatest one is nearer to a number than the one that is
+/// shown of it, which `?/?` finds among those up to 9.
+pub fn no_fraction_is_nearer()
+    ensures { (n unit most : ℕ) → 0 < unit → 0 < most
+        → HasNoneNearer n unit most (nearest_fraction n unit most) }
 {}

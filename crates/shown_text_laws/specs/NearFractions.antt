@@ -1,0 +1,12 @@
+-- Fractions that are near to a number.
+use Rattle.std.specs.Prelude.{ℕ, ◌*◌, ◌<◌, ◌≤◌}
+use Rattle.shown_text.specs.FractionArithmetic.{distance}
+use Rattle.shown_text.specs.declared.fractions.Fraction.{Fraction}
+
+-- A fraction has a denominator up to `most`, and none of such a denominator is nearer to n / unit.
+-- What two fractions differ by from it is told over the product of their denominators.
+pub record HasNoneNearer (n unit most : ℕ) (f : Fraction) : Type 0 where
+  pub positive : 0 < f.under
+  pub within : f.under ≤ most
+  pub none_nearer : (over under : ℕ) → 0 < under → under ≤ most
+      → distance n unit f.over f.under * under ≤ distance n unit over under * f.under
