@@ -5,7 +5,9 @@ pub mod FrontKept
 pub mod Grouped
 pub mod Joined
 pub mod Literals
+pub mod MixedFractions
 pub mod NearFractions
+pub mod OnePlace
 pub mod Places
 pub mod Scaled
 pub mod ShortTexts

@@ -66,11 +66,11 @@ pub under_grouped : (is_1904 : Bool) (exact : ℤ × ℤ)
 unfolding shown_text number_section is_supported pieces kind_of
 under_grouped is_1904 exact = refl
 
-both_hold : (a b : Bool) → a ≡ true → b ≡ true → (a && b) ≡ true
+pub both_hold : (a b : Bool) → a ≡ true → b ≡ true → (a && b) ≡ true
 both_hold true b first second = second
 both_hold false b first second = absurd (cc)
 
-within : (m n : ℕ) → m ≤ n → nat_le m n ≡ true
+pub within : (m n : ℕ) → m ≤ n → nat_le m n ≡ true
 within m n le = grind arith
 
 chosen_first : {A : Type 0} (c : Bool) (x y : A) → c ≡ true → cond c x y ≡ x

@@ -160,7 +160,7 @@ inside true place c = refl
 inside false place c = refl
 
 -- a place takes the digit that stands before those of the places behind it
-place_taken : (ds : List ℕ) (p : ℕ) (others : List ℕ)
+pub place_taken : (ds : List ℕ) (p : ℕ) (others : List ℕ)
     → surplus false ds (suc p) (length ds) ++ (shown_at ds p ++ others)
     ≡ surplus false ds p (length ds) ++ others
 place_taken ds p others =

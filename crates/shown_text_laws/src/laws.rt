@@ -1,4 +1,4 @@
-ghost use Rattle.std.specs.Prelude.{◌≡◌, ◌≤◌, ◌<◌, ◌+◌, ◌^◌, ◌/◌, length, ◌++◌, ◌+ℤ◌, ◌-ℤ◌, ℕ, ℤ, Bool, List, codes, true, false, pos, nat_abs};
+ghost use Rattle.std.specs.Prelude.{◌≡◌, ◌≤◌, ◌<◌, ◌+◌, ◌^◌, ◌/◌, length, ◌++◌, ◌+ℤ◌, ◌-ℤ◌, ℕ, ℤ, Bool, List, codes, true, false, pos, negsuc, nat_abs};
 ghost use Rattle.std.specs.Int.{is_negative};
 ghost use Rattle.cell_data.specs.CellValue.{number, text};
 ghost use Rattle.format_codes.specs.declared.piece.CodePiece.{CodePiece};
@@ -8,7 +8,7 @@ ghost use Rattle.shown_text.specs.ShownText.{shown_text, text_in_section, is_siz
 ghost use Rattle.format_codes.specs.Sections.{sections};
 ghost use Rattle.shown_text_laws.specs.JoinedCodes.{leaves_open};
 ghost use Rattle.shown_text.specs.FractionTexts.{nearest_fraction};
-ghost use Rattle.shown_text_laws.specs.NearFractions.{HasNoneNearer};
+ghost use Rattle.shown_text_laws.specs.NearFractions.{HasNoneNearer, IsNearestMixed};
 ghost use Rattle.shown_text_laws.specs.NumberCodes.{IsShownBySection, without_commas};
 ghost use Rattle.excel_dates.specs.CalendarDates.{date_of_day, first_day, last_day};
 ghost use Rattle.excel_dates.specs.IsoText.{date_text};
@@ -91,8 +91,15 @@ pub fn general_is_short()
 {}
 
 /// No fraction with a denominator up to a greatest one is nearer to a number than the one that is
-/// shown of it, which `?/?` finds among those up to 9.
+/// found for it, and so none up to 9 is nearer than what is shown under `0 0/0`, as `3 1/4`, of a
+/// number that has up to thirty places behind the point.
 pub fn no_fraction_is_nearer()
-    ensures { (n unit most : ℕ) → 0 < unit → 0 < most
+    ensures found { (n unit most : ℕ) → 0 < unit → 0 < most
         → HasNoneNearer n unit most (nearest_fraction n unit most) }
+    ensures shown { (is_1904 : Bool) (exact : ℤ × ℤ) (places : ℕ) → IsShownBySection exact
+        → (shown_digits exact).1 ≡ negsuc places → places < 30
+        → (text : List ℕ)
+        × IsNearestMixed (nat_abs (shown_digits exact).0) (10 ^ (places + 1)) text
+        × (shown_text is_1904 (codes "0 0/0") (number exact)
+        ≡ sign_text (is_negative exact.0) ++ text) }
 {}
