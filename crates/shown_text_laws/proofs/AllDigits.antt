@@ -1,6 +1,8 @@
 -- What numbers are written by: digits, and around them no comma.
-use Rattle.std.proofs.Common.{◌≡◌, ◌++◌, ◌+◌, ◌-◌, ◌/◌, ◌%◌, ◌<◌, ◌==◌, ℕ, zero, suc, ℤ, pos, negsuc}
-use Rattle.std.proofs.Common.{Bool, true, false, cond, List, [], ◌∷◌, Option, Some, None, length, take}
+use Rattle.std.proofs.Common.{◌≡◌, ◌++◌, ◌+◌, ◌-◌, ◌/◌, ◌%◌, ◌<◌, ◌==◌, ℕ, zero, suc, ℤ, pos}
+use Rattle.std.proofs.Common.{negsuc}
+use Rattle.std.proofs.Common.{Bool, true, false, cond, List, [], ◌∷◌, Option, Some, None, length}
+use Rattle.std.proofs.Common.{take}
 use Rattle.std.proofs.Common.{drop, replicate, refl, ap, arith, not}
 use Rattle.std.specs.Prelude.{nat_lt, nat_abs, ◌+ℤ◌, ◌^◌}
 use Rattle.decimals.specs.Rounding.{digits_behind, nearest}
@@ -64,7 +66,7 @@ all_tail P x xs all = λ k d within. all (suc k) d (omega arith)
 pub no_comma : (c : ℕ) → 47 < c → (c == 44) ≡ false
 no_comma c above = grind (arith, nat_tests)
 
-plain_step : (test : Bool) (x : ℕ) (xs ys : List ℕ) → test ≡ false → xs ≡ ys
+pub plain_step : (test : Bool) (x : ℕ) (xs ys : List ℕ) → test ≡ false → xs ≡ ys
     → cond (not test) (x ∷ xs) xs ≡ x ∷ ys
 plain_step true x xs ys fails same = absurd (cc)
 plain_step false x xs ys fails same = ap (λ rest. x ∷ rest) same
@@ -73,7 +75,8 @@ plain_step false x xs ys fails same = ap (λ rest. x ∷ rest) same
 pub without_none : (xs : List ℕ) → All IsNoComma xs → without_commas xs ≡ xs
 without_none [] all = refl
 without_none (x ∷ xs) all =
-    plain_step (x == 44) x _ xs (all 0 0 (omega arith)) (without_none xs (all_tail IsNoComma x xs all))
+    plain_step (x == 44) x _ xs (all 0 0 (omega arith))
+    (without_none xs (all_tail IsNoComma x xs all))
 
 pub plain_figures : (xs : List ℕ) → All IsFigure xs → All IsNoComma xs
 plain_figures xs all = λ k d within. no_comma _ (all k d within)

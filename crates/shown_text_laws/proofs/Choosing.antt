@@ -1,5 +1,6 @@
 -- Which section shows a value.
-use Rattle.std.proofs.Common.{◌≡◌, ◌∙◌, ℕ, ℤ, List, [], ◌∷◌, Bool, true, false, codes, refl, ap, sym}
+use Rattle.std.proofs.Common.{◌≡◌, ◌∙◌, ℕ, ℤ, List, [], ◌∷◌, Bool, true, false, codes, refl, ap}
+use Rattle.std.proofs.Common.{sym}
 use Rattle.std.proofs.Common.{rules, zero, suc, ◌++◌, length, pos, not, ◌&&◌, ◌==◌}
 use Rattle.std.specs.Prelude.{nat_abs, if◌then◌else◌}
 use Rattle.std.specs.Fmt.{sign_text}
@@ -8,7 +9,8 @@ use Rattle.cell_data.specs.CellValue.{number, text}
 use Rattle.format_codes.specs.declared.piece.CodePiece.{CodePiece}
 use Rattle.decimals.specs.Decimals.{with_sign}
 use Rattle.decimals.specs.Rounding.{digits_behind, nearest, rounded_number}
-use Rattle.format_codes.specs.Choosing.{ShownSection, is_supported, chosen, number_section, section_for}
+use Rattle.format_codes.specs.Choosing.{ShownSection, is_supported, chosen, number_section}
+use Rattle.format_codes.specs.Choosing.{section_for}
 use Rattle.format_codes.specs.Choosing.{text_section_in}
 use Rattle.format_codes.specs.Sections.{pieces}
 use Rattle.shown_text.specs.ShownText.{shown_text, text_in_section, is_sized, sized_text}

@@ -1,4 +1,5 @@
 -- Dates and times as they are shown.
+use Rattle.shown_text_laws.proofs.Tests.{and_true, both_hold, is_within}
 use Rattle.std.proofs.Common.{◌≡◌, ◌∙◌, ◌++◌, ◌*◌, ◌/◌, ◌%◌, ◌<◌, ◌≤◌, ◌&&◌, ◌||◌, ◌==◌, ℕ, ℤ}
 use Rattle.std.proofs.Common.{Bool, true, false, not, List, [], ◌∷◌, Option, Some, None, codes}
 use Rattle.std.proofs.Common.{refl, ap, arith, append-nil, length, replicate, ◌-◌}
@@ -9,7 +10,7 @@ use Rattle.std.specs.Int.{is_negative}
 use Rattle.std.proofs.lemmas.Bool.Decides.{nat_tests}
 use Rattle.cell_data.specs.CellValue.{number}
 use Rattle.decimals.specs.Rounding.{nearest}
-use Rattle.excel_dates.proofs.SerialSteps.{by_true, by_false}
+use Rattle.excel_dates.proofs.SerialSteps.{by_true, by_false, not_less}
 use Rattle.excel_dates.specs.CalendarDates.{date_of_day, first_day, last_day}
 use Rattle.excel_dates.specs.IsoText.{date_text, padded}
 use Rattle.excel_dates.specs.Serials.{day_length, is_below, milliseconds_of}
@@ -51,9 +52,6 @@ under_clock : (is_1904 : Bool) (days : ℤ × ℤ)
 unfolding shown_text number_section is_supported pieces kind_of timed_pieces
 under_clock is_1904 days = refl
 
-is_within : (m n : ℕ) → m ≤ n → nat_le m n ≡ true
-is_within m n few = grind (arith, nat_tests)
-
 last_bound : (is_1904 : Bool) → last_day is_1904 ≤ 2958465
 last_bound true = omega arith
 last_bound false = omega arith
@@ -61,10 +59,6 @@ last_bound false = omega arith
 or_true : (b : Bool) → (b || true) ≡ true
 or_true true = refl
 or_true false = refl
-
-and_true : (b : Bool) → (b && true) ≡ b
-and_true true = refl
-and_true false = refl
 
 -- no place of a second is rounded away
 iso_told : (days : ℤ × ℤ) → milliseconds_of days ≤ longest_time
@@ -104,19 +98,12 @@ not_first : (is_1904 : Bool) (day : ℕ) → first_day is_1904 ≤ day
 not_first true day first = refl
 not_first false day first = grind (arith, nat_tests)
 
-not_past : (m n : ℕ) → n ≤ m → nat_lt m n ≡ false
-not_past m n few = grind (arith, nat_tests)
-
 day_shown : (is_1904 : Bool) (day : ℕ) → first_day is_1904 ≤ day → day ≤ last_day is_1904
     → shown_date is_1904 day ≡ Some (date_of_day is_1904 day)
 day_shown is_1904 day first last =
-    by_false (nat_lt (last_day is_1904) day) None _ (not_past (last_day is_1904) day last)
+    by_false (nat_lt (last_day is_1904) day) None _ (not_less (last_day is_1904) day last)
     ∙ by_false (not is_1904 && (day == 0)) (Some (1900, 1, 0)) (Some (date_of_day is_1904 day))
     (not_first is_1904 day first)
-
-both_hold : (a b : Bool) → a ≡ true → b ≡ true → (a && b) ≡ true
-both_hold true b first second = second
-both_hold false b first second = absurd (cc)
 
 pub dates : (is_1904 : Bool) (days : ℤ × ℤ) → is_negative days.0 ≡ false
     → first_day is_1904 ≤ milliseconds_of days / day_length

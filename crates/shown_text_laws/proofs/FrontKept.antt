@@ -1,7 +1,9 @@
 -- The pieces in front of a text are those in front of it with `;` and more behind it.
+use Rattle.excel_dates.proofs.SerialSteps.{by_true, is_less}
 use Rattle.std.proofs.Common.{◌≡◌, ◌∙◌, ◌++◌, ◌+◌, ◌<◌, ◌≤◌, ◌&&◌, ◌||◌, ◌==◌, ℕ, suc, Bool}
 use Rattle.std.proofs.Common.{true, false, cond, List, [], ◌∷◌, Option, Some, None, codes, length}
-use Rattle.std.proofs.Common.{take, not, get_or, refl, sym, ap, subst, arith, rules, ◌⊎◌, inl, inr, ◌≢◌, eqb}
+use Rattle.std.proofs.Common.{take, not, get_or, refl, sym, ap, subst, arith, rules, ◌⊎◌, inl, inr}
+use Rattle.std.proofs.Common.{◌≢◌, eqb}
 use Rattle.std.specs.Prelude.{nat_lt}
 use Rattle.std.specs.Char.{to_ascii_lowercase}
 use Rattle.std.specs.List.{prefix_len, position_or_len, before_first, list_any, list_all}
@@ -17,7 +19,8 @@ use Rattle.format_codes.specs.Groups.{begins, date_unit, literal_pieces, group_p
 use Rattle.format_codes.specs.Sections.{PiecesInFront, one, size_behind, character_size}
 use Rattle.format_codes.specs.Sections.{first_character, quoted_in_front, group_in_front}
 use Rattle.format_codes.specs.Sections.{unit_in_front, unit_or_other, half_day_or_other}
-use Rattle.format_codes.specs.Sections.{letter_in_front, sign_or_letter, sign_piece, pieces_in_front}
+use Rattle.format_codes.specs.Sections.{letter_in_front, sign_or_letter, sign_piece}
+use Rattle.format_codes.specs.Sections.{pieces_in_front}
 use Rattle.shown_text_laws.specs.JoinedCodes.{is_open}
 
 -- how many elements pass in front, where one behind them doesn't
@@ -107,22 +110,14 @@ quoted_kept bs r ends =
     ∙ ap (λ n. front_of (literal_pieces (before_first (λ c. c == 34) bs)) (n + 1))
     (position_kept (λ c. c == 34) bs r ends)
 
--- what a test that holds chooses
-chosen_first : {A : Type 0} (c : Bool) (x y : A) → c ≡ true → cond c x y ≡ x
-chosen_first true x y holds = refl
-chosen_first false x y holds = absurd (cc)
-
-less : (m n : ℕ) → m < n → nat_lt m n ≡ true
-less m n lt = grind arith
-
 -- a group in brackets that ends
 closed_group : (bs : List ℕ) → list_any (λ c. c == 93) bs ≡ true
     → group_in_front bs
     ≡ front_of (group_pieces (before_first (λ c. c == 93) bs))
     (position_or_len (λ c. c == 93) bs + 1)
 closed_group bs ends =
-    chosen_first (nat_lt (position_or_len (λ c. c == 93) bs) (length bs)) _ _
-    (less _ _ (position_within (λ c. c == 93) bs ends))
+    by_true (nat_lt (position_or_len (λ c. c == 93) bs) (length bs)) _ _
+    (is_less _ _ (position_within (λ c. c == 93) bs ends))
 
 any_append : (p : ℕ → Bool) (bs r : List ℕ) → list_any p bs ≡ true → list_any p (bs ++ r) ≡ true
 any_append p [] r found = absurd (search rules)

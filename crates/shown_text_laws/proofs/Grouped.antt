@@ -1,5 +1,6 @@
 -- Commas only group.
-use Rattle.std.proofs.Common.{◌≡◌, ◌∙◌, ◌++◌, ◌&&◌, ◌-◌, ℕ, ℤ, Bool, true, false, cond, List, [], ◌∷◌, codes}
+use Rattle.std.proofs.Common.{◌≡◌, ◌∙◌, ◌++◌, ◌&&◌, ◌-◌, ℕ, ℤ, Bool, true, false, cond, List, []}
+use Rattle.std.proofs.Common.{◌∷◌, codes}
 use Rattle.std.proofs.Common.{length, take, ap, sym}
 use Rattle.std.specs.Prelude.{nat_abs, nat_le}
 use Rattle.std.specs.Fmt.{sign_text}
@@ -53,7 +54,8 @@ grouped is_1904 exact =
     ap without_commas (under_grouped is_1904 exact)
     ∙ by_size (nat_le (nat_abs power) most_power) (sign ++ number_text two_places_grouped n power)
     (sign ++ number_text two_places n power) (general_text exact)
-    (without_both sign (number_text two_places_grouped n power) sign (number_text two_places n power)
+    (without_both sign (number_text two_places_grouped n power) sign
+    (number_text two_places n power)
     (without_none sign (plain_sign (is_negative exact.0 && true))) (number_grouped n power))
     (without_none (general_text exact) (plain_general exact))
     ∙ sym (under_two_places is_1904 exact)

@@ -11,3 +11,4 @@ pub mod OnePlace
 pub mod Places
 pub mod Scaled
 pub mod ShortTexts
+pub mod Tests

@@ -1,6 +1,8 @@
 -- What codes that are written out show of a number.
-use Rattle.std.proofs.Common.{◌≡◌, ◌≤◌, ◌&&◌, ℕ, ℤ, List, [], ◌∷◌, Bool, true, false, codes}
-use Rattle.std.proofs.Common.{refl, length, cond, arith}
+use Rattle.excel_dates.proofs.SerialSteps.{by_true}
+use Rattle.shown_text_laws.proofs.Tests.{both_hold, is_within}
+use Rattle.std.proofs.Common.{◌≡◌, ℤ, List, [], ◌∷◌, Bool, true, false, codes}
+use Rattle.std.proofs.Common.{refl, length}
 use Rattle.std.specs.Prelude.{nat_abs, nat_le, pos, ◌+ℤ◌}
 use Rattle.decimals.specs.Rounding.{digits_behind, rounded_number}
 use Rattle.std.specs.Int.{is_negative}
@@ -66,17 +68,6 @@ pub under_grouped : (is_1904 : Bool) (exact : ℤ × ℤ)
 unfolding shown_text number_section is_supported pieces kind_of
 under_grouped is_1904 exact = refl
 
-pub both_hold : (a b : Bool) → a ≡ true → b ≡ true → (a && b) ≡ true
-both_hold true b first second = second
-both_hold false b first second = absurd (cc)
-
-pub within : (m n : ℕ) → m ≤ n → nat_le m n ≡ true
-within m n le = grind arith
-
-chosen_first : {A : Type 0} (c : Bool) (x y : A) → c ≡ true → cond c x y ≡ x
-chosen_first true x y holds = refl
-chosen_first false x y holds = absurd (cc)
-
 -- a number that is shown by its section
 pub by_section : (all : List CodePiece) (exact : ℤ × ℤ)
     → nat_le (length all) most_pieces ≡ true → IsShownBySection exact
@@ -84,8 +75,8 @@ pub by_section : (all : List CodePiece) (exact : ℤ × ℤ)
     ≡ signed_text (section_of all) (is_negative exact.0) (nat_abs (shown_digits exact).0)
     (shown_digits exact).1
 by_section all exact few small =
-    chosen_first (is_sized (section_of all) (shown_digits exact).1) _ _
-    (both_hold _ _ (within _ _ small) few)
+    by_true (is_sized (section_of all) (shown_digits exact).1) _ _
+    (both_hold _ _ (is_within _ _ small) few)
 
 -- the digits of a number don't go by its power
 pub same_size : (m power other : ℤ)

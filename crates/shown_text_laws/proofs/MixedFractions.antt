@@ -1,5 +1,7 @@
 -- A whole number and a fraction, as they are shown.
-use Rattle.std.proofs.Common.{◌≡◌, ◌∙◌, ◌++◌, ◌+◌, ◌-◌, ◌*◌, ◌/◌, ◌%◌, ◌^◌, ◌<◌, ◌≤◌, ◌==◌, ◌&&◌, ℕ, zero, suc}
+use Rattle.shown_text_laws.proofs.Tests.{and_false, and_true, both_hold, is_within}
+use Rattle.std.proofs.Common.{◌≡◌, ◌∙◌, ◌++◌, ◌+◌, ◌-◌, ◌*◌, ◌/◌, ◌%◌, ◌^◌, ◌<◌, ◌≤◌, ◌==◌, ◌&&◌, ℕ}
+use Rattle.std.proofs.Common.{zero, suc}
 use Rattle.std.proofs.Common.{ℤ, negsuc, Bool, true, false, cond, List, [], ◌∷◌, codes}
 use Rattle.std.proofs.Common.{refl, ap, sym, arith, inl, inr, append_assoc, append-nil, replicate}
 use lib.Utf8.{encode}
@@ -31,7 +33,6 @@ use Rattle.shown_text.specs.ShownText.{most_power, shown_text, sized_text}
 use Rattle.shown_text_laws.specs.NearFractions.{HasNoneNearer, IsNearestMixed}
 use Rattle.shown_text_laws.proofs.NearFractions.{none_nearer}
 use Rattle.shown_text_laws.proofs.OnePlace.{number_in_place}
-use Rattle.shown_text_laws.proofs.Literals.{both_hold, within}
 use Rattle.shown_text_laws.specs.NumberCodes.{IsShownBySection}
 
 abbrev mixed_pieces : List CodePiece
@@ -47,18 +48,10 @@ under_mixed is_1904 exact = refl
 abbrev parts : FractionParts
 parts = fraction_parts mixed_pieces
 
-and_true : (b : Bool) → (b && true) ≡ b
-and_true true = refl
-and_true false = refl
-
 never : (zero_whole none : Bool) → (zero_whole && cond none false false) ≡ false
 never true true = refl
 never true false = refl
 never false none = refl
-
-and_false : (b : Bool) → (b && false) ≡ false
-and_false true = refl
-and_false false = refl
 
 pick : (test gone : Bool) (x y z w : List ℕ) → test ≡ false → gone ≡ false
     → cond test x (cond gone y z ++ w) ≡ z ++ w
@@ -161,10 +154,10 @@ units n unit k under = elim (cases_lt n (k * unit)) [
 ]
 
 -- a fraction that is 1 is one more of the whole number
-one_more : (n unit w : ℕ) (f : Fraction) → f.over ≡ f.under
+carried_one : (n unit w : ℕ) (f : Fraction) → f.over ≡ f.under
     → HasNoneNearer n unit 9 (record { over = w * f.under + f.over; under = f.under })
     → HasNoneNearer n unit 9 (record { over = (w + 1) * 1 + 0; under = 1 })
-one_more n unit w f is near = record {
+carried_one n unit w f is near = record {
   positive = omega arith;
   within = omega arith;
   none_nearer = λ over under any few.
@@ -192,7 +185,7 @@ chosen_mixed n unit w true f is near = record {
   over = 0;
   under = 1;
   written = mixed_text (w + 1) (record { over = 0; under = 1 });
-  nearest = one_more n unit w f (is refl) near;
+  nearest = carried_one n unit w f (is refl) near;
 }
 chosen_mixed n unit w false f is near = record {
   whole = w;
@@ -225,7 +218,7 @@ mixed_shown is_1904 exact places sized power few =
       under_mixed is_1904 exact
           ∙ by_true (nat_le (nat_abs (shown_digits exact).1) most_power && true)
           (sign ++ (parts_text parts n (shown_digits exact).1 ++ [])) (general_text exact)
-          (both_hold _ _ (within (nat_abs (shown_digits exact).1) most_power sized) refl)
+          (both_hold _ _ (is_within (nat_abs (shown_digits exact).1) most_power sized) refl)
           ∙ ap (λ p. sign ++ (parts_text parts n p ++ [])) power
           ∙ ap (λ text. sign ++ text) (append-nil (parts_text parts n (negsuc places))
           ∙ by_true (nat_lt places 30) (parted parts n unit) (unparted parts 0 0)

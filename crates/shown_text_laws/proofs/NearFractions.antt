@@ -3,7 +3,8 @@ use Rattle.std.proofs.Common.{◌≡◌, ◌+◌, ◌-◌, ◌*◌, ◌<◌, ◌
 use Rattle.std.proofs.Common.{refl, ap, sym, subst, arith, inl, inr}
 use Rattle.std.specs.Prelude.{nat_lt}
 use Rattle.std.specs.List.{fold, range_with_len}
-use Rattle.std.proofs.Math.Nat.{div-mul-le_self, lt-div-mul-add, le_of_mul-le-mul_right, mul-le-mul_right}
+use Rattle.std.proofs.Math.Nat.{div-mul-le_self, lt-div-mul-add, le_of_mul-le-mul_right}
+use Rattle.std.proofs.Math.Nat.{mul-le-mul_right}
 use Rattle.std.proofs.lemmas.Bool.{cases_lt}
 use Rattle.std.proofs.lemmas.Bool.Decides.{nat_tests}
 use Rattle.shown_text.specs.FractionArithmetic.{distance, nearest_over}
@@ -20,7 +21,8 @@ multiple x u q a low high = elim (cases_lt a q) [
       omega (arith, step, low, high)
   | inr more ↦ elim (cases_lt q a) [
     | inl above ↦
-        let step : (q + 1) * u ≤ a * u = mul-le-mul_right u (let h : q + 1 ≤ a = omega arith in h) in
+        let next : q + 1 ≤ a = omega arith in
+        let step : (q + 1) * u ≤ a * u = mul-le-mul_right u next in
         omega (arith, step, low, high)
     | inr most ↦
         let same : a ≡ q = omega (arith, more, most) in
@@ -96,8 +98,8 @@ chosen_best n unit count false f so_far less more =
       ];
     }
 
-less_told : (a b : ℕ) → nat_lt a b ≡ true → a ≤ b
-less_told a b holds = grind (arith, nat_tests)
+at_most_told : (a b : ℕ) → nat_lt a b ≡ true → a ≤ b
+at_most_told a b holds = grind (arith, nat_tests)
 
 more_told : (a b : ℕ) → nat_lt a b ≡ false → b ≤ a
 more_told a b fails = grind (arith, nat_tests)
@@ -105,7 +107,7 @@ more_told a b fails = grind (arith, nat_tests)
 next_best : (n unit count : ℕ) (f : Fraction) → IsBest n unit count f
     → IsBest n unit (count + 1) (nearer n unit f (fraction_over n unit (count + 1)))
 next_best n unit count f so_far =
-    chosen_best n unit count _ f so_far (less_told _ _) (more_told _ _)
+    chosen_best n unit count _ f so_far (at_most_told _ _) (more_told _ _)
 
 -- all denominators from there on
 all_best : (n unit left count : ℕ) (f : Fraction) → IsBest n unit count f

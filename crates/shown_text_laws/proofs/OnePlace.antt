@@ -1,25 +1,23 @@
 -- Digits in one place.
-use Rattle.std.proofs.Common.{◌≡◌, ◌∙◌, ◌++◌, ◌+◌, ◌-◌, ◌<◌, ◌≤◌, ℕ, zero, suc, Bool, true, false, cond}
+use Rattle.std.proofs.Common.{◌≡◌, ◌∙◌, ◌++◌, ◌+◌, ◌-◌, ◌<◌, ◌≤◌, ℕ, zero, suc, Bool, true, false}
+use Rattle.std.proofs.Common.{cond}
 use Rattle.std.proofs.Common.{List, [], ◌∷◌, Some, None, length, drop, get_or, ap, sym}
 use Rattle.std.proofs.Common.{arith, append-nil, drop-cons}
 use Rattle.std.proofs.lemmas.List.{drop_all}
 use Rattle.std.specs.Prelude.{nat_lt, nat_le, ◌/◌, ◌%◌, ◌==◌}
 use Rattle.std.specs.Fmt.{decimal, digits, digits_onto, digit_glyph}
 use Rattle.std.proofs.lemmas.Bool.Decides.{nat_tests}
-use Rattle.excel_dates.proofs.SerialSteps.{by_true}
+use Rattle.excel_dates.proofs.SerialSteps.{by_true, is_less}
 use Rattle.format_codes.specs.declared.piece.CodePiece.TheVariants as piece
 use Rattle.format_codes.specs.declared.piece.Filler.TheVariants.{Zero}
 use Rattle.shown_text.specs.Digits.{digit_at, place_character, placed_text, surplus, with_digits}
 use Rattle.shown_text_laws.proofs.Places.{place_taken}
 
-is_below : (m n : ℕ) → m < n → nat_lt m n ≡ true
-is_below m n less = grind (arith, nat_tests)
-
 digit_of : (ds : List ℕ) (place : ℕ) → place < length ds
     → digit_at ds place ≡ Some (get_or ds (length ds - (place + 1)) 0)
 digit_of ds place inside =
     by_true (nat_lt place (length ds)) (Some (get_or ds (length ds - (place + 1)) 0)) None
-    (is_below place (length ds) inside)
+    (is_less place (length ds) inside)
 
 -- all digits are too many where there is no place
 surplus_all : (ds : List ℕ) (left : ℕ) → left ≤ length ds
@@ -34,8 +32,8 @@ surplus_all ds (suc left) few =
     let within : at < length ds = omega (arith, inside) in
     let next : length ds - left ≡ suc at = omega (arith, inside) in
     let same : length ds - suc left ≡ at = omega arith in
-    by_true (nat_le 0 left) (placed_text false left (digit_at ds left) ++ surplus false ds 0 left) []
-    first
+    by_true (nat_le 0 left)
+    (placed_text false left (digit_at ds left) ++ surplus false ds 0 left) [] first
     ∙ (λ i. placed_text false left (digit_of ds left inside i)
     ++ surplus_all ds left (let h : left ≤ length ds = omega (arith, inside) in h) i)
     ∙ ap (λ k. get_or ds at 0 ∷ drop k ds) next

@@ -1,10 +1,15 @@
 -- Digits in the places of `#,##0.00` and of `0.00`.
-use Rattle.std.proofs.Common.{◌≡◌, ◌∙◌, ◌++◌, ◌+◌, ◌-◌, ◌<◌, ◌≤◌, ◌==◌, ℕ, zero, suc, Bool, true, false}
-use Rattle.std.proofs.Common.{cond, List, [], ◌∷◌, Option, Some, None, length, get_or, refl, ap, sym, subst}
+use Rattle.excel_dates.proofs.SerialSteps.{by_true, by_false}
+use Rattle.shown_text_laws.proofs.Tests.{less_told}
+use Rattle.std.proofs.Common.{◌≡◌, ◌∙◌, ◌++◌, ◌+◌, ◌-◌, ◌<◌, ◌≤◌, ◌==◌, ℕ, zero, suc, Bool, true}
+use Rattle.std.proofs.Common.{false}
+use Rattle.std.proofs.Common.{cond, List, [], ◌∷◌, Option, Some, None, length, get_or, refl, ap}
+use Rattle.std.proofs.Common.{sym, subst}
 use Rattle.std.proofs.Common.{arith, not, inl, inr, append_assoc, append-nil}
 use Rattle.std.specs.Prelude.{nat_lt, nat_le, unwrap_or, option_to_list}
 use Rattle.std.specs.List.{All}
-use Rattle.std.proofs.lemmas.List.Elements.{All-nil, All-cons, All-append, All-get_or, filter-append}
+use Rattle.std.proofs.lemmas.List.Elements.{All-nil, All-cons, All-append, All-get_or}
+use Rattle.std.proofs.lemmas.List.Elements.{filter-append}
 use Rattle.std.proofs.lemmas.Bool.{cases_lt}
 use Rattle.std.proofs.lemmas.Bool.Decides.{nat_tests}
 use Rattle.format_codes.specs.declared.piece.CodePiece.TheVariants as piece
@@ -12,15 +17,7 @@ use Rattle.format_codes.specs.declared.piece.Filler.TheVariants.{Zero, Nothing}
 use Rattle.shown_text.specs.Digits.{digit_at, place_character, separator, placed_text, surplus}
 use Rattle.shown_text.specs.Digits.{with_digits, fraction_character, hidden_places, behind_text}
 use Rattle.shown_text_laws.specs.NumberCodes.{without_commas}
-use Rattle.shown_text_laws.proofs.AllDigits.{IsFigure, no_comma}
-
-chosen_first : {A : Type 0} (c : Bool) (x y : A) → c ≡ true → cond c x y ≡ x
-chosen_first true x y holds = refl
-chosen_first false x y holds = absurd (cc)
-
-chosen_second : {A : Type 0} (c : Bool) (x y : A) → c ≡ false → cond c x y ≡ y
-chosen_second true x y fails = absurd (cc)
-chosen_second false x y fails = refl
+use Rattle.shown_text_laws.proofs.AllDigits.{plain_step, IsFigure, no_comma}
 
 separated : (test space : Bool) → space ≡ false
     → without_commas (cond test (cond space 32 44 ∷ []) []) ≡ []
@@ -31,16 +28,11 @@ separated false space none = refl
 no_space : (c : ℕ) → 47 < c → (c == 32) ≡ false
 no_space c above = grind (arith, nat_tests)
 
-comma_step : (test : Bool) (c : ℕ) (xs ys : List ℕ) → test ≡ false → xs ≡ ys
-    → cond (not test) (c ∷ xs) xs ≡ c ∷ ys
-comma_step true c xs ys fails same = absurd (cc)
-comma_step false c xs ys fails same = ap (λ rest. c ∷ rest) same
-
 -- a digit with the comma behind it
 figure_kept : (place c : ℕ) → 47 < c
     → without_commas (placed_text true place (Some c)) ≡ placed_text false place (Some c)
 figure_kept place c above =
-    comma_step (c == 44) c (without_commas (separator true place c)) [] (no_comma c above)
+    plain_step (c == 44) c (without_commas (separator true place c)) [] (no_comma c above)
     (separated _ (c == 32) (no_space c above))
 
 chosen_kept : (test : Bool) (place c : ℕ) → (test ≡ true → 47 < c)
@@ -49,15 +41,13 @@ chosen_kept : (test : Bool) (place c : ℕ) → (test ≡ true → 47 < c)
 chosen_kept true place c above = figure_kept place c (above refl)
 chosen_kept false place c above = refl
 
-below : (m n : ℕ) → nat_lt m n ≡ true → m < n
-below m n holds = grind (arith, nat_tests)
-
 -- the digit of a place with the comma behind it
 digit_kept : (ds : List ℕ) (place at : ℕ) → All IsFigure ds
-    → without_commas (placed_text true at (digit_at ds place)) ≡ placed_text false at (digit_at ds place)
+    → without_commas (placed_text true at (digit_at ds place))
+    ≡ placed_text false at (digit_at ds place)
 digit_kept ds place at all =
     chosen_kept (nat_lt place (length ds)) at (get_or ds (length ds - (place + 1)) 0)
-    (λ holds. let inside : place < length ds = below place (length ds) holds in
+    (λ holds. let inside : place < length ds = less_told place (length ds) holds in
     All-get_or IsFigure ds (length ds - (place + 1)) 0 (omega arith) all)
 
 surplus_step : (test : Bool) (xs ys zs ws : List ℕ) → without_commas xs ≡ zs
@@ -81,7 +71,7 @@ surplus_none : (ds : List ℕ) (places left : ℕ) → left ≤ places → surpl
 surplus_none ds places zero few = refl
 surplus_none ds places (suc left) few =
     let none : nat_le places left ≡ false = grind (arith, nat_tests) in
-    chosen_second (nat_le places left) _ _ none
+    by_false (nat_le places left) _ _ none
 
 abbrev shown_at : List ℕ → ℕ → List ℕ
 shown_at ds p = placed_text false p (digit_at ds p)
@@ -96,7 +86,7 @@ more_before ds p left before =
     let fewer : suc left ≤ suc p = omega arith in
     surplus_none ds p (suc left) few
     ∙ sym (λ i. surplus_none ds (suc p) (suc left) fewer i
-    ++ chosen_second (nat_lt p (suc left)) (shown_at ds p) [] none i)
+    ++ by_false (nat_lt p (suc left)) (shown_at ds p) [] none i)
 
 more_at : (ds : List ℕ) (p : ℕ)
     → surplus false ds p (suc p)
@@ -106,11 +96,11 @@ more_at ds p =
     let last : nat_lt p (suc p) ≡ true = grind (arith, nat_tests) in
     let few : p ≤ p = omega arith in
     let fewer : suc p ≤ suc p = omega arith in
-    chosen_first (nat_le p p) (shown_at ds p ++ surplus false ds p p) [] first
+    by_true (nat_le p p) (shown_at ds p ++ surplus false ds p p) [] first
     ∙ ap (λ rest. shown_at ds p ++ rest) (surplus_none ds p p few)
     ∙ append-nil (shown_at ds p)
     ∙ sym (λ i. surplus_none ds (suc p) (suc p) fewer i
-    ++ chosen_first (nat_lt p (suc p)) (shown_at ds p) [] last i)
+    ++ by_true (nat_lt p (suc p)) (shown_at ds p) [] last i)
 
 more_behind : (ds : List ℕ) (p left : ℕ) → p < left
     → surplus false ds p left
@@ -122,16 +112,16 @@ more_behind ds p left behind rest =
     let there : nat_le (suc p) left ≡ true = grind (arith, nat_tests) in
     let now : nat_lt p left ≡ true = grind (arith, nat_tests) in
     let then_too : nat_lt p (suc left) ≡ true = grind (arith, nat_tests) in
-    chosen_first (nat_le p left) (placed_text false left (digit_at ds left) ++ surplus false ds p left)
+    by_true (nat_le p left) (placed_text false left (digit_at ds left) ++ surplus false ds p left)
     [] here
     ∙ ap (λ more. placed_text false left (digit_at ds left) ++ more)
     (rest ∙ ap (λ more. surplus false ds (suc p) left ++ more)
-    (chosen_first (nat_lt p left) (shown_at ds p) [] now))
+    (by_true (nat_lt p left) (shown_at ds p) [] now))
     ∙ sym (append_assoc (placed_text false left (digit_at ds left)) (surplus false ds (suc p) left)
     (shown_at ds p))
-    ∙ sym (λ i. chosen_first (nat_le (suc p) left)
+    ∙ sym (λ i. by_true (nat_le (suc p) left)
     (placed_text false left (digit_at ds left) ++ surplus false ds (suc p) left) [] there i
-    ++ chosen_first (nat_lt p (suc left)) (shown_at ds p) [] then_too i)
+    ++ by_true (nat_lt p (suc left)) (shown_at ds p) [] then_too i)
 
 -- a place more takes the last of the digits that are too many
 one_more : (ds : List ℕ) (p left : ℕ)
@@ -140,7 +130,7 @@ one_more : (ds : List ℕ) (p left : ℕ)
     ++ cond (nat_lt p left) (shown_at ds p) []
 one_more ds p zero =
     let none : nat_lt p 0 ≡ false = grind (arith, nat_tests) in
-    sym (chosen_second (nat_lt p 0) (shown_at ds p) [] none)
+    sym (by_false (nat_lt p 0) (shown_at ds p) [] none)
 one_more ds p (suc left) = elim (cases_lt left p) [
   | inl before ↦ more_before ds p left before
   | inr within ↦ elim (cases_lt p left) [
@@ -190,7 +180,7 @@ zero_chosen false place c above = figure_kept place 48 (omega arith)
 inside_figure : (ds : List ℕ) (place : ℕ) → All IsFigure ds → nat_lt place (length ds) ≡ true
     → 47 < get_or ds (length ds - (place + 1)) 0
 inside_figure ds place all holds =
-    let within : place < length ds = below place (length ds) holds in
+    let within : place < length ds = less_told place (length ds) holds in
     All-get_or IsFigure ds (length ds - (place + 1)) 0 (omega arith) all
 
 pub without_both : (xs ys zs ws : List ℕ) → without_commas xs ≡ zs → without_commas ys ≡ ws
@@ -204,7 +194,8 @@ pub whole_kept : (ds : List ℕ) → All IsFigure ds
     ∷ piece.Digit Nothing ∷ piece.Digit Nothing ∷ piece.Digit Zero ∷ []))
     ≡ with_digits false false [] ds (piece.Digit Zero ∷ [])
 whole_kept ds all =
-    let at = λ (place : ℕ). placed_text true place (place_character Nothing false (digit_at ds place)) in
+    let at = λ (place : ℕ).
+    placed_text true place (place_character Nothing false (digit_at ds place)) in
     let last = placed_text true 0 (place_character Zero false (digit_at ds 0)) ++ [] in
     let kept = placed_text false 0 (place_character Zero false (digit_at ds 0)) ++ [] in
     without_both (surplus true ds 4 (length ds)) (at 3 ++ (at 2 ++ (at 1 ++ last)))
@@ -212,7 +203,8 @@ whole_kept ds all =
     (surplus_kept ds 4 (length ds) all)
     (without_both (at 3) (at 2 ++ (at 1 ++ last)) (shown_at ds 3)
     (shown_at ds 2 ++ (shown_at ds 1 ++ kept)) (empty_kept ds 3 all)
-    (without_both (at 2) (at 1 ++ last) (shown_at ds 2) (shown_at ds 1 ++ kept) (empty_kept ds 2 all)
+    (without_both (at 2) (at 1 ++ last) (shown_at ds 2) (shown_at ds 1 ++ kept)
+    (empty_kept ds 2 all)
     (without_both (at 1) last (shown_at ds 1) kept (empty_kept ds 1 all)
     (without_both (placed_text true 0 (place_character Zero false (digit_at ds 0))) []
     (placed_text false 0 (place_character Zero false (digit_at ds 0))) []
@@ -222,7 +214,8 @@ whole_kept ds all =
     ∙ place_taken ds 2 (shown_at ds 1 ++ kept)
     ∙ place_taken ds 1 kept
 
-figure_or : (test : Bool) (c : ℕ) → (test ≡ true → 47 < c) → 47 < unwrap_or (cond test (Some c) None) 48
+figure_or : (test : Bool) (c : ℕ) → (test ≡ true → 47 < c)
+    → 47 < unwrap_or (cond test (Some c) None) 48
 figure_or true c above = above refl
 figure_or false c above = omega arith
 

@@ -1,5 +1,6 @@
 -- Numbers under `%`, and in thousands.
-use Rattle.std.proofs.Common.{◌≡◌, ◌∙◌, ◌++◌, ◌&&◌, ◌-◌, ℕ, ℤ, Bool, true, false, List, [], ◌∷◌, codes}
+use Rattle.std.proofs.Common.{◌≡◌, ◌∙◌, ◌++◌, ◌&&◌, ◌-◌, ℕ, ℤ, Bool, true, false, List, [], ◌∷◌}
+use Rattle.std.proofs.Common.{codes}
 use Rattle.std.proofs.Common.{pos, refl, ap, sym, length, take, append_assoc, append-nil, arith}
 use Rattle.std.specs.Prelude.{◌+ℤ◌, ◌-ℤ◌, nat_abs, option_to_list}
 use Rattle.std.specs.Fmt.{sign_text}
@@ -79,7 +80,8 @@ plain : (is_1904 : Bool) (m power other : ℤ) → IsShownBySection (m, other)
     ++ number_text one_place (nat_abs (shown_digits (m, power)).0) (shown_digits (m, other)).1
     ≡ shown_text is_1904 (codes "0.0") (number (m, other))
 plain is_1904 m power other sized =
-    ap (λ n. sign_text (is_negative m && true) ++ number_text one_place n (shown_digits (m, other)).1)
+    ap (λ n. sign_text (is_negative m && true)
+    ++ number_text one_place n (shown_digits (m, other)).1)
     (same_size m power other)
     ∙ sym (under_one_place is_1904 (m, other) ∙ by_section one_place (m, other) refl sized)
 

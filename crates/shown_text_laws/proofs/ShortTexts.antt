@@ -1,12 +1,16 @@
 -- How long the texts of General are.
-use Rattle.std.proofs.Common.{◌≡◌, ◌∙◌, ◌++◌, ◌+◌, ◌-◌, ◌*◌, ◌/◌, ◌%◌, ◌^◌, ◌<◌, ◌≤◌, ◌==◌, ℕ, zero, suc}
+use Rattle.shown_text_laws.proofs.Tests.{less_told}
+use Rattle.std.proofs.Common.{◌≡◌, ◌∙◌, ◌++◌, ◌+◌, ◌-◌, ◌*◌, ◌/◌, ◌%◌, ◌^◌, ◌<◌, ◌≤◌, ◌==◌, ℕ, zero}
+use Rattle.std.proofs.Common.{suc}
 use Rattle.std.proofs.Common.{ℤ, pos, negsuc, ◌+ℤ◌, ◌≤ℤ◌, Bool, true, false, cond, List, [], ◌∷◌}
-use Rattle.std.proofs.Common.{Option, Some, None, length, take, drop, replicate, refl, ap, sym, subst}
+use Rattle.std.proofs.Common.{Option, Some, None, length, take, drop, replicate, refl, ap, sym}
+use Rattle.std.proofs.Common.{subst}
 use Rattle.std.proofs.Common.{arith, ◌⊎◌, inl, inr, length-append, length-take, length-drop}
 use Rattle.std.specs.Prelude.{nat_lt, nat_abs}
 use Rattle.std.specs.Fmt.{decimal, digits, sign_text}
 use Rattle.std.specs.Int.{is_negative}
-use Rattle.std.proofs.Math.Nat.{pow-le-pow_right, div-lt_iff_lt-mul, add-mul-mod_self_right, mod-eq_of_lt}
+use Rattle.std.proofs.Math.Nat.{pow-le-pow_right, div-lt_iff_lt-mul, add-mul-mod_self_right}
+use Rattle.std.proofs.Math.Nat.{mod-eq_of_lt}
 use Rattle.std.proofs.lemmas.Bool.{cases_lt}
 use Rattle.std.proofs.lemmas.Bool.Decides.{nat_tests}
 use Rattle.std.proofs.lemmas.Fmt.{length-decimal-le_wide}
@@ -143,7 +147,8 @@ short_scientific n power positive small near =
           let none : k ≡ 0 = omega (arith, few) in
           let itself : nearest 0 n ≡ n = omega arith in
           let kept_is : nearest k n ≡ n = ap (λ j. nearest j n) none ∙ itself in
-          let same : length (decimal (nearest k n)) ≡ count = ap (λ m. length (decimal m)) kept_is in
+          let same : length (decimal (nearest k n)) ≡ count =
+          ap (λ m. length (decimal m)) kept_is in
           let moved : (power +ℤ pos k) +ℤ pos (length (decimal (nearest k n)) - 1)
           ≡ first_power n power =
           omega (arith, ints, none, same) in
@@ -157,8 +162,9 @@ whole_len places n none below =
     let rest = behind_point (without_trailing_zeros (padded places (n % 10 ^ places))) in
     let empty : rest ≡ [] = zero_cut places (n % 10 ^ places) none in
     let unit = some places in
+    let one : 1 ≤ 10 ^ places = omega (arith, unit) in
     let whole : n / 10 ^ places < 10 ^ 11 =
-    (div-lt_iff_lt-mul unit).1 (omega (arith, below, times (10 ^ 11) (let h : 1 ≤ 10 ^ places = omega (arith, unit) in h))) in
+    (div-lt_iff_lt-mul unit).1 (omega (arith, below, times (10 ^ 11) one)) in
     let few : length (decimal (n / 10 ^ places)) ≤ 11 =
     length-decimal-le_wide 11 (n / 10 ^ places) (omega arith) whole (omega (arith, whole)) in
     omega (arith, length-append (decimal (n / 10 ^ places)) rest, ap length empty, few)
@@ -268,9 +274,6 @@ general_fits n power (negsuc g) positive small is =
       inl (near_bound n (digit_count n) (power +ℤ pos 9) has.below (omega (arith, ints, is, any))),
     ))
     (λ fails. tt)
-
-less_told : (m n : ℕ) → nat_lt m n ≡ true → m < n
-less_told m n holds = grind (arith, nat_tests)
 
 chosen_len : (test : Bool) (xs ys : List ℕ) → (test ≡ true → length xs ≤ 11) → length ys ≤ 11
     → length (cond test xs ys) ≤ 11

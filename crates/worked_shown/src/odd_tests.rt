@@ -5,8 +5,8 @@ use std::alloc::{AllocError, Global};
 use std::test::Fail;
 use test_tables::{assert_text, cases, cut};
 
-/// Codes that are cut off, or met by no number, and values at the ends of what is shown; each with a value and the text that is shown
-/// of it, between bars.
+/// Codes that are cut off, or met by no number, and values at the ends of what is shown; each code
+/// with a value and the text that is shown of it, between bars.
 const ODD: &str = r#"
 0\
 = 5
