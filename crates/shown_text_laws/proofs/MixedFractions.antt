@@ -8,13 +8,15 @@ use lib.Utf8.{encode}
 use Rattle.std.specs.Prelude.{nat_lt, nat_le, nat_abs}
 use Rattle.std.specs.Fmt.{decimal, sign_text}
 use Rattle.std.specs.Int.{is_negative}
-use Rattle.std.proofs.Math.Nat.{mul-le-mul_right, le_of_mul-le-mul_right}
+use Rattle.std.proofs.Common.{length, length-append, pos}
+use Rattle.decimals.specs.Rounding.{digits_behind}
+use Rattle.std.proofs.Math.Nat.{pow-le-pow_right, mul-le-mul_right, le_of_mul-le-mul_right}
 use Rattle.std.proofs.lemmas.Bool.{cases_lt, eqb-true}
 use Rattle.std.proofs.lemmas.Bool.Decides.{nat_tests}
 use Rattle.std.proofs.lemmas.Fmt.{decimal_digit}
 use Rattle.cell_data.specs.CellValue.{number}
 use Rattle.decimals.proofs.Rounded.{unit_some}
-use Rattle.excel_dates.proofs.SerialSteps.{by_true, by_false, is_less}
+use Rattle.excel_dates.proofs.SerialSteps.{by_true, by_false}
 use Rattle.format_codes.specs.Choosing.{is_supported, number_section}
 use Rattle.format_codes.specs.Kinds.{kind_of}
 use Rattle.format_codes.specs.Sections.{pieces}
@@ -22,6 +24,7 @@ use Rattle.format_codes.specs.declared.kind.SectionKind.TheVariants as kind
 use Rattle.format_codes.specs.declared.piece.CodePiece.{CodePiece}
 use Rattle.format_codes.specs.declared.piece.CodePiece.TheVariants as piece
 use Rattle.format_codes.specs.declared.piece.Filler.TheVariants.{Zero}
+use Rattle.shown_text.proofs.SizeSteps.{few_kept, size_is}
 use Rattle.shown_text.specs.Digits.{with_digits}
 use Rattle.shown_text.specs.FractionArithmetic.{distance}
 use Rattle.shown_text.specs.FractionTexts.{FractionParts, fraction_parts, fraction_text}
@@ -32,7 +35,7 @@ use Rattle.shown_text.specs.declared.fractions.Fraction.{Fraction}
 use Rattle.shown_text.specs.ShownText.{most_power, shown_text, sized_text}
 use Rattle.shown_text_laws.specs.NearFractions.{HasNoneNearer, IsNearestMixed}
 use Rattle.shown_text_laws.proofs.NearFractions.{none_nearer}
-use Rattle.shown_text_laws.proofs.OnePlace.{number_in_place}
+use Rattle.shown_text_laws.proofs.OnePlace.{decimal_some, in_one_place, number_in_place}
 use Rattle.shown_text_laws.specs.NumberCodes.{IsShownBySection}
 
 abbrev mixed_pieces : List CodePiece
@@ -60,13 +63,13 @@ pick false true x y z w first second = absurd (cc)
 pick false false x y z w first second = refl
 
 -- digits in the places of the parts
-mixed_places : (w : ℕ) (f : Fraction)
-    → mixed parts w 0 f
-    ≡ (with_digits false false [] (whole_digits w 0) (piece.Digit Zero ∷ []) ++ 32 ∷ [])
+mixed_places : (w k : ℕ) (f : Fraction)
+    → mixed parts w k f
+    ≡ (with_digits false false [] (whole_digits w k) (piece.Digit Zero ∷ []) ++ 32 ∷ [])
     ++ (with_digits false false [] (decimal f.over) (piece.Digit Zero ∷ [])
     ++ 47 ∷ with_digits false false [] (decimal f.under) (piece.Digit Zero ∷ []))
 unfolding encode
-mixed_places w f =
+mixed_places w k f =
     pick ((f.over == 0) && false) ((w == 0) && cond (f.over == 0) false false) _ _ _ _
     (and_false (f.over == 0)) (never (w == 0) (f.over == 0))
 
@@ -80,7 +83,7 @@ whole_plain (suc w) =
 mixed_text : (w : ℕ) (f : Fraction)
     → mixed parts w 0 f ≡ decimal w ++ 32 ∷ (decimal f.over ++ 47 ∷ decimal f.under)
 mixed_text w f =
-    mixed_places w f
+    mixed_places w 0 f
     ∙ ap (λ ds. (with_digits false false [] ds (piece.Digit Zero ∷ []) ++ 32 ∷ [])
     ++ (with_digits false false [] (decimal f.over) (piece.Digit Zero ∷ [])
     ++ 47 ∷ with_digits false false [] (decimal f.under) (piece.Digit Zero ∷ [])))
@@ -202,26 +205,103 @@ parted_mixed n unit positive =
     (moved n unit (n % unit) (n / unit) f (divided n unit positive)
     (none_nearer (n % unit) unit 9 positive (omega arith)))
 
-pub mixed_shown : (is_1904 : Bool) (exact : ℤ × ℤ) (places : ℕ) → IsShownBySection exact
-    → (shown_digits exact).1 ≡ negsuc places → places < 30
+-- a number that is far below 1 is nearest to 0
+tiny_near : (n unit : ℕ) → n * 18 ≤ unit
+    → HasNoneNearer n unit 9 (record { over = 0 * 1 + 0; under = 1 })
+tiny_near n unit far = record {
+  positive = omega arith;
+  within = omega arith;
+  none_nearer = λ over under any few.
+      let gap : distance n unit (0 * 1 + 0) 1 ≡ n = omega arith in
+      let told : distance n unit (0 * 1 + 0) 1 * under ≡ n * under = ap (λ k. k * under) gap in
+      elim (cases_lt 0 over) [
+        | inl more ↦
+            let least : 1 * unit ≤ over * unit = mul-le-mul_right unit more in
+            let most : under * n ≤ 9 * n = mul-le-mul_right n few in
+            omega (arith, told, least, most, far)
+        | inr none ↦
+            let zero_over : over ≡ 0 = omega (arith, none) in
+            let product : over * unit ≡ 0 * unit = ap (λ k. k * unit) zero_over in
+            omega (arith, told, product)
+      ];
+}
+
+near_chosen : (n unit : ℕ) (test : Bool) → 0 < unit → (test ≡ false → n * 18 ≤ unit)
+    → IsNearestMixed n unit (cond test (parted parts n unit) (unparted parts 0 0))
+near_chosen n unit true positive far = parted_mixed n unit positive
+near_chosen n unit false positive far = record {
+  whole = 0;
+  over = 0;
+  under = 1;
+  written = mixed_text 0 (record { over = 0; under = 1 });
+  nearest = tiny_near n unit (far refl);
+}
+
+many_places : (places : ℕ) → nat_lt places 30 ≡ false → 30 ≤ places
+many_places places fails = grind (arith, nat_tests)
+
+parts_near : (n places : ℕ) → n ≤ 10 ^ 15
+    → IsNearestMixed n (10 ^ (places + 1)) (parts_text parts n (negsuc places))
+parts_near n places few =
+    near_chosen n (10 ^ (places + 1)) (nat_lt places 30) (unit_some (places + 1))
+    (λ fails.
+    let many : 30 ≤ places = many_places places fails in
+    let more : 30 ≤ places + 1 = omega (arith, many) in
+    let power : 10 ^ 30 ≤ 10 ^ (places + 1) = pow-le-pow_right (omega arith) more in
+    omega (arith, power, few))
+
+-- what is shown of a number by its power
+by_parts : (is_1904 : Bool) (exact : ℤ × ℤ) → IsShownBySection exact
+    → shown_text is_1904 (codes "0 0/0") (number exact)
+    ≡ sign_text (is_negative exact.0)
+    ++ parts_text parts (nat_abs (shown_digits exact).0) (shown_digits exact).1
+unfolding fraction_text
+by_parts is_1904 exact sized =
+    let n = nat_abs (shown_digits exact).0 in
+    let sign = sign_text (is_negative exact.0 && true) in
+    let text = parts_text parts n (shown_digits exact).1 in
+    under_mixed is_1904 exact
+    ∙ by_true (nat_le (nat_abs (shown_digits exact).1) most_power && true) (sign ++ (text ++ []))
+    (general_text exact)
+    (both_hold _ _ (is_within (nat_abs (shown_digits exact).1) most_power sized) refl)
+    ∙ (λ i. sign_text (and_true (is_negative exact.0) i) ++ append-nil text i)
+
+pub mixed_shown : (is_1904 : Bool) (exact : ℤ × ℤ) (places : ℕ) → nat_abs exact.0 < 2 ^ 128
+    → IsShownBySection exact → (shown_digits exact).1 ≡ negsuc places
     → (text : List ℕ) × IsNearestMixed (nat_abs (shown_digits exact).0) (10 ^ (places + 1)) text
     × (shown_text is_1904 (codes "0 0/0") (number exact) ≡ sign_text (is_negative exact.0) ++ text)
-unfolding fraction_text
-mixed_shown is_1904 exact places sized power few =
+mixed_shown is_1904 exact places small sized power =
     let n = nat_abs (shown_digits exact).0 in
-    let unit = 10 ^ (places + 1) in
-    let sign = sign_text (is_negative exact.0 && true) in
-    let plain : sign ≡ sign_text (is_negative exact.0) =
-    ap sign_text (and_true (is_negative exact.0)) in (
-      parted parts n unit,
-      parted_mixed n unit (unit_some (places + 1)),
-      under_mixed is_1904 exact
-          ∙ by_true (nat_le (nat_abs (shown_digits exact).1) most_power && true)
-          (sign ++ (parts_text parts n (shown_digits exact).1 ++ [])) (general_text exact)
-          (both_hold _ _ (is_within (nat_abs (shown_digits exact).1) most_power sized) refl)
-          ∙ ap (λ p. sign ++ (parts_text parts n p ++ [])) power
-          ∙ ap (λ text. sign ++ text) (append-nil (parts_text parts n (negsuc places))
-          ∙ by_true (nat_lt places 30) (parted parts n unit) (unparted parts 0 0)
-          (is_less places 30 few))
-          ∙ ap (λ s. s ++ parted parts n unit) plain,
+    let count = digits_behind 15 (nat_abs exact.0) in
+    let kept = few_kept (nat_abs exact.0) count small refl in
+    let few : n ≤ 10 ^ 15 = omega (arith, kept, size_is exact.0 exact.1 count refl) in (
+      parts_text parts n (negsuc places),
+      parts_near n places few,
+      by_parts is_1904 exact sized
+          ∙ ap (λ p. sign_text (is_negative exact.0) ++ parts_text parts n p) power,
     )
+
+chosen_digits : (test : Bool) (n k : ℕ)
+    → 0 < length (cond test (48 ∷ []) (decimal n ++ replicate k 48))
+chosen_digits true n k = omega arith
+chosen_digits false n k =
+    omega (arith, decimal_some n, length-append (decimal n) (replicate {A = ℕ} k 48))
+
+-- a whole number
+pub whole_shown : (is_1904 : Bool) (exact : ℤ × ℤ) (zeros : ℕ) → IsShownBySection exact
+    → (shown_digits exact).1 ≡ pos zeros
+    → shown_text is_1904 (codes "0 0/0") (number exact)
+    ≡ sign_text (is_negative exact.0)
+    ++ (whole_digits (nat_abs (shown_digits exact).0) zeros ++ codes " 0/1")
+whole_shown is_1904 exact zeros sized power =
+    let n = nat_abs (shown_digits exact).0 in
+    let whole = whole_digits n zeros in
+    by_parts is_1904 exact sized
+    ∙ ap (λ p. sign_text (is_negative exact.0) ++ parts_text parts n p) power
+    ∙ ap (λ text. sign_text (is_negative exact.0) ++ text)
+    (mixed_places n zeros (record { over = 0; under = 1 })
+    ∙ (λ i. (in_one_place whole (chosen_digits (n == 0) n zeros) i ++ 32 ∷ [])
+    ++ (number_in_place 0 i ++ 47 ∷ number_in_place 1 i))
+    ∙ (λ i. (whole ++ 32 ∷ [])
+    ++ (decimal_digit 0 (omega arith) i ++ 47 ∷ decimal_digit 1 (omega arith) i))
+    ∙ append_assoc whole (32 ∷ []) (48 ∷ 47 ∷ 49 ∷ []))

@@ -78,7 +78,7 @@ some_first k n =
     (some_onto k (n / 10) (glyph ∷ []) more)
 
 -- a number has a digit
-decimal_some : (n : ℕ) → 0 < length (decimal n)
+pub decimal_some : (n : ℕ) → 0 < length (decimal n)
 unfolding digits
 decimal_some n = some_first 63 n
 

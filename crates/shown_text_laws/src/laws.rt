@@ -10,7 +10,7 @@ ghost use Rattle.format_codes.specs.declared.piece.CodePiece.{CodePiece};
 ghost use Rattle.format_codes.specs.Choosing.{ShownSection, chosen};
 ghost use Rattle.format_codes.specs.Sections.{sections};
 ghost use Rattle.shown_text.specs.DateTexts.{longest_time};
-ghost use Rattle.shown_text.specs.FractionTexts.{nearest_fraction};
+ghost use Rattle.shown_text.specs.FractionTexts.{nearest_fraction, whole_digits};
 ghost use Rattle.shown_text.specs.GeneralText.{first_power, general_text, shown_digits};
 ghost use Rattle.shown_text.specs.ShownText.{shown_text, text_in_section, is_sized, sized_text};
 ghost use Rattle.shown_text_laws.specs.JoinedCodes.{leaves_open};
@@ -92,15 +92,20 @@ pub fn general_is_short()
 {}
 
 /// No fraction with a denominator up to a greatest one is nearer to a number than the one that is
-/// found for it, and so none up to 9 is nearer than what is shown under `0 0/0`, as `3 1/4`, of a
-/// number that has up to thirty places behind the point.
+/// found for it, and so none up to 9 is nearer than what is shown under `0 0/0`, as `3 1/4`. A
+/// whole number stands before `0/1`.
 pub fn no_fraction_is_nearer()
     ensures found { (n unit most : ℕ) → 0 < unit → 0 < most
         → HasNoneNearer n unit most (nearest_fraction n unit most) }
-    ensures shown { (is_1904 : Bool) (exact : ℤ × ℤ) (places : ℕ) → IsShownBySection exact
-        → (shown_digits exact).1 ≡ negsuc places → places < 30
+    ensures shown { (is_1904 : Bool) (exact : ℤ × ℤ) (places : ℕ) → nat_abs exact.0 < 2 ^ 128
+        → IsShownBySection exact → (shown_digits exact).1 ≡ negsuc places
         → (text : List ℕ)
         × IsNearestMixed (nat_abs (shown_digits exact).0) (10 ^ (places + 1)) text
         × (shown_text is_1904 (codes "0 0/0") (number exact)
         ≡ sign_text (is_negative exact.0) ++ text) }
+    ensures whole { (is_1904 : Bool) (exact : ℤ × ℤ) (zeros : ℕ) → IsShownBySection exact
+        → (shown_digits exact).1 ≡ pos zeros
+        → shown_text is_1904 (codes "0 0/0") (number exact)
+        ≡ sign_text (is_negative exact.0)
+        ++ (whole_digits (nat_abs (shown_digits exact).0) zeros ++ codes " 0/1") }
 {}
