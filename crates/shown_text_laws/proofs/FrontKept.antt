@@ -21,7 +21,7 @@ use Rattle.format_codes.specs.Sections.{first_character, quoted_in_front, group_
 use Rattle.format_codes.specs.Sections.{unit_in_front, unit_or_other, half_day_or_other}
 use Rattle.format_codes.specs.Sections.{letter_in_front, sign_or_letter, sign_piece}
 use Rattle.format_codes.specs.Sections.{pieces_in_front}
-use Rattle.shown_text_laws.specs.JoinedCodes.{is_open}
+use Rattle.shown_text_laws.specs.JoinedCodes.{stays_open}
 
 -- how many elements pass in front, where one behind them doesn't
 prefix_kept : (p : ℕ → Bool) (bs r : List ℕ) (d : ℕ) → p d ≡ false
@@ -240,12 +240,12 @@ sign_or_letter_kept None b bs r = letter_kept b bs r
 sign_or_letter_kept (Some sign) b bs r = refl
 
 -- what is known of a sign that leaves nothing open
-at_sign : (n b : ℕ) (bs : List ℕ) → is_open b bs ≡ false → (b == n) ≡ true
-    → is_open n bs ≡ false
-at_sign n b bs closed same = subst (λ c. is_open c bs ≡ false) (eqb-true b n same) closed
+at_sign : (n b : ℕ) (bs : List ℕ) → stays_open b bs ≡ false → (b == n) ≡ true
+    → stays_open n bs ≡ false
+at_sign n b bs closed same = subst (λ c. stays_open c bs ≡ false) (eqb-true b n same) closed
 
 -- the pieces in front of a text, where they leave nothing open
-pub front_kept : (b : ℕ) (bs r : List ℕ) → is_open b bs ≡ false
+pub front_kept : (b : ℕ) (bs r : List ℕ) → stays_open b bs ≡ false
     → pieces_in_front b (bs ++ 59 ∷ r) ≡ pieces_in_front b bs
 front_kept b bs r closed =
     if_same (nat_lt 127 b) _ _ _ _ (λ h. wide_kept b bs r)
