@@ -22,7 +22,8 @@ behind_kept zero [] second closed = refl
 behind_kept (suc skip) [] second closed = absurd (cc)
 behind_kept (suc skip) (b ∷ bs) second closed = behind_kept skip bs second closed
 behind_kept zero (b ∷ bs) second closed =
-    let each = neither (stays_open b bs) (leaves_open_behind (pieces_in_front b bs).size bs) closed in
+    let each =
+    neither (stays_open b bs) (leaves_open_behind (pieces_in_front b bs).size bs) closed in
     let front = pieces_in_front b bs in
     ap (λ f. f.pieces ++ pieces_behind f.size (bs ++ 59 ∷ second)) (front_kept b bs second each.0)
     ∙ (ap (λ found. front.pieces ++ found) (behind_kept front.size bs second each.1)

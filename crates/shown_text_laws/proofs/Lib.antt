@@ -5,10 +5,15 @@ pub mod FrontKept
 pub mod Grouped
 pub mod Joined
 pub mod Literals
+pub mod ManyPlaces
 pub mod MixedFractions
 pub mod NearFractions
+pub mod NearPlaces
 pub mod OnePlace
 pub mod Places
+pub mod ReadBack
+pub mod ReadPlaces
+pub mod ReadTexts
 pub mod Scaled
 pub mod ShortTexts
 pub mod Tests

@@ -1,5 +1,6 @@
 pub mod JoinedCodes
 pub mod NearFractions
 pub mod NumberCodes
+pub mod ReadNumbers
 pub mod ReadTimes
 pub mod TwoSections

@@ -1,5 +1,6 @@
 ghost use Rattle.std.specs.Prelude.{◌≡◌, ◌+◌, ◌/◌, ◌^◌, ◌<◌, ◌≤◌, ◌++◌, ℕ, Bool, true, false};
-ghost use Rattle.std.specs.Prelude.{List, length, codes, ℤ, pos, negsuc, ◌+ℤ◌, ◌-ℤ◌, nat_abs};
+ghost use Rattle.std.specs.Prelude.{List, length, codes, replicate, ℤ, pos, negsuc, ◌+ℤ◌, ◌-ℤ◌};
+ghost use Rattle.std.specs.Prelude.{nat_abs};
 ghost use Rattle.std.specs.Fmt.{sign_text};
 ghost use Rattle.std.specs.Int.{is_negative};
 ghost use Rattle.cell_data.specs.CellValue.{number, text};
@@ -16,6 +17,7 @@ ghost use Rattle.shown_text.specs.ShownText.{shown_text, text_in_section, is_siz
 ghost use Rattle.shown_text_laws.specs.JoinedCodes.{leaves_open};
 ghost use Rattle.shown_text_laws.specs.NearFractions.{HasNoneNearer, IsNearestMixed};
 ghost use Rattle.shown_text_laws.specs.NumberCodes.{IsShownBySection, without_commas};
+ghost use Rattle.shown_text_laws.specs.ReadNumbers.{IsReadBack};
 ghost use Rattle.shown_text_laws.specs.ReadTimes.{IsTimeOf};
 ghost use Rattle.shown_text_laws.specs.TwoSections.{HasTwoSections};
 
@@ -108,4 +110,13 @@ pub fn no_fraction_is_nearer()
         → shown_text is_1904 (codes "0 0/0") (number exact)
         ≡ sign_text (is_negative exact.0)
         ++ (whole_digits (nat_abs (shown_digits exact).0) zeros ++ codes " 0/1") }
+{}
+
+/// Under `0.` with zeros behind the point, and under `0`, a number is shown as a text that is read
+/// as a number again, which differs from its fifteen digits by half a unit of the last place at
+/// most. Under 1,023 zeros, a code that is too long, General is shown: 1E+11 of 100000100000.
+pub fn shown_places_read_back()
+    ensures places { (exact : ℤ × ℤ) (places : ℕ) → places ≤ 1022
+        → IsReadBack (codes "0." ++ replicate places 48) places exact }
+    ensures whole { (exact : ℤ × ℤ) → IsReadBack (codes "0") 0 exact }
 {}

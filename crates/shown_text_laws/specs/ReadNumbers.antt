@@ -1,0 +1,31 @@
+-- Numbers that are read of the texts that show them.
+use Rattle.std.specs.Prelude.{ℕ, ◌≡◌, ◌*◌, ◌^◌, ◌<◌, ◌≤◌, Bool, List, Some, ℤ, pos, neg_ℤ, ◌-ℤ◌}
+use Rattle.std.specs.Prelude.{◌*ℤ◌, nat_abs}
+use Rattle.cell_data.specs.CellValue.{number}
+use Rattle.decimals.specs.Decimals.{decimal_of}
+use Rattle.shown_text.specs.GeneralText.{shown_digits}
+use Rattle.shown_text.specs.ShownText.{shown_text}
+use Rattle.shown_text_laws.specs.NumberCodes.{IsShownBySection}
+
+-- Two numbers differ by half a unit of so many places behind the point at most. They are told over
+-- one power of ten, in which that unit is 10 ^ u.
+abbrev pub IsWithinHalfAPlace : ℕ → ℤ × ℤ → ℤ × ℤ → Type 0
+IsWithinHalfAPlace places a b =
+    (s t u : ℕ) → (a.1 -ℤ pos s) ≡ (neg_ℤ (pos places) -ℤ pos u) →
+    (b.1 -ℤ pos t) ≡ (neg_ℤ (pos places) -ℤ pos u) →
+    nat_abs ((a.0 *ℤ pos (10 ^ s)) -ℤ (b.0 *ℤ pos (10 ^ t))) * 2 ≤ 10 ^ u
+
+-- a text writes a number that differs from another one by half a unit of so many places at most
+pub record WritesNear (text : List ℕ) (places : ℕ) (other : ℤ × ℤ) : Type 0 where
+  pub written : ℤ × ℤ
+  pub read : decimal_of text ≡ Some written
+  pub near : IsWithinHalfAPlace places written other
+
+-- What is shown of a number under a code is read as a number that differs from its fifteen digits
+-- by half a unit of so many places at most. The whole number has no more bits than decimals have:
+-- more than fifteen digits are kept of one with more than 64, and of 2 ^ 127 * 10 ^ 49 more than a
+-- decimal holds. General shows what the section doesn't: 1E+407 of 1000001 times ten to 401.
+abbrev pub IsReadBack : List ℕ → ℕ → ℤ × ℤ → Type 0
+IsReadBack code places exact =
+    (is_1904 : Bool) → nat_abs exact.0 < 2 ^ 128 → IsShownBySection exact →
+    WritesNear (shown_text is_1904 code (number exact)) places (shown_digits exact)
