@@ -11,9 +11,12 @@ pub mod NearFractions
 pub mod NearPlaces
 pub mod OnePlace
 pub mod Places
+pub mod PowersShown
 pub mod ReadBack
 pub mod ReadPlaces
+pub mod ReadPowers
 pub mod ReadTexts
 pub mod Scaled
 pub mod ShortTexts
+pub mod SixDigits
 pub mod Tests

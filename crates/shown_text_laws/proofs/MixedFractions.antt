@@ -9,7 +9,6 @@ use Rattle.std.specs.Prelude.{nat_lt, nat_le, nat_abs}
 use Rattle.std.specs.Fmt.{decimal, sign_text}
 use Rattle.std.specs.Int.{is_negative}
 use Rattle.std.proofs.Common.{length, length-append, pos}
-use Rattle.decimals.specs.Rounding.{digits_behind}
 use Rattle.std.proofs.Math.Nat.{pow-le-pow_right, mul-le-mul_right, le_of_mul-le-mul_right}
 use Rattle.std.proofs.lemmas.Bool.{cases_lt, eqb-true}
 use Rattle.std.proofs.lemmas.Bool.Decides.{nat_tests}
@@ -24,7 +23,6 @@ use Rattle.format_codes.specs.declared.kind.SectionKind.TheVariants as kind
 use Rattle.format_codes.specs.declared.piece.CodePiece.{CodePiece}
 use Rattle.format_codes.specs.declared.piece.CodePiece.TheVariants as piece
 use Rattle.format_codes.specs.declared.piece.Filler.TheVariants.{Zero}
-use Rattle.shown_text.proofs.SizeSteps.{few_kept, size_is}
 use Rattle.shown_text.specs.Digits.{with_digits}
 use Rattle.shown_text.specs.FractionArithmetic.{distance}
 use Rattle.shown_text.specs.FractionTexts.{FractionParts, fraction_parts, fraction_text}
@@ -34,6 +32,7 @@ use Rattle.shown_text.specs.GeneralText.{general_text, shown_digits}
 use Rattle.shown_text.specs.declared.fractions.Fraction.{Fraction}
 use Rattle.shown_text.specs.ShownText.{most_power, shown_text, sized_text}
 use Rattle.shown_text_laws.specs.NearFractions.{HasNoneNearer, IsNearestMixed}
+use Rattle.shown_text_laws.proofs.NearPlaces.{at_most_fifteen}
 use Rattle.shown_text_laws.proofs.NearFractions.{none_nearer}
 use Rattle.shown_text_laws.proofs.OnePlace.{decimal_some, in_one_place, number_in_place}
 use Rattle.shown_text_laws.specs.NumberCodes.{IsShownBySection}
@@ -272,9 +271,7 @@ pub mixed_shown : (is_1904 : Bool) (exact : ℤ × ℤ) (places : ℕ) → nat_a
     × (shown_text is_1904 (codes "0 0/0") (number exact) ≡ sign_text (is_negative exact.0) ++ text)
 mixed_shown is_1904 exact places small sized power =
     let n = nat_abs (shown_digits exact).0 in
-    let count = digits_behind 15 (nat_abs exact.0) in
-    let kept = few_kept (nat_abs exact.0) count small refl in
-    let few : n ≤ 10 ^ 15 = omega (arith, kept, size_is exact.0 exact.1 count refl) in (
+    let few : n ≤ 10 ^ 15 = at_most_fifteen exact small in (
       parts_text parts n (negsuc places),
       parts_near n places few,
       by_parts is_1904 exact sized

@@ -14,24 +14,25 @@ use Rattle.decimals.specs.Decimals.{fitting, has_bits, number_of_digits, with_si
 use Rattle.decimals.specs.Rounding.{digits_behind, nearest, rounded_number}
 use Rattle.decimals.specs.Significand.{digits_added}
 use Rattle.decimals.specs.declared.significand.Significand.{Significand}
-use Rattle.decimals.proofs.Nearest.{factors, half_above, half_below, some, times}
+use Rattle.decimals.proofs.Nearest.{factors, half_above, half_below, near_up, some, times}
 use Rattle.decimals.proofs.ReadsBack.{Writes, decimal_writes, it_fits, number_form}
 use Rattle.decimals.proofs.Rounded.{few_digits, size_signed}
 use Rattle.decimals.proofs.RoundedLaws.{times_signed}
 use Rattle.decimals.proofs.Significands.{Keeps, keeps_added, keeps_none}
 use Rattle.excel_dates.proofs.SerialSteps.{by_true}
+use Rattle.shown_text.proofs.SizeSteps.{few_kept, size_is}
 use Rattle.shown_text.specs.GeneralText.{shown_digits}
 use Rattle.shown_text_laws.specs.ReadNumbers.{IsWithinHalfAPlace}
 
 -- a number above 0 without the zeros at its end
-record Cut (n : ℕ) : Type 0 where
-  left : ℕ
-  zeros : ℕ
-  same : left * 10 ^ zeros ≡ n
-  last : left % 10 ≡ 0 → ⊥
-  few : zeros ≤ 39
+pub record Cut (n : ℕ) : Type 0 where
+  pub left : ℕ
+  pub zeros : ℕ
+  pub same : left * 10 ^ zeros ≡ n
+  pub last : left % 10 ≡ 0 → ⊥
+  pub few : zeros ≤ 39
 
-cut : (n : ℕ) → 0 < n → n < 2 ^ 128 → Cut n
+pub cut : (n : ℕ) → 0 < n → n < 2 ^ 128 → Cut n
 cut n positive small =
     let nothing : Significand = record { number = 0; zeros = 0; count = 0 } in
     let s = digits_added nothing (decimal n) in
@@ -150,6 +151,12 @@ by_sizes : (negative : Bool) (a b c : ℕ) → a * 2 ≤ b * 2 + c → b * 2 ≤
 by_sizes true a b c above below = omega (arith, ints)
 by_sizes false a b c above below = omega (arith, ints)
 
+-- what is rounded is no greater
+pub nearest_within : (k n : ℕ) → nearest k n ≤ n
+nearest_within k n =
+    near_up (10 ^ k) n n (some k)
+    (omega (arith, times n (let h : 1 ≤ 10 ^ k = omega (arith, some k) in h)))
+
 -- fifteen digits have the sign of their number
 pub signed_size : (exact : ℤ × ℤ)
     → (shown_digits exact).0
@@ -158,6 +165,14 @@ unfolding rounded_number
 signed_size exact =
     ap (with_sign (is_negative exact.0)) (sym (size_signed (is_negative exact.0)
     (nearest (digits_behind 15 (nat_abs exact.0)) (nat_abs exact.0))))
+
+-- and they are fifteen at most, or ten to the power 15
+pub at_most_fifteen : (exact : ℤ × ℤ) → nat_abs exact.0 < 2 ^ 128
+    → nat_abs (shown_digits exact).0 ≤ 10 ^ 15
+at_most_fifteen exact small =
+    let count = digits_behind 15 (nat_abs exact.0) in
+    let kept = few_kept (nat_abs exact.0) count small refl in
+    omega (arith, kept, size_is exact.0 exact.1 count refl)
 
 -- what is read of the nearest number of so many places is near to the number
 module _ (negative : Bool) (n places : ℕ) (power : ℤ) where

@@ -13,7 +13,7 @@ use Rattle.format_codes.specs.declared.piece.Filler.TheVariants.{Zero}
 use Rattle.shown_text.specs.Digits.{digit_at, place_character, placed_text, surplus, with_digits}
 use Rattle.shown_text_laws.proofs.Places.{place_taken}
 
-digit_of : (ds : List ℕ) (place : ℕ) → place < length ds
+pub digit_of : (ds : List ℕ) (place : ℕ) → place < length ds
     → digit_at ds place ≡ Some (get_or ds (length ds - (place + 1)) 0)
 digit_of ds place inside =
     by_true (nat_lt place (length ds)) (Some (get_or ds (length ds - (place + 1)) 0)) None

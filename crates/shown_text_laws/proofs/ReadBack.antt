@@ -15,8 +15,7 @@ use Rattle.std.proofs.lemmas.List.Folds.{sum_by-replicate}
 use Rattle.std.proofs.lemmas.Str.Parse.{tells_all_ascii_digits}
 use Rattle.cell_data.specs.CellValue.{number}
 use Rattle.decimals.specs.Decimals.{decimal_of, fitting, number_of_digits, with_sign}
-use Rattle.decimals.specs.Rounding.{digits_behind, nearest}
-use Rattle.decimals.proofs.Nearest.{near_up, some, times}
+use Rattle.decimals.specs.Rounding.{nearest}
 use Rattle.decimals.proofs.ReadsBack.{Writes}
 use Rattle.excel_dates.proofs.SerialSteps.{by_false}
 use Rattle.format_codes.specs.Choosing.{is_supported, number_section}
@@ -26,16 +25,16 @@ use Rattle.format_codes.specs.declared.piece.CodePiece.{CodePiece}
 use Rattle.format_codes.specs.declared.piece.CodePiece.TheVariants as piece
 use Rattle.format_codes.specs.declared.piece.Filler.TheVariants.{Zero}
 use Rattle.format_codes.specs.Pieces.{is_comma, is_digit, is_percent}
-use Rattle.shown_text.proofs.SizeSteps.{few_kept, size_is}
 use Rattle.shown_text.specs.Digits.{laid_out, nearest_digits}
 use Rattle.shown_text.specs.GeneralText.{shown_digits}
 use Rattle.shown_text.specs.NumberTexts.{number_power, number_text, thousands}
 use Rattle.shown_text.specs.ShownText.{most_pieces, shown_text, sized_text}
 use Rattle.shown_text_laws.specs.NumberCodes.{IsShownBySection}
-use Rattle.shown_text_laws.specs.ReadNumbers.{IsReadBack, WritesNear}
+use Rattle.shown_text_laws.specs.ReadNumbers.{IsReadBackNear, WritesNear}
 use Rattle.shown_text_laws.proofs.Literals.{by_section, section_of}
 use Rattle.shown_text_laws.proofs.ManyPlaces.{places, pointed, under_places}
-use Rattle.shown_text_laws.proofs.NearPlaces.{IsRead, at_places, is_read, over_places, signed_size}
+use Rattle.shown_text_laws.proofs.NearPlaces.{IsRead, at_places, is_read, nearest_within}
+use Rattle.shown_text_laws.proofs.NearPlaces.{at_most_fifteen, over_places, signed_size}
 use Rattle.shown_text_laws.proofs.ReadPlaces.{above_0_writes, behind_is, last_count, last_digits}
 use Rattle.shown_text_laws.proofs.ReadPlaces.{none_behind, place_count_is, placed, whole_place}
 use Rattle.shown_text_laws.proofs.ReadTexts.{point_read, whole_read}
@@ -58,7 +57,7 @@ power_is f power =
     +ℤ pos (place_count_is f i))
     ∙ omega (arith, ints)
 
-laid_is : (ds : List ℕ) (f : ℕ)
+pub laid_is : (ds : List ℕ) (f : ℕ)
     → laid_out false ds (pointed f)
     ≡ whole_place (take (length ds - f) ds) ++ 46 ∷ last_digits ds f
 laid_is ds f =
@@ -71,7 +70,7 @@ unfolding number_text
 text_is f n power = ap (λ k. laid_out false (nearest_digits n k) (pointed f)) (power_is f power)
 
 -- what is read of digits that write a number
-all_parts : (xs ys : List ℕ) → all_ascii_digits (xs ++ ys) ≡ true
+pub all_parts : (xs ys : List ℕ) → all_ascii_digits (xs ++ ys) ≡ true
     → (all_ascii_digits xs ≡ true) × (all_ascii_digits ys ≡ true)
 all_parts [] ys all = (refl, all)
 all_parts (x ∷ xs) ys all =
@@ -145,9 +144,7 @@ by_power negative text digits f n power (pos k) reads few few_places small is =
 by_power negative text digits f n power (negsuc k) reads few few_places small is =
     let ds = nearest_digits n (negsuc k) in
     let m = nearest (k + 1) n in
-    let less : m ≤ n =
-    near_up (10 ^ (k + 1)) n n (some (k + 1))
-    (omega (arith, times n (let h : 1 ≤ 10 ^ (k + 1) = omega (arith, some (k + 1)) in h))) in
+    let less : m ≤ n = nearest_within (k + 1) n in
     let found = reads ds m 0 (omega (arith, less, few)) (omega arith)
     (above_0_writes m 0 (omega (arith, less, few))) in
     record {
@@ -155,12 +152,6 @@ by_power negative text digits f n power (negsuc k) reads few few_places small is
       read = found.told;
       near = over_places negative n f power (digits ds) (m * 10 ^ 0) k found.read is (omega arith);
     }
-
-few_shown : (exact : ℤ × ℤ) → nat_abs exact.0 < 2 ^ 128 → nat_abs (shown_digits exact).0 ≤ 10 ^ 15
-few_shown exact small =
-    let count = digits_behind 15 (nat_abs exact.0) in
-    let kept = few_kept (nat_abs exact.0) count small refl in
-    omega (arith, kept, size_is exact.0 exact.1 count refl)
 
 laid_near : (exact : ℤ × ℤ) (text digits : List ℕ → List ℕ) (f : ℕ)
     → Reads (is_negative exact.0) text digits f → f ≤ 1022 → nat_abs exact.0 < 2 ^ 128
@@ -173,11 +164,11 @@ laid_near exact text digits f reads few_places small sized =
     let power = (shown_digits exact).1 in
     subst (λ m. WritesNear (sign_text negative ++ text (nearest_digits n (power +ℤ pos f))) f
     (m, power)) (sym (signed_size exact))
-    (by_power negative text digits f n power (power +ℤ pos f) reads (few_shown exact small)
+    (by_power negative text digits f n power (power +ℤ pos f) reads (at_most_fifteen exact small)
     few_places sized refl)
 
 pub read_back : (exact : ℤ × ℤ) (f : ℕ) → f ≤ 1022
-    → IsReadBack (codes "0." ++ replicate f 48) f exact
+    → IsReadBackNear (codes "0." ++ replicate f 48) f exact
 read_back exact f few_places = λ is_1904 small sized.
     let negative = is_negative exact.0 in
     let n = nat_abs (shown_digits exact).0 in
@@ -208,7 +199,7 @@ whole_text_is n power =
     let same : number_power (places 1) power ≡ power +ℤ pos 0 = omega (arith, ints) in
     ap (λ k. laid_out false (nearest_digits n k) (places 1)) same
 
-pub whole_read_back : (exact : ℤ × ℤ) → IsReadBack (codes "0") 0 exact
+pub whole_read_back : (exact : ℤ × ℤ) → IsReadBackNear (codes "0") 0 exact
 whole_read_back exact = λ is_1904 small sized.
     let negative = is_negative exact.0 in
     let n = nat_abs (shown_digits exact).0 in

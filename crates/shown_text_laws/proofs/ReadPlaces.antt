@@ -87,14 +87,14 @@ behind_is ds f =
     ∙ in_all_places ds f
 
 -- digits with zeros behind them
-digits_then : (ds es : List ℕ) → all_ascii_digits ds ≡ true → all_ascii_digits es ≡ true
+pub digits_then : (ds es : List ℕ) → all_ascii_digits ds ≡ true → all_ascii_digits es ≡ true
     → all_ascii_digits (ds ++ es) ≡ true
 digits_then [] es all all_es = all_es
 digits_then (d ∷ ds) es all all_es =
     let (first, rest) = tells_all_ascii_digits.parts d ds all in
     tells_all_ascii_digits.more d (ds ++ es) first (digits_then ds es rest all_es)
 
-zeros : (k : ℕ) → all_ascii_digits (replicate k 48) ≡ true
+pub zeros : (k : ℕ) → all_ascii_digits (replicate k 48) ≡ true
 zeros zero = refl
 zeros (suc k) = zeros k
 

@@ -2,21 +2,27 @@
 use Rattle.std.proofs.Common.{◌≡◌, ◌∙◌, ◌++◌, ◌+◌, ◌<◌, ◌≤◌, ◌==◌, ℕ}
 use Rattle.std.proofs.Common.{ℤ, pos, ◌-ℤ◌, Bool, true, false, cond, List, [], ◌∷◌}
 use Rattle.std.proofs.Common.{Option, None, length, take, drop, refl, ap, sym}
-use Rattle.std.proofs.Common.{arith, length-append}
+use Rattle.std.proofs.Common.{arith, length-append, Some, suc, negsuc}
+use Rattle.std.specs.Prelude.{nat_abs, nat_lt, neg_ℤ, ◌&&◌}
 use Rattle.std.specs.Char.{is_ascii_digit}
 use Rattle.std.specs.Fmt.{sign_text}
 use Rattle.std.specs.List.{prefix_len}
 use Rattle.std.specs.Option.{option_and_then}
 use Rattle.std.specs.Str.{all_ascii_digits}
-use Rattle.std.specs.Str.Parse.{starts_with_minus, without_leading_sign}
+use Rattle.std.specs.Str.Parse.{digits_value, starts_with_minus, without_leading_sign}
 use Rattle.std.proofs.Math.Seq.{take-append_seam, drop-append_seam}
 use Rattle.std.proofs.lemmas.Bool.Decides.{nat_tests}
 use Rattle.std.proofs.lemmas.List.{append-nil, drop_all}
 use Rattle.std.proofs.lemmas.Str.Parse.{tells_all_ascii_digits}
+use Rattle.decimals.specs.Decimals.{behind_fraction, fraction_digits, signed_number}
 use Rattle.decimals.specs.Decimals.{decimal_of, digits_in_front, behind_digits, fitting}
 use Rattle.decimals.specs.Decimals.{number_of_digits, power_of, unsigned_decimal}
+use Rattle.decimals.proofs.ReadsBack.{Writes}
+use Rattle.decimals.proofs.Rounded.{not_negative}
 use Rattle.decimals.proofs.Significands.{take_whole}
-use Rattle.excel_dates.proofs.SerialSteps.{by_true, by_false}
+use Rattle.shown_text.specs.GeneralText.{exponent_sign}
+use Rattle.shown_text_laws.proofs.Tests.{both_hold}
+use Rattle.excel_dates.proofs.SerialSteps.{by_true, by_false, is_less}
 
 -- a digit is one by its test, and no sign
 is_digit_of : (d : ℕ) (ds : List ℕ) → all_ascii_digits (d ∷ ds) ≡ true
@@ -96,12 +102,38 @@ behind_all ds all =
     ap (λ k. drop k ds) (whole_len ds all)
     ∙ drop_all (length ds) ds (let h : length ds ≤ length ds = omega arith in h)
 
--- digits with the power that stands behind them
-abbrev powered : Bool → List ℕ → List ℕ → List ℕ → Option (ℤ × ℤ)
-powered negative digits behind rest =
-    option_and_then
-    (λ power. fitting (number_of_digits negative digits (power -ℤ pos (length behind))))
-    (power_of rest)
+powered : (negative : Bool) (digits behind : List ℕ) (power : ℤ) (found : Option ℤ)
+    → found ≡ Some power
+    → option_and_then
+    (λ p. fitting (number_of_digits negative digits (p -ℤ pos (length behind)))) found
+    ≡ fitting (number_of_digits negative digits (power -ℤ pos (length behind)))
+powered negative digits behind power found is =
+    ap (option_and_then
+    (λ p. fitting (number_of_digits negative digits (p -ℤ pos (length behind))))) is
+
+-- what stands behind the digits of a whole number: those of its places, and its power
+pub record IsBehind (text behind : List ℕ) (power : ℤ) : Type 0 where
+  pub digits : fraction_digits text ≡ behind
+  pub told : power_of (behind_fraction text) ≡ Some power
+
+-- digits, and what stands behind them, with a sign
+pub parts_read : (negative : Bool) (whole : List ℕ) (b : ℕ) (bs behind : List ℕ) (power : ℤ)
+    → 0 < length whole → all_ascii_digits whole ≡ true → is_ascii_digit b ≡ false
+    → IsBehind (b ∷ bs) behind power
+    → decimal_of (sign_text negative ++ (whole ++ b ∷ bs))
+    ≡ fitting (number_of_digits negative (whole ++ behind) (power -ℤ pos (length behind)))
+parts_read negative whole b bs behind power some all none is =
+    let any : (length (whole ++ behind) == 0) ≡ false =
+    let more = length-append whole behind in grind (arith, nat_tests, some, more) in
+    sign_read negative whole (b ∷ bs) some all
+    ∙ (λ i. unsigned_decimal negative (front_then whole b bs all none i)
+    (behind_then whole b bs all none i))
+    ∙ ap (λ digits. cond (length (whole ++ digits) == 0) None
+    (option_and_then
+    (λ p. fitting (number_of_digits negative (whole ++ digits) (p -ℤ pos (length digits))))
+    (power_of (behind_fraction (b ∷ bs))))) is.digits
+    ∙ some_digits (length (whole ++ behind) == 0) _ any
+    ∙ powered negative (whole ++ behind) behind power (power_of (behind_fraction (b ∷ bs))) is.told
 
 -- digits before a point and behind it, with a sign
 pub point_read : (negative : Bool) (whole behind : List ℕ) → 0 < length whole
@@ -109,15 +141,10 @@ pub point_read : (negative : Bool) (whole behind : List ℕ) → 0 < length whol
     → decimal_of (sign_text negative ++ (whole ++ 46 ∷ behind))
     ≡ fitting (number_of_digits negative (whole ++ behind) (pos 0 -ℤ pos (length behind)))
 point_read negative whole behind some all all_behind =
-    let any : (length (whole ++ behind) == 0) ≡ false =
-    let more = length-append whole behind in grind (arith, nat_tests, some, more) in
-    sign_read negative whole (46 ∷ behind) some all
-    ∙ (λ i. unsigned_decimal negative (front_then whole 46 behind all refl i)
-    (behind_then whole 46 behind all refl i))
-    ∙ (λ i. cond (length (whole ++ front_all behind all_behind i) == 0) None
-    (powered negative (whole ++ front_all behind all_behind i)
-    (front_all behind all_behind i) (behind_all behind all_behind i)))
-    ∙ some_digits (length (whole ++ behind) == 0) _ any
+    parts_read negative whole 46 behind behind (pos 0) some all refl (record {
+      digits = front_all behind all_behind;
+      told = ap power_of (behind_all behind all_behind);
+    })
 
 -- digits alone, with a sign
 pub whole_read : (negative : Bool) (whole : List ℕ) → 0 < length whole
@@ -134,3 +161,39 @@ whole_read negative whole some all =
     ∙ ap (λ text. cond (length text == 0) None
     (fitting (number_of_digits negative text (pos 0 -ℤ pos 0)))) (append-nil whole)
     ∙ some_digits (length whole == 0) _ any
+
+-- a sign and digits
+signed_by : (test : Bool) (found : Option ℤ) → test ≡ true → cond test found None ≡ found
+signed_by true found holds = refl
+signed_by false found holds = absurd (cc)
+
+plus_read : (ds : List ℕ) (n : ℕ) → 0 < length ds → Writes ds n
+    → signed_number (43 ∷ ds) ≡ Some (pos n)
+plus_read ds n some writes =
+    signed_by (nat_lt 0 (length ds) && all_ascii_digits ds) (Some (pos (digits_value 10 ds)))
+    (both_hold _ _ (is_less 0 (length ds) some) writes.all)
+    ∙ ap (λ k. Some (pos k)) writes.value
+
+minus_read : (ds : List ℕ) (n : ℕ) → 0 < length ds → Writes ds n
+    → signed_number (45 ∷ ds) ≡ Some (neg_ℤ (pos n))
+minus_read ds n some writes =
+    signed_by (nat_lt 0 (length ds) && all_ascii_digits ds)
+    (Some (neg_ℤ (pos (digits_value 10 ds))))
+    (both_hold _ _ (is_less 0 (length ds) some) writes.all)
+    ∙ ap (λ k. Some (neg_ℤ (pos k))) writes.value
+
+-- the power that an exponent tells
+pub exponent_read : (power : ℤ) (ds : List ℕ) → 0 < length ds → Writes ds (nat_abs power)
+    → power_of (69 ∷ exponent_sign power ∷ ds) ≡ Some power
+exponent_read (pos n) ds some writes =
+    ap (λ below. signed_number (cond below 45 43 ∷ ds)) (not_negative n)
+    ∙ plus_read ds n some writes
+exponent_read (negsuc n) ds some writes = minus_read ds (suc n) some writes
+
+-- digits behind a point, and an exponent behind these
+pub point_then : (digits rest : List ℕ) (power : ℤ) → all_ascii_digits digits ≡ true
+    → power_of (69 ∷ rest) ≡ Some power → IsBehind (46 ∷ (digits ++ 69 ∷ rest)) digits power
+point_then digits rest power all told = record {
+  digits = front_then digits 69 rest all refl;
+  told = ap power_of (behind_then digits 69 rest all refl) ∙ told;
+}

@@ -16,16 +16,16 @@ use Rattle.std.proofs.lemmas.Bool.Decides.{nat_tests}
 use Rattle.std.proofs.lemmas.Fmt.{length-decimal-le_wide}
 use Rattle.std.proofs.lemmas.Int.{ints}
 use Rattle.std.proofs.lemmas.List.{length-replicate}
-use Rattle.std.proofs.lemmas.Nat.{le-div}
 use Rattle.decimals.specs.Decimals.{without_trailing_zeros, trailing_zeros}
-use Rattle.decimals.specs.Rounding.{digit_count, digits_behind, nearest}
-use Rattle.decimals.proofs.Nearest.{factors, near_up, some, times, nearest_most}
+use Rattle.decimals.specs.Rounding.{digit_count, nearest}
+use Rattle.decimals.proofs.Nearest.{factors, near_up, some, times}
 use Rattle.decimals.proofs.RoundedLaws.{has_digits}
 use Rattle.excel_dates.proofs.SerialSteps.{by_false}
 use Rattle.excel_dates.specs.IsoText.{padded}
 use Rattle.excel_dates.specs.Serials.{nearest_at}
-use Rattle.shown_text.proofs.SizeSteps.{few_kept, size_is}
 use Rattle.shown_text.proofs.Zeros.{zero_cut}
+use Rattle.shown_text_laws.proofs.NearPlaces.{at_most_fifteen}
+use Rattle.shown_text_laws.proofs.SixDigits.{six_left}
 use Rattle.shown_text.specs.GeneralText.{behind_point, exponent_text, with_power}
 use Rattle.shown_text.specs.GeneralText.{scientific, with_places, general_places, text_in_places}
 use Rattle.shown_text.specs.GeneralText.{general_size, general_text, shown_digits, first_power}
@@ -111,15 +111,9 @@ short_scientific n power positive small near =
       | inl more ↦
           let k = count - 6 in
           let kept = nearest k n in
-          let six : count - k ≡ 6 = omega (arith, more) in
-          let most : kept ≤ 10 ^ 6 =
-          omega (arith, nearest_most 6 n count has, ap (λ j. 10 ^ j) six) in
-          let five : count - 1 - k ≡ 5 = omega (arith, more) in
-          let power_least : 10 ^ 5 * 10 ^ k ≡ 10 ^ (count - 1) =
-          factors 5 k (count - 1) (omega (arith, more)) in
-          let least : 10 ^ 5 ≤ kept =
-          le-div (10 ^ 5) (n + 10 ^ k / 2) (10 ^ k) (some k)
-          (omega (arith, power_least, has.least)) in
+          let left = six_left n positive small more in
+          let least : 10 ^ 5 ≤ kept = left.least in
+          let most : kept ≤ 10 ^ 6 = left.most in
           let kept_has = has_digits kept (omega (arith, least)) (omega (arith, most)) in
           let length_least : 5 < length (decimal kept) =
           longer 5 (length (decimal kept)) (omega (arith, least, kept_has.below)) in
@@ -318,11 +312,7 @@ unfolding general_text
 general_len exact small near =
     let n = nat_abs (shown_digits exact).0 in
     let power = (shown_digits exact).1 in
-    let kept : nearest (digits_behind 15 (nat_abs exact.0)) (nat_abs exact.0) ≤ 10 ^ 15 =
-    few_kept (nat_abs exact.0) (digits_behind 15 (nat_abs exact.0)) small refl in
-    let same : nearest (digits_behind 15 (nat_abs exact.0)) (nat_abs exact.0) ≡ n =
-    size_is exact.0 exact.1 (digits_behind 15 (nat_abs exact.0)) refl in
-    let few : n < 2 ^ 128 = omega (arith, kept, same) in
+    let few : n < 2 ^ 128 = omega (arith, at_most_fifteen exact small) in
     omega (
       arith,
       length-append (sign_text (is_negative exact.0)) (general_size n power),

@@ -2,7 +2,8 @@
 use Rattle.std.specs.Prelude.{ℕ, ◌≡◌, ◌*◌, ◌^◌, ◌<◌, ◌≤◌, Bool, List, Some, ℤ, pos, neg_ℤ, ◌-ℤ◌}
 use Rattle.std.specs.Prelude.{◌*ℤ◌, nat_abs}
 use Rattle.cell_data.specs.CellValue.{number}
-use Rattle.decimals.specs.Decimals.{decimal_of}
+use Rattle.decimals.specs.Decimals.{decimal_from, decimal_of}
+use Rattle.decimals.specs.Rounding.{rounded_number}
 use Rattle.shown_text.specs.GeneralText.{shown_digits}
 use Rattle.shown_text.specs.ShownText.{shown_text}
 use Rattle.shown_text_laws.specs.NumberCodes.{IsShownBySection}
@@ -25,7 +26,16 @@ pub record WritesNear (text : List ℕ) (places : ℕ) (other : ℤ × ℤ) : Ty
 -- by half a unit of so many places at most. The whole number has no more bits than decimals have:
 -- more than fifteen digits are kept of one with more than 64, and of 2 ^ 127 * 10 ^ 49 more than a
 -- decimal holds. General shows what the section doesn't: 1E+407 of 1000001 times ten to 401.
-abbrev pub IsReadBack : List ℕ → ℕ → ℤ × ℤ → Type 0
-IsReadBack code places exact =
+abbrev pub IsReadBackNear : List ℕ → ℕ → ℤ × ℤ → Type 0
+IsReadBackNear code places exact =
     (is_1904 : Bool) → nat_abs exact.0 < 2 ^ 128 → IsShownBySection exact →
     WritesNear (shown_text is_1904 code (number exact)) places (shown_digits exact)
+
+-- What is shown of a number under a code is read as the nearest number of so many digits to its
+-- fifteen, or as none where its power of ten fits no decimal. Whole numbers are told by 64 digits
+-- at most: seven are kept of 1000001 * 10 ^ 107, and zeros alone are shown of the power 10 ^ 64.
+abbrev pub IsReadInDigits : List ℕ → ℕ → ℤ × ℤ → Type 0
+IsReadInDigits code digits exact =
+    (is_1904 : Bool) → nat_abs exact.0 < 2 ^ 128 → nat_abs exact.1 < 2 ^ 127 →
+    decimal_of (shown_text is_1904 code (number exact))
+    ≡ decimal_from (rounded_number digits (shown_digits exact))

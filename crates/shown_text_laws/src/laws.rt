@@ -17,7 +17,7 @@ ghost use Rattle.shown_text.specs.ShownText.{shown_text, text_in_section, is_siz
 ghost use Rattle.shown_text_laws.specs.JoinedCodes.{leaves_open};
 ghost use Rattle.shown_text_laws.specs.NearFractions.{HasNoneNearer, IsNearestMixed};
 ghost use Rattle.shown_text_laws.specs.NumberCodes.{IsShownBySection, without_commas};
-ghost use Rattle.shown_text_laws.specs.ReadNumbers.{IsReadBack};
+ghost use Rattle.shown_text_laws.specs.ReadNumbers.{IsReadBackNear, IsReadInDigits};
 ghost use Rattle.shown_text_laws.specs.ReadTimes.{IsTimeOf};
 ghost use Rattle.shown_text_laws.specs.TwoSections.{HasTwoSections};
 
@@ -117,6 +117,12 @@ pub fn no_fraction_is_nearer()
 /// most. Under 1,023 zeros, a code that is too long, General is shown: 1E+11 of 100000100000.
 pub fn shown_places_read_back()
     ensures places { (exact : ℤ × ℤ) (places : ℕ) → places ≤ 1022
-        → IsReadBack (codes "0." ++ replicate places 48) places exact }
-    ensures whole { (exact : ℤ × ℤ) → IsReadBack (codes "0") 0 exact }
+        → IsReadBackNear (codes "0." ++ replicate places 48) places exact }
+    ensures whole { (exact : ℤ × ℤ) → IsReadBackNear (codes "0") 0 exact }
+{}
+
+/// Under `0.00000E+00` a number is shown as a text that is read as the nearest number of six digits
+/// to its fifteen, also where its power of ten is so great or so small that General is shown.
+pub fn powers_show_the_number()
+    ensures { (exact : ℤ × ℤ) → IsReadInDigits (codes "0.00000E+00") 6 exact }
 {}

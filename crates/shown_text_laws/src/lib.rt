@@ -5,5 +5,6 @@ mod laws;
 
 pub use laws::{
     cut_at_dividers, general_is_short, no_fraction_is_nearer, percents_and_thousands,
-    sections_go_by_sign, shown_dates_are_dates, shown_places_read_back, texts_stand_at_their_place,
+    powers_show_the_number, sections_go_by_sign, shown_dates_are_dates, shown_places_read_back,
+    texts_stand_at_their_place,
 };
