@@ -1,0 +1,8 @@
+use Rattle.std.proofs.Common.{lit<}
+use Rattle.std.proofs.lemmas.Str.Pattern.{strip_prefix_char}
+use Rattle.xlsx_graph.proofs.word.behind_apostrophe.Goals as goal
+
+pub returns : goal.returns
+returns c =
+    strip_prefix_char 39 c.args.text.now c.strip_prefix.result c.strip_prefix.ensures.cases
+    (lit< tt)
