@@ -272,6 +272,9 @@ B2 Sales[[Item]:[a''b]]
 B2 Sales[None]+None[Item]
 = ?column None  ?table None
 
+B2 Sales['#n]
+= ?column #n
+
 B2 Sales[[Item],[Amount]]
 = ?text [[Item],[Amount]]
 

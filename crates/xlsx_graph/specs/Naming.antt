@@ -16,7 +16,7 @@ use Rattle.formula_tokens.specs.Tokens.{is_same_name, is_begun_by}
 use Rattle.formula_tokens.specs.Items.{PlaceText, here, on_sheet, on_sheets, in_book, elsewhere}
 use Rattle.formula_tokens.specs.Items.{NamedText, cells, lost_cells, name, table, own_table}
 use Rattle.formula_tokens.specs.Items.{ItemText, says, calls, opens, closes, colon, unread}
-use Rattle.formula_tokens.specs.Items.{items}
+use Rattle.formula_tokens.specs.Items.{items, kept_bytes}
 use Rattle.book_names.specs.Book.{Book, BookName, BookTable, sheet_numbered, name_numbered}
 use Rattle.book_names.specs.Book.{name_in_scope, table_numbered}
 use Rattle.book_names.specs.Structured.{AreaText, found, no_column, no_rows, not_read, table_area}
@@ -152,7 +152,7 @@ in_brackets word inside = word ++ (91 ∷ inside ++ 93 ∷ [])
 abbrev pub table_meaning : BookTable → List ℕ → AreaText → MeaningText
 table_meaning t inside (found area) =
     means_area (record { first = t.sheet; last = t.sheet; area = area; is_valued = true })
-table_meaning t inside (no_column text) = means_open NoColumn text
+table_meaning t inside (no_column text) = means_open NoColumn (kept_bytes text)
 table_meaning t inside no_rows = means_open Gone (in_brackets t.called inside)
 table_meaning t inside not_read = means_open NotRead (in_brackets [] inside)
 

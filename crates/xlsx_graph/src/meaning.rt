@@ -158,7 +158,7 @@ fn in_numbered<'a>(
             is_valued: true,
         }),
         TableArea::NoColumn(column) => {
-            Meaning::Open(Cause::NoColumn, Word::Name(Name::Plain(column)))
+            Meaning::Open(Cause::NoColumn, Word::Name(Name::Quoted(column)))
         }
         TableArea::NoRows => Meaning::Open(
             Cause::Gone,
