@@ -6,6 +6,7 @@ import csv
 import datetime
 import decimal
 import io
+import json
 import pathlib
 from fractions import Fraction
 
@@ -273,7 +274,7 @@ def records(rows):
 
 
 def goods(first, second, truth):
-    """The rows of LibreOffice's workbook, with its two dates and its truth value as they are written."""
+    """The rows of LibreOffice's workbook, with its dates and its truth value as they are written."""
     return records(
         [
             ["name", "amount", "date"],
@@ -283,6 +284,12 @@ def goods(first, second, truth):
             [truth, "#N/A", "\t"],
         ]
     )
+
+
+def objects(keys, rows):
+    """Rows as objects of JSON, by Python's own writer."""
+    for row in rows:
+        yield json.dumps(dict(zip(keys, row)), separators=(",", ":"), ensure_ascii=False) + "\n"
 
 
 def libreoffice_rows():
@@ -305,6 +312,15 @@ LINES = {
     ],
     "libreoffice.csv": libreoffice_rows(),
     "libreoffice.csv_shown": goods("2024-01-02", "2024-02-03", "TRUE"),
+    "libreoffice.rows": objects(
+        ["name", "amount", "date"],
+        [
+            ["nut", 10.5, "2024-01-02"],
+            ["bolt, long", 4, "2024-02-03"],
+            ["nutx", 14.5, "#DIV/0!"],
+            [True, "#N/A", "\t"],
+        ],
+    ),
     "rich_text": rich_text(),
     "inline_strings": inline_strings(),
     "chart_sheet": chart_sheet(),
@@ -320,6 +336,7 @@ LINES = {
     "tables.tables": tables(),
     "tables.csv_table": records([["Line_x000a_break", "Qty"], ["nut", "3"], ["bolt", "2.5"]]),
     "tables.csv_table_of_Words": records([["Key", "Text"], ["true", "a\tb"]]),
+    "tables.rows_table": objects(["Line_x000a_break", "Qty"], [["nut", 3], ["bolt", 2.5]]),
     "tables.table": table_of_sales(),
     "tables.table_of_Rates": table_of_rates(),
     "tables_links_and_merges": tables_links_and_merges(),
