@@ -67,11 +67,7 @@ fn numbered_sheet(sheets: &[Sheet], number: u64) -> Result<&Sheet, SheetFault>
 }
 
 /// Keeps a name beside those that are kept.
-fn keep_name(
-    alloc: Global,
-    names: &mut BTreeSet<String>,
-    name: &str,
-) -> Result<(), AllocError>
+fn keep_name(alloc: Global, names: &mut BTreeSet<String>, name: &str) -> Result<(), AllocError>
     ensures { OnOk result ((other : List ℕ) → contains_text names.new other
         ≡ (if bytes_eq name.now other then true else contains_text names.old other)) }
 {
