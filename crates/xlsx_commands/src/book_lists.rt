@@ -83,6 +83,7 @@ pub fn metadata_beside(
         folder: _,
         shared: _,
         is_1904: _,
+        scopes: _,
     } = opened;
     Ok((metadata, package))
 }
