@@ -1,2 +1,3 @@
+pub mod HeldNumbers
 pub mod OneLine
 pub mod Shallow

@@ -23,7 +23,8 @@ use Rattle.sheet_listing.specs.CellObjects.{date_json}
 use Rattle.sheet_listing.specs.CellObjects.{formula_json, fill_json}
 use Rattle.sheet_listing.specs.CellObjects.{value_json as cell_json}
 use Rattle.json_reads_back.specs.LinesRead.{IsReadBack, IsHeld, AreListsReadBack, AreCellsReadBack}
-use Rattle.json_reads_back.specs.LinesRead.{IsHeldAs, AreRowsReadBack}
+use Rattle.json_reads_back.specs.LinesRead.{AreRowsReadBack}
+use Rattle.json_reads_back.proofs.HeldNumbers.{shown_held, whole_held}
 use Rattle.json.specs.Json.{number as number_of}
 use Rattle.json.specs.Print.{IsNumber}
 use Rattle.json_rows.specs.RowObjects.{row_members}
@@ -182,12 +183,11 @@ rounded_number other digits (Some own) is held =
     printed_number (shown_number (Some digits) own) held
 
 integer_number : (digits : Option ℕ) (n : ℤ) → FitsSigned w64 n
-    → IfSome (decimal_from (n, pos 0)) (λ own. IsOfDecimal (shown_number digits own))
     → IsNumber (integer_field digits n)
-integer_number None n fits held = IsNumber-signed_decimal n (whole_plain n fits)
-integer_number (Some digits) n fits held =
+integer_number None n fits = IsNumber-signed_decimal n (whole_plain n fits)
+integer_number (Some digits) n fits =
     rounded_number (signed_decimal n) digits (decimal_from (n, pos 0))
-    (IsNumber-signed_decimal n (whole_plain n fits)) held
+    (IsNumber-signed_decimal n (whole_plain n fits)) (whole_held (Some digits) n fits)
 
 plain_number : (own : List ℕ) → IsNumber own → IsPlain (number_of own)
 plain_number own is = record { shallow = refl; numbers = is }
@@ -198,26 +198,28 @@ days_plain true true shown exact days one two = plain_text shown
 days_plain true false shown exact days one two = plain_number exact one
 days_plain false told shown exact days one two = plain_number days two
 
-item_plain : (options : CsvOptions) (value : CellValue) → IsHeldAs options value
+item_plain : (options : CsvOptions) (value : CellValue) → IsHeld value
     → IsPlain (item_json options value)
 item_plain options nothing held = record { shallow = refl; numbers = tt }
 item_plain options (integer n) held =
-    plain_number _ (integer_number (digits_of options.digits) n held.0 held.1)
+    plain_number _ (integer_number (digits_of options.digits) n held)
 item_plain options (number decimal) held =
-    plain_number _ (printed_number (shown_number (digits_of options.digits) decimal) held)
+    plain_number _ (printed_number (shown_number (digits_of options.digits) decimal)
+    (shown_held (digits_of options.digits) decimal held))
 item_plain options (text bytes) held = plain_text bytes
 item_plain options (shared_text place) held = record { shallow = refl; numbers = tt }
 item_plain options (truth holds) held = record { shallow = refl; numbers = tt }
 item_plain options (time days kind is_1904) held =
     days_plain options.dates (is_told (moment_of days kind is_1904)) (iso_text days kind is_1904)
     (printed days) (printed (shown_number (digits_of options.digits) days))
-    (printed_number days held.0)
-    (printed_number (shown_number (digits_of options.digits) days) held.1)
+    (printed_number days held)
+    (printed_number (shown_number (digits_of options.digits) days)
+    (shown_held (digits_of options.digits) days held))
 item_plain options (iso_time bytes) held = plain_text bytes
 item_plain options (failure error) held = plain_text _
 
 row_plain : (options : CsvOptions) (values : List CellValue)
-    → AllByRecursion (IsHeldAs options) values
+    → AllByRecursion IsHeld values
     → (items_depth (row_json options values) ≡ 0) × ItemsHaveNumbers (row_json options values)
 row_plain options [] held = (refl, tt)
 row_plain options (value ∷ values) held =
@@ -226,7 +228,7 @@ row_plain options (value ∷ values) held =
     (omega (arith, own.shallow, rest.0), (own.numbers, rest.1))
 
 row_flat : (options : CsvOptions) (keys : List (List ℕ)) (values : List CellValue)
-    → AllByRecursion (IsHeldAs options) values → AreFlat (row_members options keys values)
+    → AllByRecursion IsHeld values → AreFlat (row_members options keys values)
 row_flat options [] values held = none_flat
 row_flat options (key ∷ keys) [] held = none_flat
 row_flat options (key ∷ keys) (value ∷ values) held =
@@ -234,7 +236,7 @@ row_flat options (key ∷ keys) (value ∷ values) held =
     (item_plain options value held.0) (row_flat options keys values held.1)
 
 array_back : (options : CsvOptions) (values : List CellValue)
-    → AllByRecursion (IsHeldAs options) values → IsReadBack (array (row_json options values))
+    → AllByRecursion IsHeld values → IsReadBack (array (row_json options values))
 array_back options values held =
     let plain = row_plain options values held in
     document-print (array (row_json options values)) plain.1 (omega (arith, plain.0))

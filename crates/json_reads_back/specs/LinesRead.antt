@@ -1,5 +1,5 @@
 -- Lines as JSON, read back.
-use Rattle.std.specs.Prelude.{◌≡◌, ⊤, ℕ, List, Some, FitsSigned}
+use Rattle.std.specs.Prelude.{◌≡◌, ⊤, ℕ, List, Option, Some, FitsSigned}
 use Rattle.std.specs.Int.{w64}
 use Rattle.cell_data.specs.CellValue.{CellValue, integer, number, time}
 use Rattle.cell_styles.specs.declared.style.Style.{Style}
@@ -11,9 +11,6 @@ use Rattle.json.specs.Json.{array, object}
 use Rattle.json_rows.specs.RowObjects.{row_members}
 use Rattle.json_rows.specs.RowValues.{row_json}
 use Rattle.std.specs.List.{AllByRecursion}
-use Rattle.std.specs.Prelude.{Option, IfSome, pos}
-use Rattle.decimals.specs.Decimals.{decimal_from}
-use Rattle.xlsx_rows.specs.RowsText.{digits_of, shown_number}
 use Rattle.xlsx_rows.specs.declared.options.CsvOptions.{CsvOptions}
 
 -- the text of a value is read as the value
@@ -26,17 +23,6 @@ IsHeld (integer n) = FitsSigned w64 n
 IsHeld (number decimal) = IsOfDecimal decimal
 IsHeld (time days kind is_1904) = IsOfDecimal days
 IsHeld _ = ⊤
-
--- a value that a cell holds, with the number that it is written as where digits are asked for
-abbrev pub IsHeldAs : CsvOptions → CellValue → Type 0
-IsHeldAs options (integer n) =
-    FitsSigned w64 n
-    × IfSome (decimal_from (n, pos 0))
-    (λ own. IsOfDecimal (shown_number (digits_of options.digits) own))
-IsHeldAs options (number decimal) = IsOfDecimal (shown_number (digits_of options.digits) decimal)
-IsHeldAs options (time days kind is_1904) =
-    IsOfDecimal days × IsOfDecimal (shown_number (digits_of options.digits) days)
-IsHeldAs options _ = ⊤
 
 -- each line of a list is read as the value of its fields
 abbrev pub AreListsReadBack : Type 0
@@ -51,9 +37,9 @@ AreCellsReadBack =
 -- each row of values, as an array and as an object under any keys
 pub record AreRowsReadBack : Type 0 where
   pub arrays :
-      (options : CsvOptions) (values : List CellValue) → AllByRecursion (IsHeldAs options) values →
+      (options : CsvOptions) (values : List CellValue) → AllByRecursion IsHeld values →
       IsReadBack (array (row_json options values))
   pub objects :
       (options : CsvOptions) (keys : List (List ℕ)) (values : List CellValue) →
-      AllByRecursion (IsHeldAs options) values →
+      AllByRecursion IsHeld values →
       IsReadBack (object (row_members options keys values))
