@@ -1,4 +1,5 @@
 pub mod Graph
+pub mod GraphLaws
 pub mod GraphLines
 pub mod Kept
 pub mod Naming
