@@ -2,7 +2,10 @@ pub mod Adding
 pub mod Along
 pub mod InBook
 pub mod Keeping
+pub mod Leaving
 pub mod Members
 pub mod Opening
 pub mod Ranging
+pub mod Reaching
 pub mod Rounds
+pub mod Settling
