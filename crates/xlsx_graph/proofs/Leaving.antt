@@ -1,30 +1,18 @@
 -- The formulas that the order leaves: each needs one that it leaves, too, and so one on a cycle.
 use Rattle.std.proofs.Common.{◌≡◌, ◌∙◌, ◌⊎◌, inl, inr, ℕ, zero, suc, ◌+◌, ◌<◌, Bool, true, false}
 use Rattle.std.proofs.Common.{List, [], ◌∷◌, ◌++◌, ◌||◌, ◌&&◌, length, not, refl, sym, ap, subst, arith}
-use Rattle.std.proofs.Common.{append-nil, append_assoc, length-append}
+use Rattle.std.proofs.Common.{append-nil, length-append}
 use Rattle.std.specs.List.{list_all, list_any}
 use Rattle.std.proofs.lemmas.Bool.{and_from, cases_Bool, false≢true, not_from_false}
 use Rattle.std.proofs.lemmas.List.{nil_from_length}
 use Rattle.xlsx_graph.specs.Graph.{is_number_of, is_ready, needs_of, numbers_below, order_of, reached}
-use Rattle.xlsx_graph.specs.Graph.{ready, rounds_within}
+use Rattle.xlsx_graph.specs.Graph.{ready}
 use Rattle.xlsx_graph.specs.GraphLaws.{OthersHaveCycles, are_within, is_on_cycle}
 use Rattle.xlsx_graph.proofs.Members.{any_at, any_from, fails_at, in_filter, in_head, in_left}
 use Rattle.xlsx_graph.proofs.Members.{in_range, in_right}
 use Rattle.xlsx_graph.proofs.Reaching.{reached_itself, reached_through, within_at}
-use Rattle.xlsx_graph.proofs.Rounds.{of_ready, order_within}
-use Rattle.xlsx_graph.proofs.Settling.{settles, size_below, size_bound, size_grows, stepped}
-
--- what is done behind a round
-abbrev done_behind : List (List ℕ) → List ℕ → List ℕ
-done_behind edges done = done ++ ready edges done
-
-done_by_steps : (turns : ℕ) (edges : List (List ℕ)) (done : List ℕ)
-    → stepped (done_behind edges) turns done ≡ done ++ order_within turns edges done
-unfolding rounds_within
-done_by_steps zero edges done = sym (append-nil done)
-done_by_steps (suc turns) edges done =
-    done_by_steps turns edges (done_behind edges done)
-    ∙ append_assoc done (ready edges done) (order_within turns edges (done_behind edges done))
+use Rattle.xlsx_graph.proofs.Rounds.{done_behind, done_by_steps, of_ready}
+use Rattle.xlsx_graph.proofs.Settling.{settles, size_below, size_bound, size_grows}
 
 grows_by : (edges : List (List ℕ)) (done round : List ℕ) → ready edges done ≡ round
     → (done_behind edges done ≡ done)

@@ -1,10 +1,14 @@
 pub mod Adding
 pub mod Along
+pub mod Counting
 pub mod InBook
 pub mod Keeping
 pub mod Leaving
 pub mod Members
+pub mod OnCycles
+pub mod OnceEach
 pub mod Opening
+pub mod Ordered
 pub mod Ranging
 pub mod Reaching
 pub mod Rounds

@@ -1,7 +1,7 @@
 -- The order, round by round: all that a formula needs is done before its round.
 use Rattle.std.proofs.Common.{◌≡◌, ◌∙◌, ◌⊎◌, inl, inr, ℕ, zero, suc, ◌+◌, ◌-◌, ◌<◌, ◌≤◌, Bool, true, false}
 use Rattle.std.proofs.Common.{List, [], ◌∷◌, ◌++◌, length, take, get_or, not, refl, sym, ap, subst, arith}
-use Rattle.std.proofs.Common.{flat_map, get_or-append-add}
+use Rattle.std.proofs.Common.{flat_map, get_or-append-add, append-nil}
 use Rattle.std.specs.List.{list_all}
 use Rattle.std.proofs.Math.Seq.{take-append-add}
 use Rattle.std.proofs.lemmas.Bool.{and_parts, cases_lt, not-true}
@@ -11,10 +11,24 @@ use Rattle.xlsx_graph.specs.Graph.{rounds_within}
 use Rattle.xlsx_graph.specs.GraphLaws.{NeedsStandBefore}
 use Rattle.xlsx_graph.proofs.Members.{in_left, in_right, in_either, in_head, in_tail, all_at, all_from}
 use Rattle.xlsx_graph.proofs.Members.{of_filter}
+use Rattle.xlsx_graph.proofs.Settling.{stepped}
 
 -- the formulas of so many rounds, where these are done
 abbrev pub order_within : ℕ → List (List ℕ) → List ℕ → List ℕ
 order_within turns edges done = flat_map (λ r. r) (rounds_within turns edges done)
+
+-- what is done behind a round
+abbrev pub done_behind : List (List ℕ) → List ℕ → List ℕ
+done_behind edges done = done ++ ready edges done
+
+-- the rounds are such steps
+pub done_by_steps : (turns : ℕ) (edges : List (List ℕ)) (done : List ℕ)
+    → stepped (done_behind edges) turns done ≡ done ++ order_within turns edges done
+unfolding rounds_within
+done_by_steps zero edges done = sym (append-nil done)
+done_by_steps (suc turns) edges done =
+    done_by_steps turns edges (done_behind edges done)
+    ∙ append_assoc done (ready edges done) (order_within turns edges (done_behind edges done))
 
 in_at : (ns : List ℕ) (k : ℕ) → k < length ns → is_number_of ns (get_or ns k 0) ≡ true
 in_at [] k within = absurd (omega arith)

@@ -1,6 +1,6 @@
 //! What holds of the order and of the cycles of all edges.
 ghost use Rattle.std.specs.Prelude.{◌≡◌, ℕ, List, true};
-ghost use Rattle.xlsx_graph.specs.GraphLaws.{NeedsStandBefore, OthersHaveCycles, are_within};
+ghost use Rattle.xlsx_graph.specs.GraphLaws.{EachStandsOnce, NeedsStandBefore, OthersHaveCycles, are_within};
 
 /// Of each formula in the order all that it needs stands before it.
 pub fn needs_stand_before()
@@ -11,4 +11,10 @@ pub fn needs_stand_before()
 /// others.
 pub fn others_have_cycles()
     ensures { (edges : List (List ℕ)) → are_within edges ≡ true → OthersHaveCycles edges }
+{}
+
+/// Each formula is once in the order, on one cycle, or behind a cycle. So cycles have no formula in
+/// common.
+pub fn each_stands_once()
+    ensures { (edges : List (List ℕ)) → are_within edges ≡ true → EachStandsOnce edges }
 {}
