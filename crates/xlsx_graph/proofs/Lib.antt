@@ -1,6 +1,7 @@
 pub mod Adding
 pub mod Along
 pub mod Counting
+pub mod EdgesWithin
 pub mod InBook
 pub mod Keeping
 pub mod Leaving

@@ -1,6 +1,32 @@
 //! What holds of the order and of the cycles of all edges.
-ghost use Rattle.std.specs.Prelude.{◌≡◌, ℕ, List, true};
-ghost use Rattle.xlsx_graph.specs.GraphLaws.{EachStandsOnce, NeedsStandBefore, OthersHaveCycles, are_within};
+ghost use Rattle.std.specs.Prelude.{◌≡◌, ℕ, Bool, List, true};
+ghost use Rattle.xlsx_graph.specs.Graph.{GraphFormula, is_number_of, needed, needs_of, reached};
+ghost use Rattle.xlsx_graph.specs.GraphLaws.{
+  EachStandsOnce,
+  NeedsStandBefore,
+  OthersHaveCycles,
+  are_within,
+};
+
+/// The edges of a workbook's graph have the numbers of its formulas alone.
+pub fn needed_are_within()
+    ensures { (formulas : List GraphFormula) → are_within (needed formulas) ≡ true }
+{}
+
+/// What a formula reaches is what it needs itself, and what those need that it reaches; and no
+/// more, so it is within all that has both.
+pub fn reached_is_all_needed()
+    ensures itself { (edges : List (List ℕ)) (n m : ℕ)
+        → is_number_of (needs_of edges n) m ≡ true → is_number_of (reached edges n) m ≡ true }
+    ensures through { (edges : List (List ℕ)) → are_within edges ≡ true → (n k m : ℕ)
+        → is_number_of (reached edges n) k ≡ true → is_number_of (needs_of edges k) m ≡ true
+        → is_number_of (reached edges n) m ≡ true }
+    ensures alone { (edges : List (List ℕ)) (is_in : ℕ → Bool)
+        → ((k m : ℕ) → is_in k ≡ true → is_number_of (needs_of edges k) m ≡ true
+        → is_in m ≡ true)
+        → (n : ℕ) → ((m : ℕ) → is_number_of (needs_of edges n) m ≡ true → is_in m ≡ true)
+        → (m : ℕ) → is_number_of (reached edges n) m ≡ true → is_in m ≡ true }
+{}
 
 /// Of each formula in the order all that it needs stands before it.
 pub fn needs_stand_before()
