@@ -1,12 +1,12 @@
 -- How often a number stands in a list: in a filter, in a range, in lists end to end.
-use Rattle.std.proofs.Common.{◌≡◌, ◌∙◌, inl, inr, ℕ, zero, suc, ◌+◌, ◌<◌, ◌≤◌, ◌==◌, Bool, true, false}
-use Rattle.std.proofs.Common.{List, [], ◌∷◌, ◌++◌, cond, refl, sym, ap, arith, count_by, filter}
+use Rattle.std.proofs.Common.{◌≡◌, ◌∙◌, inl, inr, ℕ, zero, suc, ◌+◌, ◌<◌, ◌≤◌, ◌==◌, Bool, true}
+use Rattle.std.proofs.Common.{false, List, [], ◌∷◌, ◌++◌, refl, sym, ap, arith, count_by, filter}
 use Rattle.std.proofs.Common.{flat_map}
 use Rattle.std.specs.List.{range_with_len}
 use Rattle.std.proofs.lemmas.Bool.{both_ways, cases_Bool, cond_both, eqb-true, eqb-false}
 use Rattle.std.proofs.lemmas.Bool.{false_from_ne_true, or_parts}
 use Rattle.std.proofs.lemmas.List.Sums.{sum_by-append, sum_by-cons}
-use Rattle.xlsx_graph.specs.Graph.{is_number_of}
+use Rattle.xlsx_graph.specs.Graph.{is_number_of, numbers_below}
 use Rattle.xlsx_graph.proofs.Members.{in_head, in_tail, of_filter, of_range}
 use Rattle.xlsx_graph.proofs.Settling.{one_if}
 
@@ -52,7 +52,7 @@ times_dropped p ns n fails =
 
 -- ---- a range
 
-pub times_in_range : (a len n : ℕ) → a ≤ n → n < a + len
+times_in_range : (a len n : ℕ) → a ≤ n → n < a + len
     → times_in (range_with_len a len) n ≡ 1
 times_in_range a zero n from below = absurd (omega arith)
 times_in_range a (suc len) n from below =
@@ -71,6 +71,9 @@ times_in_range a (suc len) n from below =
           times_in_range (a + 1) len n (omega arith) (omega arith) in
           omega (arith, times_cons a later n))
     ]
+
+pub times_below : (count n : ℕ) → n < count → times_in (numbers_below count) n ≡ 1
+times_below count n below = times_in_range 0 count n (omega arith) (omega arith)
 
 -- ---- lists end to end, of which one alone has the number, once
 

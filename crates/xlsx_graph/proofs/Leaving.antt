@@ -1,15 +1,15 @@
 -- The formulas that the order leaves: each needs one that it leaves, too, and so one on a cycle.
-use Rattle.std.proofs.Common.{◌≡◌, ◌∙◌, ◌⊎◌, inl, inr, ℕ, zero, suc, ◌+◌, ◌<◌, Bool, true, false}
-use Rattle.std.proofs.Common.{List, [], ◌∷◌, ◌++◌, ◌||◌, ◌&&◌, length, not, refl, sym, ap, subst, arith}
+use Rattle.std.proofs.Common.{◌≡◌, ◌∙◌, ◌⊎◌, inl, inr, ℕ, zero, suc, ◌<◌, Bool, true, false, List}
+use Rattle.std.proofs.Common.{[], ◌∷◌, ◌++◌, ◌||◌, ◌&&◌, length, not, refl, sym, ap, subst, arith}
 use Rattle.std.proofs.Common.{append-nil, length-append}
 use Rattle.std.specs.List.{list_all, list_any}
 use Rattle.std.proofs.lemmas.Bool.{and_from, cases_Bool, false≢true, not_from_false}
 use Rattle.std.proofs.lemmas.List.{nil_from_length}
-use Rattle.xlsx_graph.specs.Graph.{is_number_of, is_ready, needs_of, numbers_below, order_of, reached}
-use Rattle.xlsx_graph.specs.Graph.{ready}
+use Rattle.xlsx_graph.specs.Graph.{is_number_of, is_ready, needs_of, numbers_below, order_of}
+use Rattle.xlsx_graph.specs.Graph.{reached, ready}
 use Rattle.xlsx_graph.specs.GraphLaws.{OthersHaveCycles, are_within, is_on_cycle}
 use Rattle.xlsx_graph.proofs.Members.{any_at, any_from, fails_at, in_filter, in_head, in_left}
-use Rattle.xlsx_graph.proofs.Members.{in_range, in_right}
+use Rattle.xlsx_graph.proofs.Members.{in_below, in_right}
 use Rattle.xlsx_graph.proofs.Reaching.{reached_itself, reached_through, within_at}
 use Rattle.xlsx_graph.proofs.Rounds.{done_behind, done_by_steps, of_ready}
 use Rattle.xlsx_graph.proofs.Settling.{settles, size_below, size_bound, size_grows}
@@ -55,7 +55,7 @@ needs_left edges n below left =
       | inl e ↦ absurd (false≢true
           (subst (λ (ns : List ℕ). is_number_of ns n ≡ true) (none_ready edges)
           (in_filter (is_ready edges order) (numbers_below (length edges)) n
-          (in_range 0 (length edges) n (omega arith) (omega arith))
+          (in_below (length edges) n below)
           (and_from _ _ (not_from_false (is_number_of order n) left) e))))
       | inr e ↦ fails_at (is_number_of order) (needs_of edges n) e
     ]
@@ -75,7 +75,7 @@ module _ (edges : List (List ℕ)) (within : are_within edges ≡ true) where
         | inr e ↦
             (let less = size_grows (length edges) (reached edges m) (reached edges n)
             (λ k by. reached_through edges within n m k is by) m
-            (in_range 0 (length edges) m (omega arith) (omega arith)) e is in
+            (in_below (length edges) m m_below) e is in
             let found = any_from (is_on_cycle edges) (reached edges m)
             (reaches_cycle most m (omega arith) m_below need.2) in
             any_at (is_on_cycle edges) (reached edges n) found.0

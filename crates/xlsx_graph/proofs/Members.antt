@@ -1,12 +1,12 @@
 -- What is among numbers: those of joined lists, of a filter, of a range.
-use Rattle.std.proofs.Common.{◌≡◌, ◌∙◌, ◌⊎◌, inl, inr, ℕ, zero, suc, ◌+◌, ◌<◌, ◌≤◌, ◌==◌, Bool, true, false}
-use Rattle.std.proofs.Common.{List, [], ◌∷◌, ◌++◌, cond, refl, sym, ap, subst, arith, filter, flat_map}
-use Rattle.std.proofs.Common.{true≢false}
+use Rattle.std.proofs.Common.{◌≡◌, ◌∙◌, ◌⊎◌, inl, inr, ℕ, zero, suc, ◌+◌, ◌<◌, ◌≤◌, ◌==◌, Bool}
+use Rattle.std.proofs.Common.{true, false, List, [], ◌∷◌, ◌++◌, cond, refl, sym, ap, subst, arith}
+use Rattle.std.proofs.Common.{filter, flat_map, true≢false}
 use Rattle.std.specs.List.{list_all, list_any, range_with_len}
 use Rattle.std.proofs.lemmas.Bool.{or_cases, or_left, or_right, and_parts, and_from, and_cases}
 use Rattle.std.proofs.lemmas.Bool.{eqb-true, eqb-false, eq-eqb, false≢true, cases_Bool, cond_both}
 use Rattle.std.proofs.lemmas.List.Folds.{list_any-append}
-use Rattle.xlsx_graph.specs.Graph.{is_number_of, with_number, with_numbers}
+use Rattle.xlsx_graph.specs.Graph.{is_number_of, numbers_below, with_number, with_numbers}
 
 pub in_cons : (m : ℕ) (ms : List ℕ) (n : ℕ) → is_number_of (m ∷ ms) n ≡ true
     → (m ≡ n) ⊎ (is_number_of ms n ≡ true)
@@ -116,7 +116,7 @@ of_filter p (m ∷ ms) n is =
 
 -- ---- a range
 
-pub in_range : (a len n : ℕ) → a ≤ n → n < a + len → is_number_of (range_with_len a len) n ≡ true
+in_range : (a len n : ℕ) → a ≤ n → n < a + len → is_number_of (range_with_len a len) n ≡ true
 in_range a zero n from below = absurd (omega arith)
 in_range a (suc len) n from below =
     elim (cases_Bool (a == n)) [
@@ -133,6 +133,12 @@ of_range a (suc len) n is =
       | inl e ↦ (omega arith, omega arith)
       | inr e ↦ (let rest = of_range (a + 1) len n e in (omega arith, omega arith))
     ]
+
+pub in_below : (count n : ℕ) → n < count → is_number_of (numbers_below count) n ≡ true
+in_below count n below = in_range 0 count n (omega arith) (omega arith)
+
+pub of_below : (count n : ℕ) → is_number_of (numbers_below count) n ≡ true → n < count
+of_below count n is = let found = of_range 0 count n is in omega arith
 
 -- ---- lists end to end
 

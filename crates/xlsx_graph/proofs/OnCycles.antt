@@ -1,6 +1,6 @@
 -- The cycles: a formula that needs itself is on one of them, once, and no other is on any.
-use Rattle.std.proofs.Common.{◌≡◌, ◌∙◌, ◌⊎◌, inl, inr, ℕ, ◌+◌, ◌<◌, ◌==◌, ◌&&◌, Bool, true, false}
-use Rattle.std.proofs.Common.{List, [], ◌∷◌, length, refl, subst, arith, sym, ap, filter, flat_map}
+use Rattle.std.proofs.Common.{◌≡◌, ◌∙◌, inl, inr, ℕ, ◌<◌, ◌==◌, Bool, true, false}
+use Rattle.std.proofs.Common.{List, [], ◌∷◌, length, refl, subst, sym, ap, filter, flat_map}
 use Rattle.std.proofs.lemmas.Bool.{and_from, and_parts, both_ways, cases_Bool, eqb-true, eq-eqb}
 use Rattle.std.proofs.lemmas.Bool.{false_from_ne_true, false≢true}
 use Rattle.std.proofs.lemmas.List.Elements.{filter_agree}
@@ -8,9 +8,10 @@ use Rattle.std.proofs.lemmas.List.Folds.{flat_map-map}
 use Rattle.xlsx_graph.specs.Graph.{are_together, cycle_of, cycles_of, is_first_of, is_number_of}
 use Rattle.xlsx_graph.specs.Graph.{numbers_below, reached}
 use Rattle.xlsx_graph.specs.GraphLaws.{are_within, is_on_cycle}
-use Rattle.xlsx_graph.proofs.Counting.{times_dropped, times_in, times_in_one, times_in_range}
+use Rattle.xlsx_graph.proofs.Counting.{times_dropped, times_below, times_in, times_in_one}
 use Rattle.xlsx_graph.proofs.Counting.{times_kept, times_none}
-use Rattle.xlsx_graph.proofs.Members.{in_filter, in_head, in_range, of_filter, of_flat_map, of_range}
+use Rattle.xlsx_graph.proofs.Members.{in_filter, in_head, in_below, of_filter, of_flat_map}
+use Rattle.xlsx_graph.proofs.Members.{of_below}
 use Rattle.xlsx_graph.proofs.Reaching.{reached_through}
 use Rattle.xlsx_graph.proofs.Settling.{one_if}
 
@@ -35,20 +36,22 @@ first_is : (l : List ℕ) (f : ℕ) (ns : List ℕ) → l ≡ f ∷ ns → (m : 
 first_is l f ns is m first =
     eqb-true f m (subst (λ (k : List ℕ). is_first_of k m ≡ true) is first)
 
+reach_both : (edges : List (List ℕ)) (m n : ℕ) → are_together edges m n ≡ true
+    → (is_number_of (reached edges m) n ≡ true) × (is_number_of (reached edges n) m ≡ true)
+reach_both edges m n is =
+    and_parts (is_number_of (reached edges m) n) (is_number_of (reached edges n) m) is
+
 back : (edges : List (List ℕ)) (m n : ℕ) → are_together edges m n ≡ true
     → are_together edges n m ≡ true
 back edges m n is =
-    let parts = and_parts (is_number_of (reached edges m) n) (is_number_of (reached edges n) m) is in
-    and_from _ _ parts.1 parts.0
+    let both = reach_both edges m n is in and_from _ _ both.1 both.0
 
 module _ (edges : List (List ℕ)) (within : are_within edges ≡ true) where
   through : (k m n : ℕ) → are_together edges k m ≡ true → are_together edges m n ≡ true
       → are_together edges k n ≡ true
   through k m n one other =
-      let there = and_parts (is_number_of (reached edges k) m) (is_number_of (reached edges m) k)
-      one in
-      let on = and_parts (is_number_of (reached edges m) n) (is_number_of (reached edges n) m)
-      other in
+      let there = reach_both edges k m one in
+      let on = reach_both edges m n other in
       and_from _ _ (reached_through edges within k m n there.0 on.0)
       (reached_through edges within n m k on.1 there.1)
 
@@ -61,9 +64,7 @@ module _ (edges : List (List ℕ)) (within : are_within edges ≡ true) where
 
   on_cycle_with : (m n : ℕ) → are_together edges m n ≡ true → is_on_cycle edges n ≡ true
   on_cycle_with m n is =
-      let parts = and_parts (is_number_of (reached edges m) n) (is_number_of (reached edges n) m)
-      is in
-      reached_through edges within n m n parts.1 parts.0
+      let both = reach_both edges m n is in reached_through edges within n m n both.1 both.0
 
   pub times_on_none : (n : ℕ) → is_on_cycle edges n ≡ false
       → times_in (flat_map (λ c. c) (cycles_of edges)) n ≡ 0
@@ -82,7 +83,7 @@ module _ (edges : List (List ℕ)) (within : are_within edges ≡ true) where
         let all = numbers_below (length edges) in
         let found = of_filter (are_together edges n) all f
         (subst (λ (l : List ℕ). is_number_of l f ≡ true) (sym is) (in_head f ns)) in
-        let at = of_range 0 (length edges) f found.0 in
+        let f_below = of_below (length edges) f found.0 in
         let with_it : are_together edges f n ≡ true = back edges n f found.1 in
         let first : is_first_of (cycle_of edges f) f ≡ true =
         subst (λ (l : List ℕ). is_first_of l f ≡ true) (sym (same_cycle f n with_it ∙ is))
@@ -91,17 +92,18 @@ module _ (edges : List (List ℕ)) (within : are_within edges ≡ true) where
         (λ m own. elim (cases_Bool (are_together edges m n)) [
           | inl e ↦
               times_kept (are_together edges m) all n e
-              ∙ times_in_range 0 (length edges) n (omega arith) (omega arith)
+              ∙ times_below (length edges) n below
               ∙ sym (ap one_if (eq-eqb m f (sym (first_is (cycle_of edges m) f ns
               (same_cycle m n e ∙ is) m
               (of_filter (λ k. is_first_of (cycle_of edges k) k) all m own).1))))
           | inr e ↦
               times_dropped (are_together edges m) all n e
               ∙ sym (ap one_if (false_from_ne_true (m == f) (λ same. both_ways _ e
-              (subst (λ (k : ℕ). are_together edges k n ≡ true) (sym (eqb-true m f same)) with_it))))
+              (subst (λ (k : ℕ). are_together edges k n ≡ true) (sym (eqb-true m f same))
+              with_it))))
         ])
         ∙ times_kept (λ k. is_first_of (cycle_of edges k) k) all f first
-        ∙ times_in_range 0 (length edges) f (omega arith) (omega arith)
+        ∙ times_below (length edges) f f_below
 
     times_among : (l : List ℕ) → cycle_of edges n ≡ l → is_number_of l n ≡ true
         → times_in (flat_map (cycle_of edges) (firsts_of edges)) n ≡ 1
@@ -114,7 +116,7 @@ module _ (edges : List (List ℕ)) (within : are_within edges ≡ true) where
         ap (λ (ns : List ℕ). times_in ns n) (members_are edges)
         ∙ times_among (cycle_of edges n) refl
         (in_filter (are_together edges n) (numbers_below (length edges)) n
-        (in_range 0 (length edges) n (omega arith) (omega arith)) (and_from _ _ on on))
+        (in_below (length edges) n below) (and_from _ _ on on))
 
 -- no number from the count on is on a cycle's list
 pub cycles_below : (edges : List (List ℕ)) (n : ℕ)
@@ -122,6 +124,5 @@ pub cycles_below : (edges : List (List ℕ)) (n : ℕ)
 cycles_below edges n is =
     let found = of_flat_map (cycle_of edges) (firsts_of edges) n
     (subst (λ (ns : List ℕ). is_number_of ns n ≡ true) (members_are edges) is) in
-    let at = of_range 0 (length edges) n
-    (of_filter (are_together edges found.0) (numbers_below (length edges)) n found.2).0 in
-    omega arith
+    of_below (length edges) n
+    (of_filter (are_together edges found.0) (numbers_below (length edges)) n found.2).0

@@ -1,6 +1,6 @@
 -- Each formula stands once: in the order, on one cycle, or behind one.
-use Rattle.std.proofs.Common.{◌≡◌, ◌∙◌, ◌⊎◌, inl, inr, ℕ, ◌+◌, ◌<◌, ◌≤◌, ◌&&◌, ◌||◌, Bool, true, false}
-use Rattle.std.proofs.Common.{List, ◌++◌, length, not, refl, subst, arith, sym, ap, flat_map}
+use Rattle.std.proofs.Common.{◌≡◌, ◌∙◌, inl, inr, ℕ, ◌+◌, ◌<◌, ◌≤◌, ◌&&◌, ◌||◌, Bool, true, false}
+use Rattle.std.proofs.Common.{List, ◌++◌, length, not, refl, arith, sym, ap, flat_map}
 use Rattle.std.proofs.Common.{ltb-false, ltb-true}
 use Rattle.std.specs.Prelude.{nat_lt, if◌then◌else◌}
 use Rattle.std.specs.List.{list_any}
@@ -8,10 +8,10 @@ use Rattle.std.proofs.lemmas.Bool.{cases_Bool, false_from_ne_true}
 use Rattle.xlsx_graph.specs.Graph.{cycles_of, is_number_of, numbers_below, order_of, reached}
 use Rattle.xlsx_graph.specs.GraphLaws.{EachStandsOnce, all_of, are_within, behind_of, is_behind}
 use Rattle.xlsx_graph.specs.GraphLaws.{is_on_cycle}
-use Rattle.xlsx_graph.proofs.Counting.{times_append, times_dropped, times_in, times_in_range}
+use Rattle.xlsx_graph.proofs.Counting.{times_append, times_below, times_dropped, times_in}
 use Rattle.xlsx_graph.proofs.Counting.{times_kept, times_none}
 use Rattle.xlsx_graph.proofs.Leaving.{others_have_cycles}
-use Rattle.xlsx_graph.proofs.Members.{of_filter, of_range}
+use Rattle.xlsx_graph.proofs.Members.{of_filter, of_below}
 use Rattle.xlsx_graph.proofs.OnCycles.{cycles_below, times_on_none, times_on_one}
 use Rattle.xlsx_graph.proofs.Ordered.{order_done, order_not_behind}
 use Rattle.xlsx_graph.proofs.Settling.{one_if}
@@ -34,7 +34,7 @@ times_behind : (edges : List (List ℕ)) (n : ℕ) → n < length edges
 times_behind edges n below =
     elim (cases_Bool (is_behind edges n)) [
       | inl e ↦ times_kept (is_behind edges) (numbers_below (length edges)) n e
-          ∙ times_in_range 0 (length edges) n (omega arith) (omega arith) ∙ sym (ap one_if e)
+          ∙ times_below (length edges) n below ∙ sym (ap one_if e)
       | inr e ↦ times_dropped (is_behind edges) (numbers_below (length edges)) n e
           ∙ sym (ap one_if e)
     ]
@@ -67,13 +67,15 @@ module _ (edges : List (List ℕ)) (within : are_within edges ≡ true) (n : ℕ
             (let so = order_done edges in
             let own = so.once n e in
             let off : one_if (is_on_cycle edges n) ≡ 0 = ap one_if (so.no_cycle n e) in
-            let before : one_if (is_behind edges n) ≡ 0 = ap one_if (not_behind (is_on_cycle edges n)
-            (list_any (is_on_cycle edges) (reached edges n)) (order_not_behind edges n e)) in
+            let before : one_if (is_behind edges n) ≡ 0 = ap one_if (not_behind
+            (is_on_cycle edges n) (list_any (is_on_cycle edges) (reached edges n))
+            (order_not_behind edges n e)) in
             omega (arith, times_in_all edges n, own, on, behind))
         | inr e ↦
             (let none = times_none (order_of edges) n e in
             let one = one_of_two (is_on_cycle edges n)
-            (list_any (is_on_cycle edges) (reached edges n)) (others_have_cycles edges within n below e) in
+            (list_any (is_on_cycle edges) (reached edges n))
+            (others_have_cycles edges within n below e) in
             omega (arith, times_in_all edges n, none, on, behind, one))
       ]
 
@@ -85,7 +87,7 @@ module _ (edges : List (List ℕ)) (within : are_within edges ≡ true) (n : ℕ
       let members = times_none (members_of edges) n (false_from_ne_true _ (λ is.
       let below = cycles_below edges n is in absurd (omega arith))) in
       let behind = times_none (behind_of edges) n (false_from_ne_true _ (λ is.
-      let at = of_range 0 (length edges) n
+      let below = of_below (length edges) n
       (of_filter (is_behind edges) (numbers_below (length edges)) n is).0 in
       absurd (omega arith))) in
       omega (arith, times_in_all edges n, order, members, behind)

@@ -1,13 +1,14 @@
 -- The formulas in the order stand there once, and none of them is on a cycle or behind one.
-use Rattle.std.proofs.Common.{◌≡◌, ◌∙◌, ◌⊎◌, inl, inr, ℕ, zero, suc, ◌+◌, ◌<◌, Bool, true, false}
-use Rattle.std.proofs.Common.{List, [], ◌++◌, length, subst, arith, sym, ap}
+use Rattle.std.proofs.Common.{◌≡◌, ◌∙◌, inl, inr, ℕ, zero, suc, ◌<◌, true, false}
+use Rattle.std.proofs.Common.{List, [], length, subst, arith}
 use Rattle.std.specs.List.{list_any}
-use Rattle.std.proofs.lemmas.Bool.{both_ways, cases_Bool, false_from_ne_true, false≢true}
-use Rattle.xlsx_graph.specs.Graph.{is_number_of, is_ready, needs_of, numbers_below, order_of, reached}
-use Rattle.xlsx_graph.specs.Graph.{ready}
+use Rattle.std.proofs.lemmas.Bool.{both_ways, false_from_ne_true, false≢true}
+use Rattle.xlsx_graph.specs.Graph.{is_number_of, is_ready, needs_of, numbers_below, order_of}
+use Rattle.xlsx_graph.specs.Graph.{reached, ready}
 use Rattle.xlsx_graph.specs.GraphLaws.{is_on_cycle}
-use Rattle.xlsx_graph.proofs.Counting.{times_append, times_in, times_in_range, times_kept, times_none}
-use Rattle.xlsx_graph.proofs.Members.{any_from, in_either, in_left, of_filter, of_range}
+use Rattle.xlsx_graph.proofs.Counting.{times_append, times_below, times_in, times_kept}
+use Rattle.xlsx_graph.proofs.Counting.{times_none}
+use Rattle.xlsx_graph.proofs.Members.{any_from, in_either, in_left, of_filter, of_below}
 use Rattle.xlsx_graph.proofs.Reaching.{reached_within_set}
 use Rattle.xlsx_graph.proofs.Rounds.{done_behind, done_by_steps, of_ready}
 use Rattle.xlsx_graph.proofs.Settling.{stepped}
@@ -31,7 +32,7 @@ none_done edges = record {
 module _ (edges : List (List ℕ)) (done : List ℕ) (so : AreDone edges done) where
   round_below : (n : ℕ) → is_number_of (ready edges done) n ≡ true → n < length edges
   round_below n is =
-      let found = of_range 0 (length edges) n (of_ready edges done n is).0 in omega arith
+      of_below (length edges) n (of_ready edges done n is).0
 
   -- one of the round wasn't done
   both_once : (n : ℕ) → is_number_of (done_behind edges done) n ≡ true
@@ -51,7 +52,7 @@ module _ (edges : List (List ℕ)) (done : List ℕ) (so : AreDone edges done) w
             let within = round_below n new in
             let one : times_in round n ≡ 1 =
             times_kept (is_ready edges done) (numbers_below (length edges)) n passes
-            ∙ times_in_range 0 (length edges) n (omega arith) (omega arith) in
+            ∙ times_below (length edges) n within in
             omega (arith, times_append done round n))
       ]
 

@@ -1,16 +1,16 @@
 -- What a formula needs, itself or through others: nothing else is needed by those.
-use Rattle.std.proofs.Common.{◌≡◌, ◌∙◌, ◌⊎◌, inl, inr, ℕ, zero, suc, ◌+◌, ◌<◌, ◌≤◌, Bool, true, false}
-use Rattle.std.proofs.Common.{List, [], ◌∷◌, length, get_or, cond, refl, sym, ap, subst, arith}
+use Rattle.std.proofs.Common.{◌≡◌, ◌∙◌, ◌⊎◌, inl, inr, ℕ, zero, suc, ◌<◌, Bool, true}
+use Rattle.std.proofs.Common.{List, [], length, refl, sym, ap, subst, arith}
 use Rattle.std.proofs.Common.{flat_map, ltb-true}
 use Rattle.std.specs.List.{list_all}
 use Rattle.std.specs.Prelude.{nat_lt}
 use Rattle.std.proofs.lemmas.Bool.{false≢true, cases_Bool, cases_lt}
 use Rattle.std.proofs.lemmas.List.{get_or_past}
 use Rattle.std.proofs.lemmas.List.Sums.{AllPass-from_list_all}
-use Rattle.xlsx_graph.specs.Graph.{is_number_of, needs_of, numbers_below, reached, reached_within}
+use Rattle.xlsx_graph.specs.Graph.{is_number_of, needs_of, reached, reached_within}
 use Rattle.xlsx_graph.specs.Graph.{with_numbers}
 use Rattle.xlsx_graph.specs.GraphLaws.{are_within}
-use Rattle.xlsx_graph.proofs.Members.{all_at, fails_at, in_range, in_flat_map, of_flat_map}
+use Rattle.xlsx_graph.proofs.Members.{all_at, fails_at, in_below, in_flat_map, of_flat_map}
 use Rattle.xlsx_graph.proofs.Members.{in_with_numbers, new_with_numbers, of_with_numbers}
 use Rattle.xlsx_graph.proofs.Members.{same_with_numbers}
 use Rattle.xlsx_graph.proofs.Settling.{stepped, settles, size_below, size_bound, size_grows}
@@ -31,8 +31,8 @@ pub within_at : (edges : List (List ℕ)) → are_within edges ≡ true → (n m
 within_at edges within n m is =
     elim (cases_lt n (length edges)) [
       | inl e ↦ ltb-true m (length edges) (all_at (λ k. nat_lt k (length edges)) (needs_of edges n)
-          (AllPass-from_list_all (λ (ns : List ℕ). list_all (λ k. nat_lt k (length edges)) ns) edges within
-          n [] e) m is)
+          (AllPass-from_list_all (λ (ns : List ℕ). list_all (λ k. nat_lt k (length edges)) ns)
+          edges within n [] e) m is)
       | inr e ↦ absurd (false≢true
           (subst (λ (ns : List ℕ). is_number_of ns m ≡ true) (get_or_past edges n [] e) is))
     ]
@@ -87,7 +87,7 @@ module _ (edges : List (List ℕ)) (within : are_within edges ≡ true) where
             let by = of_flat_map (needs_of edges) ns missing.0 missing.1 in
             let below : missing.0 < length edges = within_at edges within by.0 missing.0 by.2 in
             inr (size_grows (length edges) ns (more_of edges ns) (in_with_numbers ns new) missing.0
-            (in_range 0 (length edges) missing.0 (omega arith) (omega arith)) missing.2
+            (in_below (length edges) missing.0 below) missing.2
             (new_with_numbers ns new missing.0 missing.1)))
       ]
 

@@ -1,6 +1,6 @@
 -- The order, round by round: all that a formula needs is done before its round.
-use Rattle.std.proofs.Common.{◌≡◌, ◌∙◌, ◌⊎◌, inl, inr, ℕ, zero, suc, ◌+◌, ◌-◌, ◌<◌, ◌≤◌, Bool, true, false}
-use Rattle.std.proofs.Common.{List, [], ◌∷◌, ◌++◌, length, take, get_or, not, refl, sym, ap, subst, arith}
+use Rattle.std.proofs.Common.{◌≡◌, ◌∙◌, inl, inr, ℕ, zero, suc, ◌+◌, ◌-◌, ◌<◌, ◌≤◌, true, false}
+use Rattle.std.proofs.Common.{List, [], ◌∷◌, ◌++◌, length, take, get_or, not, sym, ap, subst, arith}
 use Rattle.std.proofs.Common.{flat_map, get_or-append-add, append-nil}
 use Rattle.std.specs.List.{list_all}
 use Rattle.std.proofs.Math.Seq.{take-append-add}
@@ -9,7 +9,7 @@ use Rattle.std.proofs.lemmas.List.{get_or_append_left, length-append, append_ass
 use Rattle.xlsx_graph.specs.Graph.{is_number_of, is_ready, needs_of, numbers_below, order_of, ready}
 use Rattle.xlsx_graph.specs.Graph.{rounds_within}
 use Rattle.xlsx_graph.specs.GraphLaws.{NeedsStandBefore}
-use Rattle.xlsx_graph.proofs.Members.{in_left, in_right, in_either, in_head, in_tail, all_at, all_from}
+use Rattle.xlsx_graph.proofs.Members.{in_left, in_head, in_tail, all_at, all_from}
 use Rattle.xlsx_graph.proofs.Members.{of_filter}
 use Rattle.xlsx_graph.proofs.Settling.{stepped}
 

@@ -1,7 +1,8 @@
 -- What holds of the order and of the cycles of any edges. Edges are those of a workbook's graph
 -- where each number in them is that of a formula, as in those that `needed` makes.
 use Rattle.std.specs.Prelude.{ℕ, Bool, true, false, not, ◌≡◌, ◌<◌, ◌==◌, ◌&&◌, ◌||◌, nat_lt}
-use Rattle.std.specs.Prelude.{if◌then◌else◌, List, ◌++◌, length, take, filter, slice_index, EachIndex}
+use Rattle.std.specs.Prelude.{if◌then◌else◌, List, ◌++◌, length, take, filter, slice_index}
+use Rattle.std.specs.Prelude.{EachIndex}
 use Rattle.std.specs.List.{count_by, flat_map, list_all, list_any}
 use Rattle.xlsx_graph.specs.Graph.{needs_of, order_of, reached, cycles_of}
 use Rattle.xlsx_graph.specs.Graph.{numbers_below, is_number_of}
@@ -10,11 +11,11 @@ use Rattle.xlsx_graph.specs.Graph.{numbers_below, is_number_of}
 abbrev pub are_within : List (List ℕ) → Bool
 are_within edges = list_all (λ ns. list_all (λ n. nat_lt n (length edges)) ns) edges
 
--- a formula needs itself, itself or through others
+-- a formula is on a cycle: it needs itself, at once or through others
 abbrev pub is_on_cycle : List (List ℕ) → ℕ → Bool
 is_on_cycle edges n = is_number_of (reached edges n) n
 
--- a formula is on no cycle, and needs one that is, itself or through others
+-- a formula is behind a cycle: it is on none, and needs one that is, at once or through others
 abbrev pub is_behind : List (List ℕ) → ℕ → Bool
 is_behind edges n = not (is_on_cycle edges n) && list_any (is_on_cycle edges) (reached edges n)
 

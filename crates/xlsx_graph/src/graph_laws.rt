@@ -1,12 +1,8 @@
 //! What holds of the order and of the cycles of all edges.
 ghost use Rattle.std.specs.Prelude.{◌≡◌, ℕ, Bool, List, true};
 ghost use Rattle.xlsx_graph.specs.Graph.{GraphFormula, is_number_of, needed, needs_of, reached};
-ghost use Rattle.xlsx_graph.specs.GraphLaws.{
-  EachStandsOnce,
-  NeedsStandBefore,
-  OthersHaveCycles,
-  are_within,
-};
+ghost use Rattle.xlsx_graph.specs.GraphLaws.{EachStandsOnce, NeedsStandBefore, OthersHaveCycles};
+ghost use Rattle.xlsx_graph.specs.GraphLaws.{are_within};
 
 /// The edges of a workbook's graph have the numbers of its formulas alone.
 pub fn needed_are_within()
@@ -34,13 +30,13 @@ pub fn needs_stand_before()
 {}
 
 /// Each formula that isn't in the order is on a cycle, or needs one that is, itself or through
-/// others.
+/// others. One that needs a number that is no formula's would be neither: so the edges are within.
 pub fn others_have_cycles()
     ensures { (edges : List (List ℕ)) → are_within edges ≡ true → OthersHaveCycles edges }
 {}
 
-/// Each formula is once in the order, on one cycle, or behind a cycle. So cycles have no formula in
-/// common.
+/// Each formula is once in the order, on one cycle, or behind a cycle, where the edges are within.
+/// So cycles have no formula in common.
 pub fn each_stands_once()
     ensures { (edges : List (List ℕ)) → are_within edges ≡ true → EachStandsOnce edges }
 {}
