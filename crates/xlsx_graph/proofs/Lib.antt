@@ -1,7 +1,9 @@
 pub mod Adding
+pub mod Agreeing
 pub mod Along
 pub mod Counting
 pub mod EdgesWithin
+pub mod Extending
 pub mod InBook
 pub mod Keeping
 pub mod Leaving
@@ -14,3 +16,4 @@ pub mod Ranging
 pub mod Reaching
 pub mod Rounds
 pub mod Settling
+pub mod Unnamed

@@ -3,4 +3,5 @@ pub mod GraphLaws
 pub mod GraphLines
 pub mod Kept
 pub mod Naming
+pub mod NamingLaws
 pub mod Told
