@@ -6,7 +6,7 @@ ghost use Rattle.formula_tokens.specs.Told.{place_told, named_told};
 ghost use Rattle.xlsx_graph.specs.Naming.{mention_meaning, function_meaning};
 ghost use Rattle.xlsx_graph.specs.Naming.{unvalued, place_alone, ranged, range_area};
 ghost use Rattle.xlsx_graph.specs.Kept.{Kept, Adds, IsBeyond, WhenTooLarge, none_open, Spends};
-ghost use Rattle.xlsx_graph.specs.Kept.{Gives};
+ghost use Rattle.xlsx_graph.specs.Kept.{Extends, Gives};
 ghost use Rattle.xlsx_graph.specs.Kept.{Opens, IsMark, GivesBack, IsRanging};
 ghost use Rattle.xlsx_graph.specs.Told.{open_told, word_text, meaning_told};
 
@@ -103,6 +103,7 @@ impl Findings {
     fn spend(&mut self, count: u64) -> Result<(), NamingError>
         ensures ok { OnOk result (Spends self.old self.new count) }
         ensures too_large { OnErr result (self.old.named_left < count) }
+        ensures same { OnErr result (self.new ≡ self.old) }
     {
         if self.named < count {
             return Err(NamingError::TooLarge);
@@ -115,6 +116,7 @@ impl Findings {
     pub(crate) fn spend_read(&mut self, bytes: usize) -> Result<(), NamingError>
         ensures ok { OnOk result (Adds self.old self.new (read_more bytes nothing_found)) }
         ensures too_large { OnErr result (self.old.read_left < bytes) }
+        ensures same { OnErr result (self.new ≡ self.old) }
     {
         let bytes = bytes as u64;
         if self.read < bytes {
@@ -126,7 +128,8 @@ impl Findings {
 
     /// Appends an area.
     pub(crate) fn push_area(&mut self, area: BookArea) -> Result<(), NamingError>
-        ensures { Gives result self.old self.new (area_found area) }
+        ensures gives { Gives result self.old self.new (area_found area) }
+        ensures front { OnErr result (Extends self.old self.new) }
     {
         let behind_first = area.last.saturating_sub(area.first) as u64;
         if self.named <= behind_first {
@@ -139,8 +142,9 @@ impl Findings {
 
     /// Appends a word that is left open.
     pub(crate) fn push_word(&mut self, cause: Cause, word: Word<'_>) -> Result<(), NamingError>
-        ensures { Gives result self.old self.new
+        ensures gives { Gives result self.old self.new
             (word_found cause (word_text word.entry)) }
+        ensures front { OnErr result (Extends self.old self.new) }
     {
         if self.named == 0 {
             return Err(NamingError::TooLarge);
@@ -236,6 +240,8 @@ impl Findings {
         ensures too_large { IfErr result (λ e. WhenTooLarge e
             ((kept : Kept) (a b : Found) → IsMark start kept →
             IsRanging kept middle self.old a b → IsBeyond kept (ranged a b))) }
+        ensures front { OnErr result ((kept : Kept) (a b : Found) → IsMark start kept →
+            IsRanging kept middle self.old a b → Extends kept self.new) }
         ensures opened { OnOk result (self.new.opened ≡ self.old.opened) }
     {
         match self.joined(start, middle) {

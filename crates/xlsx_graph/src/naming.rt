@@ -1,6 +1,6 @@
 //! What texts name in a workbook.
-ghost use Rattle.std.specs.Prelude.{◌≡◌, ◌<◌, ◌∷◌, ◌&&◌, OnOk, IfErr, MatchOption, MatchResult};
-ghost use Rattle.std.specs.Prelude.{length, drop};
+ghost use Rattle.std.specs.Prelude.{◌≡◌, ◌<◌, ◌∷◌, ◌&&◌, OnOk, OnErr, IfErr, MatchOption};
+ghost use Rattle.std.specs.Prelude.{MatchResult, length, drop};
 ghost use Rattle.std.specs.Prelude.{option_map, slice_get};
 ghost use Rattle.book_names.specs.Told.{name_told};
 ghost use Rattle.formula_tokens.specs.Items.{place_text, says, colon};
@@ -10,8 +10,8 @@ ghost use Rattle.xlsx_graph.specs.Naming.{function_found, range_found, item_foun
 ghost use Rattle.xlsx_graph.specs.Naming.{closes_next, before_next, is_place_asked, IsInBook};
 ghost use Rattle.xlsx_graph.specs.Naming.{Found, sign_found, numbered_found, range_length};
 ghost use Rattle.xlsx_graph.specs.Naming.{ranged_on};
-ghost use Rattle.xlsx_graph.specs.Kept.{Kept, Adds, Gives, IsBeyond, IsMark, WhenTooLarge};
-ghost use Rattle.xlsx_graph.specs.Kept.{none_open};
+ghost use Rattle.xlsx_graph.specs.Kept.{Kept, Adds, Extends, Gives, IsBeyond, IsMark};
+ghost use Rattle.xlsx_graph.specs.Kept.{WhenTooLarge, none_open};
 ghost use Rattle.xlsx_graph.specs.Told.{meaning_told, word_text};
 
 use crate::before::Before;
@@ -87,8 +87,9 @@ fn next_in_range<'a>(items: &mut Items<'a>) -> Option<(Place<'a>, Named<'a>)>
 
 /// Appends what is found of an item that is no mention and no function.
 fn push_sign(out: &mut Findings, item: Item<'_>) -> Result<(), NamingError>
-    ensures { Gives result out.old out.new
+    ensures gives { Gives result out.old out.new
         (sign_found (item_text item.entry)) }
+    ensures front { OnErr result (Extends out.old out.new) }
 {
     match item {
         Item::Colon => out.push_word(Cause::NoRange, Word::Name(Name::Plain(":"))),
@@ -129,8 +130,9 @@ fn push_name(
     word: &str,
 ) -> Result<(), NamingError>
     requires { reader.sheet < length book.now.sheets }
-    ensures { Gives result out.old out.new
+    ensures gives { Gives result out.old out.new
         (numbered_found turns book.now reader out.old.opened number word.now) }
+    ensures front { OnErr result (Extends out.old out.new) }
 {
     let Some(name) = defined_name(book, number) else {
         return out.push_word(Cause::NoName, Word::Name(Name::Plain(word)));
@@ -155,9 +157,10 @@ fn push_meaning(
     meaning: Meaning<'_>,
 ) -> Result<(), NamingError>
     requires { IsInBook book.now (meaning_told meaning) }
-    ensures { Gives result out.old out.new
+    ensures gives { Gives result out.old out.new
         (meaning_found (found_within turns book.now) book.now reader out.old.opened
         (meaning_told meaning.entry)) }
+    ensures front { OnErr result (Extends out.old out.new) }
 {
     match meaning {
         Meaning::Nothing => Ok(()),
@@ -185,9 +188,10 @@ fn push_mention(
     named: Named<'_>,
 ) -> Result<(), NamingError>
     requires { reader.sheet < length book.now.sheets }
-    ensures { Gives result out.old out.new
+    ensures gives { Gives result out.old out.new
         (mention_found turns book.now reader out.old.opened (place_told place.entry)
         (named_told named.entry)) }
+    ensures front { OnErr result (Extends out.old out.new) }
 {
     let meaning = out.mention_meaning(book, reader, place, named)?;
     push_meaning(out, book, reader, turns, meaning)
@@ -204,9 +208,10 @@ fn push_function(
     function: &str,
 ) -> Result<(), NamingError>
     requires { reader.sheet < length book.now.sheets }
-    ensures { Gives result out.old out.new
+    ensures gives { Gives result out.old out.new
         (function_found turns book.now reader out.old.opened (place_told place.entry)
         function.now) }
+    ensures front { OnErr result (Extends out.old out.new) }
 {
     let meaning = out.function_meaning(book, reader, place, function)?;
     push_meaning(out, book, reader, turns, meaning)
@@ -231,6 +236,8 @@ fn push_ends(
         IsMark start kept → Adds kept out.old f → IsBeyond kept
         (ranged_on (mention_found turns book.now reader out.old.opened) f
         (items_left items.old)))) }
+    ensures front { OnErr result ((kept : Kept) (f : Found) → IsMark start kept →
+        Adds kept out.old f → Extends kept out.new) }
     ensures items { OnOk result (items_left items.new
         ≡ drop (range_length (items_left items.old)) (items_left items.old)) }
 {
@@ -259,6 +266,7 @@ fn push_range(
         (range_found (mention_found turns book.now reader out.old.opened) before
         (mention_found turns book.now reader out.old.opened (place_told mention.entry.0)
         (named_told mention.entry.1)) (items_left items.old)) }
+    ensures front { OnErr result (Extends out.old out.new) }
     ensures items { OnOk result (items_left items.new
         ≡ drop (range_length (items_left items.old)) (items_left items.old)) }
 {
@@ -287,6 +295,7 @@ fn push_item(
         (item_found (mention_found turns book.now reader out.old.opened)
         (function_found turns book.now reader out.old.opened) before (item_text item.entry)
         (items_left items.old)) }
+    ensures front { OnErr result (Extends out.old out.new) }
     ensures items { OnOk result (items_left items.new
         ≡ drop (items_within (item_text item.entry) (items_left items.old))
         (items_left items.old)) }
@@ -310,8 +319,9 @@ fn push_text(
     text: &str,
 ) -> Result<(), NamingError>
     requires { reader.sheet < length book.now.sheets }
-    ensures { Gives result out.old out.new
+    ensures gives { Gives result out.old out.new
         (found_within turns book.now reader out.old.opened text.now) }
+    ensures front { OnErr result (Extends out.old out.new) }
 {
     if turns == 0 {
         return out.push_word(Cause::Endless, Word::Name(Name::Plain(text)));
@@ -336,7 +346,8 @@ fn push_text(
 ///
 /// `TooLarge` exactly where there is less room than the formula takes: room for each area as often
 /// as it has sheets, for each open word, and for the bytes of the texts of defined names that are
-/// read. Otherwise only want of memory is refused. After a refusal a part may be there.
+/// read. Otherwise only want of memory is refused. After a refusal what was there before still
+/// stands in front, and more may stand behind it.
 pub fn push_named(
     out: &mut Findings,
     book: &BookNames,
@@ -345,7 +356,8 @@ pub fn push_named(
 ) -> Result<(), NamingError>
     requires sheet { cell.sheet < length book.now.sheets }
     requires closed { out.old.opened ≡ none_open book.now }
-    ensures { Gives result out.old out.new (named_in book.now cell formula.now) }
+    ensures gives { Gives result out.old out.new (named_in book.now cell formula.now) }
+    ensures front { OnErr result (Extends out.old out.new) }
 {
     let reader = Reader {
         cell,

@@ -10,6 +10,7 @@ use Rattle.xlsx_graph.specs.Kept.{Adds, Gives}
 use Rattle.xlsx_graph.specs.declared.before.Before.TheVariants.{AnyOther}
 use Rattle.xlsx_graph.proofs.Along.{text_step, text_refused, text_zero, text_along, counts_start}
 use Rattle.xlsx_graph.proofs.Along.{counts_end}
+use Rattle.xlsx_graph.proofs.Extending.{extends_by, extends_on, extends_same, on_refusal}
 use Rattle.xlsx_graph.proofs.InBook.{mention_in_book, function_in_book}
 use Rattle.xlsx_graph.proofs.Opening.{adds_name, numbered_closed}
 use Rattle.xlsx_graph.proofs.Ranging.{range_refused, range_gives, end_refused, join_refused}
@@ -26,7 +27,7 @@ push_ends-returns-in_err-push_mention-clause-too_large t c =
     (items_left c.ends.items) (items_left c.next_in_range.new.items) c.args.out.now c.ends.out
     c.give_back.new.self c.args.start (place_told c.in-Some.place) (named_told c.in-Some.named)
     (c.give_back.ensures.opened ∙ c.ends.invariant.opened) c.ends.invariant.so_far
-    c.in-Some.ensures c.give_back.ensures c.in_err-push_mention.ensures)
+    c.in-Some.ensures c.give_back.ensures c.in_err-push_mention.ensures.gives)
 
 pub push_ends-ends-preserved : goal.push_ends-ends-preserved
 push_ends-ends-preserved t c = record {
@@ -38,13 +39,13 @@ push_ends-ends-preserved t c = record {
       (place_told c.in-Some.place) (named_told c.in-Some.named)
       (c.give_back.ensures.opened ∙ c.ends.invariant.opened) c.ends.invariant.so_far
       c.in-Some.ensures c.mark-middle.ensures c.give_back.ensures
-      c.in_ok-push_mention.ensures c.in_ok-join.ensures.ok;
+      c.in_ok-push_mention.ensures.gives c.in_ok-join.ensures.ok;
   behind =
       behind_step (items_left c.ends.items) (items_left c.next_in_range.new.items)
       (place_told c.in-Some.place) (named_told c.in-Some.named) c.in-Some.ensures
       ∙ c.ends.invariant.behind;
   opened =
-      c.in_ok-join.ensures.opened ∙ c.in_ok-push_mention.ensures.opened
+      c.in_ok-join.ensures.opened ∙ c.in_ok-push_mention.ensures.gives.opened
       ∙ c.give_back.ensures.opened ∙ c.ends.invariant.opened;
 }
 
@@ -62,7 +63,7 @@ push_ends-returns-in_err-join-clause-too_large t c =
     (place_told c.in-Some.place) (named_told c.in-Some.named)
     (c.give_back.ensures.opened ∙ c.ends.invariant.opened) c.ends.invariant.so_far
     c.in-Some.ensures c.mark-middle.ensures c.give_back.ensures
-    c.in_ok-push_mention.ensures c.in_err-join.ensures.too_large)
+    c.in_ok-push_mention.ensures.gives c.in_err-join.ensures.too_large)
 
 pub push_function-push_meaning-requires : goal.push_function-push_meaning-requires
 push_function-push_meaning-requires t c =
@@ -81,8 +82,8 @@ push_mention-push_meaning-requires t c = (
       (named_told c.args.named) c.requires),
 )
 
-pub push_name-returns : goal.push_name-returns
-push_name-returns t c =
+pub push_name-returns-clause-gives : goal.push_name-returns-clause-gives
+push_name-returns-clause-gives t c =
     let n = c.args.number in
     let name = c.in-Some.name.now in
     let text = string_bytes name.text in
@@ -103,7 +104,7 @@ push_name-returns t c =
     (subst
     (λ own. Adds c.set_open.new.self c.push_text.new.out
     (found_within c.args.turns c.args.book.now c.args.reader c.set_open.new.self.opened own))
-    same c.in_ok-push_text.ensures) in
+    same c.in_ok-push_text.ensures.gives) in
     let closed = sym c.is_open.ensures ∙ c.if-is_open.false in
     subst (Adds c.args.out.now c.set_open-2.new.self)
     (numbered_closed c.args.turns c.args.book.now c.args.reader c.args.out.now.opened n
@@ -122,7 +123,7 @@ push_range-returns-in_err-push_mention-clause-gives t c =
     c.args.before
     (mention_found c.args.turns c.args.book.now c.args.reader c.args.out.now.opened
     (place_told c.args.mention.0) (named_told c.args.mention.1))
-    (items_left c.args.items.now) c.args.out.now c.in_err-push_mention.ensures)
+    (items_left c.args.items.now) c.args.out.now c.in_err-push_mention.ensures.gives)
 
 pub push_range-returns-clause-gives : goal.push_range-returns-clause-gives
 push_range-returns-clause-gives t c =
@@ -131,16 +132,17 @@ push_range-returns-clause-gives t c =
     (mention_found c.args.turns c.args.book.now c.args.reader c.args.out.now.opened
     (place_told c.args.mention.0) (named_told c.args.mention.1))
     (items_left c.args.items.now) c.mark-start.result c.args.out.now c.push_mention.new.out
-    c.push_ends.new.out c.in_ok-push_mention.ensures.opened c.mark-start.ensures
-    c.in_ok-push_mention.ensures (sym c.asks_alone.ensures ∙ c.if-asks_alone.false)
+    c.push_ends.new.out c.in_ok-push_mention.ensures.gives.opened c.mark-start.ensures
+    c.in_ok-push_mention.ensures.gives (sym c.asks_alone.ensures ∙ c.if-asks_alone.false)
     c.push_ends.ensures.ok c.push_ends.ensures.too_large
 
-pub push_text-returns-then-turns-eq0 : goal.push_text-returns-then-turns-eq0
-push_text-returns-then-turns-eq0 t c =
+pub push_text-returns-then-turns-eq0-clause-gives :
+    goal.push_text-returns-then-turns-eq0-clause-gives
+push_text-returns-then-turns-eq0-clause-gives t c =
     subst (Gives c.push_word.result c.args.out.now c.push_word.new.self)
     (text_zero c.args.turns c.args.book.now c.args.reader c.args.out.now.opened c.args.text.now
     c.if-turns-eq0.true)
-    c.push_word.ensures
+    c.push_word.ensures.gives
 
 pub push_text-items-init : goal.push_text-items-init
 push_text-items-init t c = record {
@@ -159,11 +161,13 @@ push_text-items-init t c = record {
       (function_found (c.args.turns - 1) c.args.book.now c.args.reader c.args.out.now.opened)
       AnyOther 0)
       (sym c.new-items.ensures));
+  front = extends_same c.args.out.now c.args.out.now refl refl;
   opened = refl;
 }
 
-pub push_text-returns-in_err-push_item : goal.push_text-returns-in_err-push_item
-push_text-returns-in_err-push_item t c =
+pub push_text-returns-in_err-push_item-clause-gives :
+    goal.push_text-returns-in_err-push_item-clause-gives
+push_text-returns-in_err-push_item-clause-gives t c =
     let p = err_from_is_err_and c.from_residual.result c.from_residual.ensures.1 in
     rw (p.1, p.2)
     (text_refused c.in_err-push_item.field-0.0 (c.args.turns - 1) c.args.book.now c.args.reader
@@ -186,11 +190,14 @@ push_text-items-preserved t c = record {
       c.items.invariant.opened c.items.invariant.counts c.in-Some.ensures.steps
       c.in_ok-push_item.ensures.gives c.in_ok-push_item.ensures.items
       c.before_next-before.ensures;
+  front =
+      extends_on c.args.out.now c.items.out c.push_item.new.out c.items.invariant.front
+      (extends_by c.items.out c.push_item.new.out _ c.in_ok-push_item.ensures.gives);
   opened = c.in_ok-push_item.ensures.gives.opened ∙ c.items.invariant.opened;
 }
 
-pub push_text-returns : goal.push_text-returns
-push_text-returns t c =
+pub push_text-returns-clause-gives : goal.push_text-returns-clause-gives
+push_text-returns-clause-gives t c =
     counts_end
     (mention_found (c.args.turns - 1) c.args.book.now c.args.reader c.args.out.now.opened)
     (function_found (c.args.turns - 1) c.args.book.now c.args.reader c.args.out.now.opened)
@@ -198,3 +205,28 @@ push_text-returns t c =
     (found_within c.args.turns c.args.book.now c.args.reader c.args.out.now.opened
     c.args.text.now)
     c.items.invariant.counts c.in_default.ensures.steps.0
+
+pub push_function-returns-in_err-meaning-clause-front :
+    goal.push_function-returns-in_err-meaning-clause-front
+push_function-returns-in_err-meaning-clause-front t c =
+    on_refusal c.from_residual.result _
+    (extends_same c.args.out.now _ (search rules) (search rules))
+
+pub push_mention-returns-in_err-meaning-clause-front :
+    goal.push_mention-returns-in_err-meaning-clause-front
+push_mention-returns-in_err-meaning-clause-front t c =
+    on_refusal c.from_residual.result _
+    (extends_same c.args.out.now _ (search rules) (search rules))
+
+pub push_name-returns-in_err-spend_read-clause-front :
+    goal.push_name-returns-in_err-spend_read-clause-front
+push_name-returns-in_err-spend_read-clause-front t c =
+    on_refusal c.from_residual.result _
+    (extends_same c.args.out.now _ (search rules) (search rules))
+
+pub push_text-returns-in_err-push_item-clause-front :
+    goal.push_text-returns-in_err-push_item-clause-front
+push_text-returns-in_err-push_item-clause-front t c =
+    on_refusal c.from_residual.result _
+    (extends_on c.args.out.now c.items.out c.push_item.new.out c.items.invariant.front
+    (search rules))

@@ -1,6 +1,6 @@
 use Rattle.std.proofs.Common.{◌≡◌, ◌+◌, ◌-◌, ◌*◌, drop, length}
 use Rattle.formula_tokens.specs.Told.{items_left}
-use Rattle.xlsx_graph.specs.Kept.{Kept, Adds, IsMark}
+use Rattle.xlsx_graph.specs.Kept.{Kept, Adds, Extends, IsMark}
 use Rattle.xlsx_graph.specs.Naming.{Found, found_within, mention_found, function_found}
 use Rattle.xlsx_graph.specs.Naming.{range_length}
 use Rattle.xlsx_graph.proofs.Along.{Counts}
@@ -37,6 +37,7 @@ invariant-push_text-items l = record {
       (function_found (l.turns - 1) l.book l.reader l.fn.out.opened) l.before
       (items_left l.items) l.fn.out l.out
       (found_within l.turns l.book l.reader l.fn.out.opened l.text);
+  front : Extends l.fn.out l.out;
   opened : l.out.opened ≡ l.fn.out.opened;
 }
 

@@ -20,7 +20,7 @@ returns-in_ok-spend-in-None-clause-ok c =
     (c.args.start.named - c.args.middle.named) =
     search rules in
     word_ok c.push_word.result c.args.self.now c.spend.new.self c.push_word.new.self c.args.start
-    c.args.middle c.in-None.ensures spends c.push_word.ensures
+    c.args.middle c.in-None.ensures spends c.push_word.ensures.gives
 
 pub returns-in_ok-spend-in-None-clause-too_large :
     goal.returns-in_ok-spend-in-None-clause-too_large
@@ -29,4 +29,4 @@ returns-in_ok-spend-in-None-clause-too_large c =
     (c.args.start.named - c.args.middle.named) =
     search rules in
     word_large c.push_word.result c.args.self.now c.spend.new.self c.push_word.new.self
-    c.args.start c.args.middle c.in-None.ensures spends c.push_word.ensures
+    c.args.start c.args.middle c.in-None.ensures spends c.push_word.ensures.gives
