@@ -8,7 +8,7 @@ use Rattle.std.proofs.lemmas.List.{length-map}
 use Rattle.std.proofs.lemmas.List.Folds.{list_all-map}
 use Rattle.std.proofs.lemmas.List.Sums.{list_all-from_AllPass}
 use Rattle.xlsx_graph.specs.Graph.{GraphFormula, needed, needs, numbers_needed}
-use Rattle.xlsx_graph.specs.GraphLaws.{are_within}
+use Rattle.calculation_order.specs.OrderLaws.{are_within}
 
 all_below : (most from : ℕ) (formulas : List GraphFormula) (f : GraphFormula)
     → from + length formulas ≤ most

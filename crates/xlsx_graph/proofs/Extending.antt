@@ -4,14 +4,15 @@ use Rattle.std.specs.Prelude.{Result, Ok, Err, OnErr}
 use Rattle.xlsx_graph.specs.Naming.{Found}
 use Rattle.xlsx_graph.specs.Kept.{Kept, Adds, Extends}
 
--- the same areas and words are kept
+-- the same areas and words are kept, and the same names are open
 pub extends_same : (old new : Kept) → new.areas ≡ old.areas → new.words ≡ old.words →
-    Extends old new
-extends_same old new areas words = record {
+    new.opened ≡ old.opened → Extends old new
+extends_same old new areas words opened = record {
   more_areas = [];
   more_words = [];
   areas = areas ∙ sym (append-nil old.areas);
   words = words ∙ sym (append-nil old.words);
+  opened = opened;
 }
 
 -- what was found is behind what was kept
@@ -21,6 +22,7 @@ extends_by old new f adds = record {
   more_words = f.words;
   areas = adds.areas;
   words = adds.words;
+  opened = adds.opened;
 }
 
 -- one step behind the other
@@ -34,6 +36,7 @@ extends_on a b c first second = record {
   words =
       second.words ∙ ap (λ xs. xs ++ second.more_words) first.words
       ∙ append_assoc a.words first.more_words second.more_words;
+  opened = second.opened ∙ first.opened;
 }
 
 -- what holds of a call that is refused

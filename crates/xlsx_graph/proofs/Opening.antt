@@ -1,7 +1,7 @@
 -- The text of a defined name is read while it is open.
 use Rattle.std.proofs.Common.{◌≡◌, ℕ, zero, suc, ◌+◌, Bool, true, false, List, [], ◌∷◌, ◌++◌}
 use Rattle.std.proofs.Common.{refl, sym, ap, ◌∙◌, arith, append-nil, get_or, set, length, inl, inr}
-use Rattle.std.specs.Prelude.{Some, None, map, position, slice_get}
+use Rattle.std.specs.Prelude.{Some, None, map, position, slice_get, Result, Ok, Err, OnErr}
 use Rattle.std.specs.List.{position_or_len}
 use Rattle.std.proofs.Common.{cond, nat_lt, not}
 use Rattle.book_names.specs.declared.book.TableShape.{TableShape}
@@ -15,7 +15,9 @@ use Rattle.xlsx_graph.specs.declared.named.Cause.TheVariants.{NoName, Endless}
 use Rattle.xlsx_graph.specs.Naming.{word_found, numbered_found, name_found, found_within}
 use Rattle.xlsx_graph.specs.Naming.{stands_in, unvalued}
 use Rattle.xlsx_graph.specs.Naming.{Found, nothing_found, read_more}
-use Rattle.xlsx_graph.specs.Kept.{Kept, Adds, IsBeyond, Opens}
+use Rattle.xlsx_graph.specs.Kept.{Kept, Adds, Extends, Gives, IsBeyond, Opens}
+use Rattle.xlsx_graph.specs.declared.error.NamingError.{NamingError}
+use Rattle.xlsx_graph.specs.declared.error.NamingError.TheVariants.{TooLarge, OutOfMemory}
 
 -- a name that wasn't open is opened and closed
 pub closed_again : (xs : List Bool) (n : ℕ) → get_or xs n false ≡ false →
@@ -50,6 +52,37 @@ beyond_name a b c n bytes f read opens (inl lt) =
     inl (omega (arith, opens.named, read.named, lt))
 beyond_name a b c n bytes f read opens (inr lt) =
     inr (omega (arith, opens.read, read.read, lt))
+
+-- so what the call answers that reads the text is what is answered of the name
+pub gives_name : {T : Type 0} (answer : Result T NamingError) (a b c d e : Kept) (n bytes : ℕ)
+    (f : Found) → get_or a.opened n false ≡ false → Adds a b (read_more bytes nothing_found) →
+    Opens b c n true → Gives answer c d f → Opens d e n false →
+    Gives answer a e (read_more bytes f)
+gives_name (Ok value) a b c d e n bytes f closed read opens gives closes =
+    adds_name a b c d e n bytes f closed read opens gives closes
+gives_name (Err TooLarge) a b c d e n bytes f closed read opens gives closes =
+    beyond_name a b c n bytes f read opens gives
+gives_name (Err OutOfMemory) a b c d e n bytes f closed read opens gives closes = tt
+
+-- and what was kept stands in front, with the same names open
+pub front_name : {T : Type 0} (answer : Result T NamingError) (a b c d e : Kept) (n bytes : ℕ) →
+    get_or a.opened n false ≡ false → Adds a b (read_more bytes nothing_found) →
+    Opens b c n true → OnErr answer (Extends c d) → Opens d e n false →
+    OnErr answer (Extends a e)
+front_name (Ok value) a b c d e n bytes closed read opens more closes = tt
+front_name (Err error) a b c d e n bytes closed read opens more closes = record {
+  more_areas = more.more_areas;
+  more_words = more.more_words;
+  areas =
+      closes.areas ∙ more.areas
+      ∙ ap (λ xs. xs ++ more.more_areas) (opens.areas ∙ read.areas ∙ append-nil a.areas);
+  words =
+      closes.words ∙ more.words
+      ∙ ap (λ xs. xs ++ more.more_words) (opens.words ∙ read.words ∙ append-nil a.words);
+  opened =
+      closes.opened ∙ ap (λ xs. set xs n false) (more.opened ∙ opens.opened)
+      ∙ ap (λ xs. set (set xs n true) n false) read.opened ∙ closed_again a.opened n closed;
+}
 
 -- ---- places in lists
 

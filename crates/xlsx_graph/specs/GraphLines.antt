@@ -7,8 +7,9 @@ use Rattle.escaped_text.specs.Escaped.{escaped}
 use Rattle.list_lines.specs.Fields.{area_field, next_field}
 use Rattle.book_names.specs.Book.{Book}
 use Rattle.xlsx_graph.specs.Naming.{OpenText}
-use Rattle.xlsx_graph.specs.Graph.{GraphFormula, needed, order_of, cycles_of, reached}
-use Rattle.xlsx_graph.specs.Graph.{numbers_below, is_number_of}
+use Rattle.calculation_order.specs.Edges.{order_of, cycles_of, reached, numbers_below}
+use Rattle.calculation_order.specs.Edges.{is_number_of}
+use Rattle.xlsx_graph.specs.Graph.{GraphFormula, dependents_at, needed}
 use Rattle.xlsx_graph.specs.declared.named.BookArea.{BookArea}
 use Rattle.xlsx_graph.specs.declared.named.Cause.{Cause}
 use Rattle.xlsx_graph.specs.declared.named.Cause.TheVariants.{Computed, External, Gone, NoSheet}
@@ -127,3 +128,12 @@ cycle_line book formulas (n ∷ ns) =
 unfoldable pub cycles_lines : Book → List GraphFormula → List ℕ
 cycles_lines book formulas =
     flat_map (cycle_line book formulas) (cycles_of (needed formulas))
+
+-- the line of a formula by its number: its cell
+abbrev pub numbered_line : Book → List GraphFormula → ℕ → List ℕ
+numbered_line book formulas n = cell_numbered book formulas n ++ codes "\n"
+
+-- a line for each formula that needs the value of a cell, itself or through others
+unfoldable pub dependents_lines : Book → List GraphFormula → Standing → List ℕ
+dependents_lines book formulas s =
+    flat_map (numbered_line book formulas) (dependents_at formulas s)

@@ -26,12 +26,13 @@ pub record Adds (old new : Kept) (f : Found) : Type 0 where
   pub read : new.read_left + f.read ≡ old.read_left
   pub opened : new.opened ≡ old.opened
 
--- what was kept stands in front of what is kept
+-- what was kept stands in front of what is kept, and the same defined names are open
 pub record Extends (old new : Kept) : Type 0 where
   pub more_areas : List BookArea
   pub more_words : List OpenText
   pub areas : new.areas ≡ old.areas ++ more_areas
   pub words : new.words ≡ old.words ++ more_words
+  pub opened : new.opened ≡ old.opened
 
 -- more is found than there is room for
 abbrev pub IsBeyond : Kept → Found → Type 0

@@ -1,7 +1,9 @@
+pub mod Gathered
 pub mod Graph
-pub mod GraphLaws
 pub mod GraphLines
+pub mod Hulls
 pub mod Kept
 pub mod Naming
 pub mod NamingLaws
 pub mod Told
+pub mod Tree

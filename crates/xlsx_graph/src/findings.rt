@@ -99,6 +99,16 @@ impl Findings {
         &self.found_words
     }
 
+    /// How many areas there are, how many open words, and how many more bytes of defined names may
+    /// be read.
+    pub(crate) fn counts(&self) -> (usize, usize, u64)
+        ensures areas { result.0 ≡ length self.now.areas }
+        ensures words { result.1 ≡ length self.now.words }
+        ensures read { result.2 ≡ self.now.read_left }
+    {
+        (self.found_areas.len(), self.found_words.len(), self.read)
+    }
+
     /// Takes room for so much more that is named.
     fn spend(&mut self, count: u64) -> Result<(), NamingError>
         ensures ok { OnOk result (Spends self.old self.new count) }

@@ -1,42 +1,26 @@
-//! What holds of the order and of the cycles of all edges.
-ghost use Rattle.std.specs.Prelude.{◌≡◌, ℕ, Bool, List, true};
-ghost use Rattle.xlsx_graph.specs.Graph.{GraphFormula, is_number_of, needed, needs_of, reached};
-ghost use Rattle.xlsx_graph.specs.GraphLaws.{EachStandsOnce, NeedsStandBefore, OthersHaveCycles};
-ghost use Rattle.xlsx_graph.specs.GraphLaws.{are_within};
+//! What holds of the graphs of all workbooks.
+ghost use Rattle.std.specs.Prelude.{◌≡◌, ◌∷◌, ◌++◌, ℕ, List, false, true};
+ghost use Rattle.calculation_order.specs.OrderLaws.{are_within};
+ghost use Rattle.xlsx_graph.specs.Gathered.{Gathered, Gathers, IsMeasured, IsOver, is_too_large};
+ghost use Rattle.xlsx_graph.specs.Gathered.{nothing_gathered};
+ghost use Rattle.xlsx_graph.specs.Graph.{GraphFormula, needed};
 
 /// The edges of a workbook's graph have the numbers of its formulas alone.
 pub fn needed_are_within()
     ensures { (formulas : List GraphFormula) → are_within (needed formulas) ≡ true }
 {}
 
-/// What a formula reaches is what it needs itself, and what those need that it reaches; and no
-/// more, so it is within all that has both.
-pub fn reached_is_all_needed()
-    ensures itself { (edges : List (List ℕ)) (n m : ℕ)
-        → is_number_of (needs_of edges n) m ≡ true → is_number_of (reached edges n) m ≡ true }
-    ensures through { (edges : List (List ℕ)) → are_within edges ≡ true → (n k m : ℕ)
-        → is_number_of (reached edges n) k ≡ true → is_number_of (needs_of edges k) m ≡ true
-        → is_number_of (reached edges n) m ≡ true }
-    ensures alone { (edges : List (List ℕ)) (is_in : ℕ → Bool)
-        → ((k m : ℕ) → is_in k ≡ true → is_number_of (needs_of edges k) m ≡ true
-        → is_in m ≡ true)
-        → (n : ℕ) → ((m : ℕ) → is_number_of (needs_of edges n) m ≡ true → is_in m ≡ true)
-        → (m : ℕ) → is_number_of (reached edges n) m ≡ true → is_in m ≡ true }
-{}
-
-/// Of each formula in the order all that it needs stands before it.
-pub fn needs_stand_before()
-    ensures { (edges : List (List ℕ)) → NeedsStandBefore edges }
-{}
-
-/// Each formula that isn't in the order is on a cycle, or needs one that is, itself or through
-/// others. One that needs a number that is no formula's would be neither: so the edges are within.
-pub fn others_have_cycles()
-    ensures { (edges : List (List ℕ)) → are_within edges ≡ true → OthersHaveCycles edges }
-{}
-
-/// Each formula is once in the order, on one cycle, or behind a cycle, where the edges are within.
-/// So cycles have no formula in common.
-pub fn each_stands_once()
-    ensures { (edges : List (List ℕ)) → are_within edges ≡ true → EachStandsOnce edges }
+/// Formulas that are gathered one after the other are refused for a limit exactly where those of
+/// the workbook are too large together: while they are gathered the room that is left is that of a
+/// workbook without what they take, so they aren't too large; and where the next one takes more
+/// than that, they are, whatever stands behind it.
+pub fn formulas_are_refused_together()
+    ensures none { (names : ℕ) → IsMeasured (nothing_gathered names) }
+    ensures one { (old new : Gathered) (f : GraphFormula) → IsMeasured old → Gathers old new f →
+        IsMeasured new }
+    ensures fits { (gathered : Gathered) → IsMeasured gathered →
+        is_too_large gathered.formulas ≡ false }
+    ensures over { (gathered : Gathered) (f : GraphFormula) (rest : List GraphFormula) →
+        IsMeasured gathered → IsOver gathered f →
+        is_too_large (gathered.formulas ++ f ∷ rest) ≡ true }
 {}

@@ -142,9 +142,9 @@ fn push_name(
     }
     out.spend_read(name.text.len())?;
     out.set_open(number, true);
-    push_text(out, book, reader, turns, &name.text)?;
+    let pushed = push_text(out, book, reader, turns, &name.text);
     out.set_open(number, false);
-    Ok(())
+    pushed
 }
 
 /// Appends what is found of what a mention means.
@@ -347,7 +347,7 @@ fn push_text(
 /// `TooLarge` exactly where there is less room than the formula takes: room for each area as often
 /// as it has sheets, for each open word, and for the bytes of the texts of defined names that are
 /// read. Otherwise only want of memory is refused. After a refusal what was there before still
-/// stands in front, and more may stand behind it.
+/// stands in front, more may stand behind it, and no defined name is open.
 pub fn push_named(
     out: &mut Findings,
     book: &BookNames,

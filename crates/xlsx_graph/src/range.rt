@@ -6,7 +6,7 @@ use crate::named::BookArea;
 use cell_refs::Dimensions;
 
 /// The least area that has two.
-fn hull(a: Dimensions, b: Dimensions) -> Dimensions
+pub(crate) fn hull(a: Dimensions, b: Dimensions) -> Dimensions
     ensures { result ≡ hull a b }
 {
     Dimensions {

@@ -21,7 +21,7 @@ pub(crate) enum Word<'a> {
 }
 
 /// What stands before the first apostrophe, and what behind it, if there is one.
-fn split_first(text: &str) -> Option<(&str, &str)>
+pub(crate) fn split_first(text: &str) -> Option<(&str, &str)>
     ensures { MatchOption result (position_or_len is_apostrophe text.now ≡ length text.now)
         (λ parts. (position_or_len is_apostrophe text.now < length text.now)
         × (parts.0.now ≡ before_first is_apostrophe text.now)

@@ -12,7 +12,7 @@ use Rattle.xlsx_graph.proofs.Along.{text_step, text_refused, text_zero, text_alo
 use Rattle.xlsx_graph.proofs.Along.{counts_end}
 use Rattle.xlsx_graph.proofs.Extending.{extends_by, extends_on, extends_same, on_refusal}
 use Rattle.xlsx_graph.proofs.InBook.{mention_in_book, function_in_book}
-use Rattle.xlsx_graph.proofs.Opening.{adds_name, numbered_closed}
+use Rattle.xlsx_graph.proofs.Opening.{front_name, gives_name, numbered_closed}
 use Rattle.xlsx_graph.proofs.Ranging.{range_refused, range_gives, end_refused, join_refused}
 use Rattle.xlsx_graph.proofs.Ranging.{end_step, behind_step}
 use Rattle.xlsx_graph.proofs.naming.+naming.Goals as goal
@@ -94,24 +94,32 @@ push_name-returns-clause-gives t c =
     c.in_ok-spend_read.ensures.ok in
     let opens : c.set_open.new.self.opened ≡ set c.args.out.now.opened n true =
     c.set_open.ensures.opened ∙ ap (λ xs. set xs n true) read.opened in
-    let adds : Adds c.set_open.new.self c.push_text.new.out
+    let gives : Gives c.push_text-pushed.result c.set_open.new.self c.push_text-pushed.new.out
     (found_within c.args.turns c.args.book.now c.args.reader
     (set c.args.out.now.opened n true) text) =
     subst
-    (λ o. Adds c.set_open.new.self c.push_text.new.out
+    (λ o. Gives c.push_text-pushed.result c.set_open.new.self c.push_text-pushed.new.out
     (found_within c.args.turns c.args.book.now c.args.reader o text))
     opens
     (subst
-    (λ own. Adds c.set_open.new.self c.push_text.new.out
+    (λ own. Gives c.push_text-pushed.result c.set_open.new.self c.push_text-pushed.new.out
     (found_within c.args.turns c.args.book.now c.args.reader c.set_open.new.self.opened own))
-    same c.in_ok-push_text.ensures.gives) in
+    same c.push_text-pushed.ensures.gives) in
     let closed = sym c.is_open.ensures ∙ c.if-is_open.false in
-    subst (Adds c.args.out.now c.set_open-2.new.self)
+    subst (Gives c.push_text-pushed.result c.args.out.now c.set_open-2.new.self)
     (numbered_closed c.args.turns c.args.book.now c.args.reader c.args.out.now.opened n
     c.args.word.now (name_told name) (sym c.in-Some.ensures) closed)
-    (adds_name c.args.out.now c.spend_read.new.self c.set_open.new.self c.push_text.new.out
-    c.set_open-2.new.self n (length text) _ closed read c.set_open.ensures adds
-    c.set_open-2.ensures)
+    (gives_name c.push_text-pushed.result c.args.out.now c.spend_read.new.self
+    c.set_open.new.self c.push_text-pushed.new.out c.set_open-2.new.self n (length text) _ closed
+    read c.set_open.ensures gives c.set_open-2.ensures)
+
+pub push_name-returns-clause-front : goal.push_name-returns-clause-front
+push_name-returns-clause-front t c =
+    let closed = sym c.is_open.ensures ∙ c.if-is_open.false in
+    front_name c.push_text-pushed.result c.args.out.now c.spend_read.new.self
+    c.set_open.new.self c.push_text-pushed.new.out c.set_open-2.new.self c.args.number _ closed
+    c.in_ok-spend_read.ensures.ok c.set_open.ensures c.push_text-pushed.ensures.front
+    c.set_open-2.ensures
 
 pub push_range-returns-in_err-push_mention-clause-gives :
     goal.push_range-returns-in_err-push_mention-clause-gives
@@ -161,7 +169,7 @@ push_text-items-init t c = record {
       (function_found (c.args.turns - 1) c.args.book.now c.args.reader c.args.out.now.opened)
       AnyOther 0)
       (sym c.new-items.ensures));
-  front = extends_same c.args.out.now c.args.out.now refl refl;
+  front = extends_same c.args.out.now c.args.out.now refl refl refl;
   opened = refl;
 }
 
@@ -210,19 +218,19 @@ pub push_function-returns-in_err-meaning-clause-front :
     goal.push_function-returns-in_err-meaning-clause-front
 push_function-returns-in_err-meaning-clause-front t c =
     on_refusal c.from_residual.result _
-    (extends_same c.args.out.now _ (search rules) (search rules))
+    (extends_same c.args.out.now _ (search rules) (search rules) (search rules))
 
 pub push_mention-returns-in_err-meaning-clause-front :
     goal.push_mention-returns-in_err-meaning-clause-front
 push_mention-returns-in_err-meaning-clause-front t c =
     on_refusal c.from_residual.result _
-    (extends_same c.args.out.now _ (search rules) (search rules))
+    (extends_same c.args.out.now _ (search rules) (search rules) (search rules))
 
 pub push_name-returns-in_err-spend_read-clause-front :
     goal.push_name-returns-in_err-spend_read-clause-front
 push_name-returns-in_err-spend_read-clause-front t c =
     on_refusal c.from_residual.result _
-    (extends_same c.args.out.now _ (search rules) (search rules))
+    (extends_same c.args.out.now _ (search rules) (search rules) (search rules))
 
 pub push_text-returns-in_err-push_item-clause-front :
     goal.push_text-returns-in_err-push_item-clause-front
