@@ -54,8 +54,13 @@ TOLD = {
 OF_TEXT = "the bytes of the text that is appended"
 OF_EVENTS = "the texts of the event that is kept, and one or two events"
 OF_CELLS = "the cells that are held"
+OF_FORMULAS = "the formulas that are held"
 RESERVED = {
     ("attr_text/line_ends.rt", "push_line_ends", 1): OF_TEXT,
+    ("calculation_order/cycles.rt", "lists", 1): OF_FORMULAS,
+    ("calculation_order/firsts.rt", "firsts_around", 1): OF_FORMULAS,
+    ("calculation_order/plain_cycles.rt", "firsts_plainly", 1): OF_FORMULAS,
+    ("calculation_order/turns.rt", "no_turns", 1): OF_FORMULAS,
     ("cell_data/gathered.rt", "sorted_of", 1): OF_CELLS,
     ("cell_refs/reference_text.rt", "push_reference", 1): "a reference of a worksheet, 10 bytes",
     ("decimals/decimal.rt", "push_to", 1): "the longest text of a decimal, 61 bytes",
@@ -67,7 +72,11 @@ RESERVED = {
     ("xlsx_core/ranges.rt", "with_texts", 1): OF_CELLS,
     ("xlsx_core/ranges.rt", "written_out", 1): OF_CELLS,
     ("xlsx_core/shown_sheet.rt", "shown_texts", 1): OF_CELLS,
-    ("xlsx_precedents/index.rt", "gather", 1): "the formulas that are held",
+    ("xlsx_graph/leaves.rt", "arranged", 1): OF_FORMULAS,
+    ("xlsx_graph/leaves.rt", "by_numbers", 1): OF_FORMULAS,
+    ("xlsx_graph/leaves.rt", "places", 1): OF_FORMULAS,
+    ("xlsx_graph/workbook_graph.rt", "asking", 1): OF_FORMULAS,
+    ("xlsx_precedents/index.rt", "gather", 1): OF_FORMULAS,
     ("xlsx_precedents/numbers.rt", "no_numbers", 1): "the blocks of a worksheet, 1,024",
     ("xlsx_tool/sink.rt", "new", 1): "the room of a sink of tests, which its caller names",
 }
