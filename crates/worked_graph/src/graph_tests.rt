@@ -95,7 +95,9 @@ fn graph_of(alloc: Global, book: &BookNames, table: &str) -> Result<WorkbookGrap
             row: covers.start.0,
             column: covers.start.1,
         };
-        graph.push(book, cell, covers, formula)?;
+        if cell.sheet < book.sheet_names().len() {
+            graph.push(book, cell, covers, formula)?;
+        }
     }
     Ok(graph)
 }
@@ -195,6 +197,7 @@ fn an_array_over_too_many_cells_is_too_large(rt: HostRuntime) -> Result<(), Fail
         row: 0,
         column: 0,
     };
+    assert!(rt; cell.sheet < book.sheet_names().len());
     let mut graph = WorkbookGraph::new(alloc, &book)?;
     graph.push(&book, cell, columns_of(1_024), "1")?;
     assert_eq!(rt; graph.len(), 1);
