@@ -26,8 +26,8 @@ use Rattle.xlsx_sections.proofs.ElementsRead.{own_end}
 use Rattle.xlsx_sections.proofs.Refused.{refused_by}
 use Rattle.xlsx_values.specs.CellType.{CellKind}
 use Rattle.xlsx_values.specs.Value.{Grounds, cell_value, value_in, style_number}
-use Rattle.xlsx_formulas.specs.Formula.{FormulaText, formulas_in}
-use Rattle.xlsx_formulas.specs.Kept.{AreMasters, last_seen}
+use Rattle.xlsx_formulas.specs.Formula.{FormulaText, formulas_in, covers_in}
+use Rattle.xlsx_formulas.specs.Kept.{AreMasters, last_seen, covers_seen}
 use Rattle.xlsx_formulas.specs.declared.masters.Masters.{Masters}
 use Rattle.xlsx_sections.proofs.SectionsRead.{same_tag}
 use Rattle.xlsx_cells.specs.Children.{AreChildrenRefused, ReadsCellFormulas, KeepsMasters, kept_by}
@@ -291,6 +291,7 @@ pub taken_cell : (wants : Wants) (keeps : Bool) (grounds : Grounds) (before : Li
     ≡ Ok (value_of_data_ref read.value))
     → (wants.formulas ≡ true → ReadsCellFormulas keeps (content 0 (ahead mid)) old.masters
     (record { masters = masters; last = last_seen read.formula }))
+    → (wants.formulas ≡ true → covers_seen read.formula ≡ covers_in (content 0 (ahead mid)))
     → (wants.formulas ≡ false → masters ≡ old.masters)
     → (wants.styles ≡ true → id_named finds.tag ≡ Ok read.style_id)
     → TakesCell NoCell before earlier old (record {
@@ -302,7 +303,7 @@ pub taken_cell : (wants : Wants) (keeps : Bool) (grounds : Grounds) (before : Li
       is_failed = false;
     }) (IsRead wants keeps grounds read)
 taken_cell wants keeps grounds before earlier position old mid new counters masters read finds
-    passed deep closed told behind placed valued reads kept styled =
+    passed deep closed told behind placed valued reads covers kept styled =
     let base = old.base in
     let inside = content 0 (ahead mid) in
     let all : WritesOf wants keeps inside old.masters masters (last_seen read.formula) =
@@ -320,6 +321,7 @@ taken_cell wants keeps grounds before earlier position old mid new counters mast
         written = all.written;
         listed = all.listed;
         last = all.last;
+        covers = covers;
         none = all.none;
         is_kept = refl;
       };

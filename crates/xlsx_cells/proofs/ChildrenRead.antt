@@ -9,6 +9,7 @@ use Rattle.part_events.specs.Reading.{Reading}
 use Rattle.part_events.specs.Section.{Element}
 use Rattle.xlsx_error.specs.declared.error.XlsxError.{XlsxError}
 use Rattle.cell_data.specs.declared.format.CellFormat.{CellFormat}
+use Rattle.cell_refs.specs.declared.dimensions.Dimensions.{Dimensions}
 use Rattle.xlsx_sections.specs.Answers.{or_earlier, some_answers, prepended}
 use Rattle.xlsx_sections.specs.Elements.{ElementReadFails, IsInsideRefused}
 use Rattle.xlsx_sections.specs.PartSection.{PartSection, always, inside_of}
@@ -21,6 +22,7 @@ use Rattle.xlsx_values.specs.Value.{Grounds, value_element, said_value}
 use Rattle.xlsx_values.specs.Value.{end_in_value}
 use Rattle.xlsx_formulas.specs.Formula.{FormulaText, formula_text, said_formula, some_formula}
 use Rattle.xlsx_formulas.specs.Formula.{child_formula, formulas_in, behind_formulas}
+use Rattle.xlsx_formulas.specs.Formula.{covers_with, covers_along}
 use Rattle.xlsx_formulas.specs.Kept.{AreMasters}
 use Rattle.xlsx_formulas.specs.declared.masters.Masters.{Masters}
 use Rattle.xlsx_formulas.proofs.Cells.{behind_further, last_further}
@@ -162,3 +164,14 @@ formulas_whole new has none = record {
   last = has.last;
   masters = has.masters;
 }
+
+-- what the last formula covers, behind a child more
+pub covers_further : (latest next whole : Option Dimensions) (child : Element)
+    (left rest : List Element) → left ≡ child ∷ rest → next ≡ covers_with latest child
+    → covers_along latest left ≡ whole → covers_along next rest ≡ whole
+covers_further latest next whole child left rest same step is = rw step (rw same at is)
+
+-- and behind all of them
+pub covers_whole : (latest whole : Option Dimensions) (left : List Element) → left ≡ []
+    → covers_along latest left ≡ whole → latest ≡ whole
+covers_whole latest whole left none is = rw none at is

@@ -98,7 +98,7 @@ abbrev pub behind_cells :
 behind_cells [] earlier = earlier
 behind_cells (first ∷ others) earlier = behind_cells others (behind_formulas first.1 earlier)
 
-behind_cells_further : (passed : List ((ℕ × ℕ) × List FormulaText)) (earlier : List FormulaText)
+pub behind_cells_further : (passed : List ((ℕ × ℕ) × List FormulaText)) (earlier : List FormulaText)
     (own : (ℕ × ℕ) × List FormulaText)
     → behind_cells (passed ++ own ∷ []) earlier
     ≡ behind_formulas own.1 (behind_cells passed earlier)
@@ -106,7 +106,7 @@ behind_cells_further [] earlier own = refl
 behind_cells_further (first ∷ others) earlier own =
     behind_cells_further others (behind_formulas first.1 earlier) own
 
-along_further : (passed : List ((ℕ × ℕ) × List FormulaText)) (earlier : List FormulaText)
+pub along_further : (passed : List ((ℕ × ℕ) × List FormulaText)) (earlier : List FormulaText)
     (own : (ℕ × ℕ) × List FormulaText)
     → formulas_along earlier (passed ++ own ∷ [])
     ≡ formulas_along earlier passed

@@ -15,7 +15,8 @@ use Rattle.xlsx_sections.proofs.SectionsRead.{ahead_at_first, first_section_left
 use Rattle.xlsx_values.specs.Value.{Grounds}
 use Rattle.xlsx_formulas.specs.Described.{description_seen, described}
 use Rattle.xlsx_formulas.specs.Formula.{FormulaText, behind_formulas, formula_of_last, cell_formula}
-use Rattle.xlsx_formulas.specs.Kept.{AreMasters, last_seen}
+use Rattle.xlsx_formulas.specs.Formula.{covers_in, covered}
+use Rattle.xlsx_formulas.specs.Kept.{AreMasters, last_seen, covers_seen}
 use Rattle.xlsx_formulas.specs.declared.metadata.XlsxFormulaMetadata.{XlsxFormulaMetadata}
 use Rattle.xlsx_formulas.specs.declared.masters.Masters.{Masters}
 use Rattle.xlsx_formulas.proofs.Cells.{last_formula}
@@ -50,6 +51,7 @@ pub text_taken : {before : List Mark} {earlier : List FormulaText} {old new : St
     → own.value ≡ read.value → own.style_id ≡ read.style_id
     → ((behind : List FormulaText) → AreMasters behind new.masters
     → own.text ≡ formula_of_last behind read.pos (last_seen read.formula))
+    → own.covers ≡ covered read.pos (covers_seen read.formula)
     → TakesCell NoCell before earlier old new (IsRead wants true grounds read)
     → TakesCell NoCell before earlier old (record {
       reading = new.reading;
@@ -59,7 +61,7 @@ pub text_taken : {before : List Mark} {earlier : List FormulaText} {old new : St
       is_done = new.is_done;
       is_failed = false;
     }) (IsWritten wants grounds earlier own)
-text_taken {earlier = earlier} read own placed valued styled text takes =
+text_taken {earlier = earlier} read own placed valued styled text covers takes =
     let is = takes.holds in
     let kept = takes.kept in
     record {
@@ -78,6 +80,8 @@ text_taken {earlier = earlier} read own placed valued styled text takes =
             read.pos (last_or None all)) (sym is.is_kept)
             ∙ sym (last_formula earlier read.pos kept)
             ∙ ap (λ (pos : ℕ × ℕ). cell_formula earlier pos kept) (sym placed);
+        covers = λ wanted. covers ∙ ap (covered read.pos) (is.covers wanted)
+            ∙ ap (λ (pos : ℕ × ℕ). covered pos (covers_in takes.element.inside)) (sym placed);
         none = λ unwanted. is.is_kept ∙ is.none unwanted;
       };
       stands = record {
@@ -111,15 +115,17 @@ text_written {wants = wants} {grounds = grounds} one two same takes = record {
 }
 
 pub text_unwanted : {wants : Wants} (masters : Masters) (read : CellRead) (own : WrittenCell)
-    → own.value ≡ read.value → own.style_id ≡ read.style_id
+    → own.pos ≡ read.pos → own.value ≡ read.value → own.style_id ≡ read.style_id
     → ((behind : List FormulaText) → AreMasters behind masters
     → own.text ≡ formula_of_last behind read.pos (last_seen read.formula))
+    → own.covers ≡ covered read.pos (covers_seen read.formula)
     → LacksUnwanted wants read → LacksUnwantedText wants own
-text_unwanted masters read own valued styled text lacks = record {
+text_unwanted masters read own placed valued styled text covers lacks = record {
   value = λ unwanted. valued ∙ lacks.value unwanted;
   text = λ unwanted.
       let some = formulas_kept masters in
       text some.0 some.1 ∙ rw (lacks.formula unwanted) refl;
+  covers = λ unwanted. covers ∙ rw (lacks.formula unwanted, placed) refl;
   style = λ unwanted. styled ∙ lacks.style unwanted;
 }
 

@@ -2,6 +2,7 @@ pub mod CellsRead
 pub mod ChildrenRead
 pub mod Collecting
 pub mod CountersMoved
+pub mod CoveredCollected
 pub mod Flowing
 pub mod Fronts
 pub mod HeadRead

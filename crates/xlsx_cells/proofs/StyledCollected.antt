@@ -25,7 +25,7 @@ use Rattle.xlsx_cells.proofs.Collecting.{answer_kept, answers_whole}
 use Rattle.xlsx_cells.proofs.Fronts.{refused_further}
 
 -- one pair more
-zip_further : {A B : Type 0} (xs : List A) (ys : List B) (a : A) (b : B) → length xs ≡ length ys
+pub zip_further : {A B : Type 0} (xs : List A) (ys : List B) (a : A) (b : B) → length xs ≡ length ys
     → zip (xs ++ a ∷ []) (ys ++ b ∷ []) ≡ zip xs ys ++ (a, b) ∷ []
 zip_further [] [] a b same = refl
 zip_further [] (y ∷ ys) a b same = absurd (cc)
@@ -33,12 +33,12 @@ zip_further (x ∷ xs) [] a b same = absurd (cc)
 zip_further (x ∷ xs) (y ∷ ys) a b same =
     ap (λ others. (x, y) ∷ others) (zip_further xs ys a b (cc))
 
-map_further : {A B : Type 0} (f : A → B) (xs : List A) (a : A)
+pub map_further : {A B : Type 0} (f : A → B) (xs : List A) (a : A)
     → map f (xs ++ a ∷ []) ≡ map f xs ++ f a ∷ []
 map_further f [] a = refl
 map_further f (x ∷ xs) a = ap (λ others. f x ∷ others) (map_further f xs a)
 
-length_further : {A : Type 0} (xs : List A) (a : A) → length (xs ++ a ∷ []) ≡ suc (length xs)
+pub length_further : {A : Type 0} (xs : List A) (a : A) → length (xs ++ a ∷ []) ≡ suc (length xs)
 length_further [] a = refl
 length_further (x ∷ xs) a = ap suc (length_further xs a)
 

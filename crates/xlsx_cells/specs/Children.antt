@@ -16,7 +16,8 @@ use Rattle.xlsx_values.specs.Book.{kind_of, grounds_of}
 use Rattle.xlsx_values.specs.CellType.{CellKind}
 use Rattle.xlsx_values.specs.Value.{Grounds, said_value, value_in, or_nothing}
 use Rattle.xlsx_formulas.specs.Formula.{FormulaText, said_formula, formulas_in, behind_formulas}
-use Rattle.xlsx_formulas.specs.Kept.{AreMasters, last_seen}
+use Rattle.xlsx_formulas.specs.Formula.{covers_with, covers_in}
+use Rattle.xlsx_formulas.specs.Kept.{AreMasters, last_seen, covers_seen}
 use Rattle.xlsx_formulas.specs.declared.masters.Masters.{Masters}
 use Rattle.xlsx_cells.specs.Ends.{end_in_child, end_in_children}
 use Rattle.xlsx_cells.specs.declared.children.Asked.{Asked}
@@ -148,6 +149,10 @@ pub record TakesChild
       (ReadsFormula asked.keeps_masters element.tag element.inside
       (record { masters = before; last = last_seen old.formula })
       (record { masters = behind; last = last_seen new.formula }))
+  pub covers :
+      r.source.is_told ≡ true → asked.wants.formulas ≡ true → (element : Element) →
+      StandsAtElement element r → OnOk result
+      (covers_seen new.formula ≡ covers_with (covers_seen old.formula) element)
   pub same : asked.wants.formulas ≡ false → OnOk result (behind ≡ before)
   pub unvalued : asked.wants.values ≡ false → OnOk result (new.value ≡ old.value)
   pub unlisted : asked.wants.formulas ≡ false → OnOk result (new.formula ≡ old.formula)
@@ -164,6 +169,9 @@ pub record ReadsContents
       r.source.is_told ≡ true → asked.wants.formulas ≡ true →
       ReadsCellFormulas asked.keeps_masters (content 0 (ahead r)) before
       (record { masters = behind; last = last_seen contents.formula })
+  pub covers :
+      r.source.is_told ≡ true → asked.wants.formulas ≡ true →
+      covers_seen contents.formula ≡ covers_in (content 0 (ahead r))
   pub same : asked.wants.formulas ≡ false → behind ≡ before
   pub unvalued : asked.wants.values ≡ false → contents.value ≡ None
   pub unlisted : asked.wants.formulas ≡ false → contents.formula ≡ None

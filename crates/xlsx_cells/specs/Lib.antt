@@ -1,6 +1,7 @@
 pub mod CellsReader
 pub mod Children
 pub mod Counting
+pub mod CoveredFormulas
 pub mod Ends
 pub mod CellErrors
 pub mod Finding

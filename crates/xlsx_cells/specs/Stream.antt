@@ -3,6 +3,7 @@ use Rattle.std.specs.Prelude.{◌≡◌, ◌⊎◌, ℕ, suc, ◌≤◌, ◌<◌
 use Rattle.std.specs.Prelude.{true, false, Option, Some, None, Ok, Err, string_bytes}
 use Rattle.std.specs.List.{last_or}
 use Rattle.cell_refs.specs.declared.TheConstants.{MAX_ROWS, MAX_COLUMNS}
+use Rattle.cell_refs.specs.declared.dimensions.Dimensions.{Dimensions}
 use Rattle.part_events.specs.Event.{Tag, Event}
 use Rattle.part_events.specs.Reading.{Reading, IsReading, ahead}
 use Rattle.part_events.specs.Section.{Element}
@@ -18,7 +19,8 @@ use Rattle.xlsx_sections.specs.Refusal.{Refusal, in_element}
 use Rattle.xlsx_values.specs.Book.{grounds_of}
 use Rattle.xlsx_values.specs.Value.{Grounds, cell_value}
 use Rattle.xlsx_formulas.specs.Formula.{FormulaText, formulas_in, cell_formula, behind_formulas}
-use Rattle.xlsx_formulas.specs.Kept.{AreMasters, last_seen, text_of_formula}
+use Rattle.xlsx_formulas.specs.Formula.{covers_in, covered}
+use Rattle.xlsx_formulas.specs.Kept.{AreMasters, last_seen, covers_seen, text_of_formula}
 use Rattle.xlsx_formulas.specs.declared.masters.Masters.{Masters}
 use Rattle.xlsx_cells.specs.Children.{kept_by, StandsAtElement, ReadsCellFormulas}
 use Rattle.xlsx_cells.specs.Counting.{AreKept}
@@ -153,6 +155,7 @@ pub record IsRead
   pub written : List FormulaText
   pub listed : wants.formulas ≡ true → formulas_in element.inside ≡ Ok written
   pub last : wants.formulas ≡ true → last_seen read.formula ≡ last_or None written
+  pub covers : wants.formulas ≡ true → covers_seen read.formula ≡ covers_in element.inside
   pub none : wants.formulas ≡ false → written ≡ []
   pub is_kept : kept ≡ kept_by keeps written
 
@@ -178,17 +181,21 @@ pub record ReadsCell
       StandsAtElement element r →
       ReadsCellFormulas asked.keeps_masters element.inside before
       (record { masters = behind; last = last_seen read.formula })
+  pub covers :
+      r.source.is_told ≡ true → asked.wants.formulas ≡ true → (element : Element) →
+      StandsAtElement element r → covers_seen read.formula ≡ covers_in element.inside
   pub same : asked.wants.formulas ≡ false → behind ≡ before
   pub styled :
       asked.wants.styles ≡ true → (element : Element) → StandsAtElement element r →
       id_named element.tag ≡ Ok read.style_id
   pub unwanted : LacksUnwanted asked.wants read
 
--- a cell with the text of its formula
+-- a cell with the text of its formula, and the area that this covers
 pub record WrittenCell : Type 0 where
   pub pos : ℕ × ℕ
   pub value : DataRef
   pub text : List ℕ
+  pub covers : Dimensions
   pub style_id : ℕ
 
 -- a cell with the text of its formula, as it is written
@@ -197,6 +204,7 @@ seen_with_text own = record {
   pos = own.pos;
   value = own.value;
   text = string_bytes own.text;
+  covers = own.covers;
   style_id = own.style_id;
 }
 
@@ -206,6 +214,7 @@ seen_with_formula own = record {
   pos = own.pos;
   value = own.value;
   text = text_of_formula own.formula;
+  covers = own.covers;
   style_id = own.style_id;
 }
 
@@ -221,12 +230,15 @@ pub record IsWritten
   pub listed : wants.formulas ≡ true → formulas_in element.inside ≡ Ok kept
   pub found :
       wants.formulas ≡ true → own.text ≡ cell_formula earlier own.pos kept
+  pub covers :
+      wants.formulas ≡ true → own.covers ≡ covered own.pos (covers_in element.inside)
   pub none : wants.formulas ≡ false → kept ≡ []
 
 -- what is not wanted of a cell is left empty
 pub record LacksUnwantedText (wants : Wants) (own : WrittenCell) : Type 0 where
   pub value : wants.values ≡ false → own.value ≡ Empty
   pub text : wants.formulas ≡ false → own.text ≡ []
+  pub covers : wants.formulas ≡ false → own.covers ≡ covered own.pos None
   pub style : wants.styles ≡ false → own.style_id ≡ 0
 
 -- behind such marks a cell was taken, of which a fact holds

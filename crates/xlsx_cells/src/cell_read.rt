@@ -16,6 +16,7 @@ ghost use Rattle.xlsx_cells.specs.StyleIds.{id_named};
 use crate::children::{Asked, CellContents, CellStart, Wants, read_children};
 use attr_text::{RawAttributes, get_attrs};
 use cell_data::{CellFormat, DataRef};
+use cell_refs::Dimensions;
 use part_events::{Package, StartTag, XlReader};
 use std::alloc::Global;
 use xlsx_error::XlsxError;
@@ -41,6 +42,9 @@ pub struct CellWithFormula {
     pub pos: (u32, u32),
     pub value: DataRef,
     pub formula: CellFormula,
+    /// The cells that have its values: those of an array that has the cell, and else the cell
+    /// alone.
+    pub covers: Dimensions,
     pub style_id: usize,
 }
 
@@ -51,6 +55,9 @@ pub struct CellText {
     pub pos: (u32, u32),
     pub value: DataRef,
     pub text: String,
+    /// The cells that have the values of its formula: those of an array that has the cell, and else
+    /// the cell alone.
+    pub covers: Dimensions,
     pub style_id: usize,
 }
 

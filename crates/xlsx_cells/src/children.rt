@@ -7,7 +7,8 @@ ghost use Rattle.cell_data.specs.declared.format.CellFormat.{CellFormat};
 ghost use Rattle.xlsx_values.specs.CellType.{CellKind};
 ghost use Rattle.xlsx_values.specs.Value.{Grounds};
 ghost use Rattle.xlsx_sections.specs.Answers.{or_earlier};
-ghost use Rattle.xlsx_formulas.specs.Kept.{last_seen};
+ghost use Rattle.xlsx_formulas.specs.Formula.{covers_of};
+ghost use Rattle.xlsx_formulas.specs.Kept.{last_seen, covers_seen};
 ghost use Rattle.xlsx_cells.specs.Children.{StandsAtElement, value_kept, IsNamedAs, value_name};
 ghost use Rattle.xlsx_cells.specs.Children.{ChildFails, ChildFailsBy, ContentsFail};
 ghost use Rattle.xlsx_cells.specs.Children.{LastStep, ReadsFormula, child_said};
@@ -142,6 +143,9 @@ fn keep_formula<P: Package>(
         (element : Element) → StandsAtElement element xml.old → IsNamedAs Formula element.tag →
         OnOk result (ReadsFormula asked.entry.keeps_masters element.tag element.inside before
         after) }
+    ensures covers { xml.old.source.is_told ≡ true → asked.entry.wants.formulas ≡ true →
+        (element : Element) → StandsAtElement element xml.old →
+        OnOk result (covers_seen last.new ≡ covers_of element.tag) }
     ensures same { asked.entry.wants.formulas ≡ false → OnOk result (masters.new ≡ masters.old) }
     ensures unlisted { asked.entry.wants.formulas ≡ false → OnOk result (last.new ≡ last.old) }
     ensures err { IfErr result (λ error. (grounds : Grounds) (format : CellFormat) (kind : CellKind)

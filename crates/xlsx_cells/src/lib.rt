@@ -3,7 +3,7 @@
 //! Rooms: `head` (what stands before a sheet's data), `counters` (rows and columns), `finding` (the
 //! next cell), `children` (what stands in a cell), `cell_read` (a cell, whole), `sheet_cursor`
 //! (what is kept of the data), `sheet_cells` (all cells), `styled_cells` (all values with their
-//! style ids).
+//! style ids), `covered_cells` (all formulas with the areas that they cover).
 //!
 //! **Marks.** Of a sheet's data only cells count, and the starts and ends of rows outside them.
 //! `marks` cuts the events of the data into these, and what a sheet says is said over marks: which
@@ -61,6 +61,7 @@ mod cell_records;
 mod cells_reader;
 mod children;
 mod counters;
+mod covered_cells;
 mod equality;
 mod finding;
 mod head;
@@ -73,6 +74,7 @@ pub use cell_read::{CellRead, CellText, CellWithFormula};
 pub use cell_records::{XlsxCellFormula, XlsxCellFormulaMetadataRecord};
 pub use cells_reader::XlsxCellReader;
 pub use children::{Asked, Wants};
+pub use covered_cells::{CoveredFormula, collect_covered};
 pub use equality::{copies_are_the_same, equality_is_by_all_fields};
 pub use head::enter_data;
 pub use laws::readings_have_the_same_values;

@@ -145,6 +145,7 @@ pub fn collect<P: Package>(
             value,
             formula,
             style_id,
+            ..
         } = found;
         keep_value(&mut cells.values, pos, value)?;
         keep_formula(&mut cells.formulas, pos, formula)?;

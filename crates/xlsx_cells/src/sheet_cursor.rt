@@ -25,7 +25,7 @@ use crate::head::enter_data;
 use cell_refs::Dimensions;
 use part_events::{Package, XlReader};
 use xlsx_error::XlsxError;
-use xlsx_formulas::Masters;
+use xlsx_formulas::{Masters, covered_area};
 use xlsx_values::Book;
 
 /// What reading keeps of a sheet's data beside the reader that stands in them: what counts of the
@@ -122,8 +122,9 @@ impl SheetCursor {
         Ok(Some(read))
     }
 
-    /// Takes the next cell as `next` does, with its formula: a derived one is that of its group,
-    /// moved to the cell, and isn't written out. The formulas of groups are kept for later cells.
+    /// Takes the next cell as `next` does, with its formula and the area that this covers: a
+    /// derived one is that of its group, moved to the cell, and isn't written out. The formulas of
+    /// groups are kept for later cells.
     pub fn next_with_formula<P: Package>(
         &mut self,
         xml: &mut XlReader<P>,
@@ -154,6 +155,7 @@ impl SheetCursor {
             formula,
             style_id,
         } = read;
+        let covers = covered_area(&formula, pos);
         self.failed = true;
         let formula = self.masters.cell_formula(xml.alloc(), formula, pos)?;
         self.failed = false;
@@ -161,6 +163,7 @@ impl SheetCursor {
             pos,
             value,
             formula,
+            covers,
             style_id,
         }))
     }
@@ -192,6 +195,7 @@ impl SheetCursor {
             pos,
             value,
             formula,
+            covers,
             style_id,
         } = found;
         self.failed = true;
@@ -201,6 +205,7 @@ impl SheetCursor {
             pos,
             value,
             text,
+            covers,
             style_id,
         }))
     }

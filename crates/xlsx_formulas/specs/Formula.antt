@@ -1,17 +1,18 @@
 -- The formulas of a sheet's cells. A formula element is seen by those that stand before it in the
 -- sheet, the latest first.
 use Rattle.std.specs.Prelude.{ℕ, ◌==◌, List, [], ◌∷◌, false, if◌then◌else◌}
-use Rattle.std.specs.Prelude.{codes, Option, Some, None, Result, Ok, Err}
+use Rattle.std.specs.Prelude.{codes, Option, Some, None, option_and_then, Result, Ok, Err}
 use Rattle.std.specs.Str.{bytes_eq}
 use Rattle.attr_text.specs.Attributes.{lookup}
 use Rattle.attr_text.specs.declared.fault.AttrFault.{AttrFault}
 use Rattle.cell_refs.specs.A1.{area}
+use Rattle.cell_refs.specs.Positions.{is_in_area, area_with}
 use Rattle.cell_refs.specs.declared.dimensions.Dimensions.{Dimensions}
 use Rattle.cell_refs.specs.declared.error.RefError.{RefError}
 use Rattle.formula_shift.specs.Relocation.{moved, offset_between}
 use Rattle.part_events.specs.Event.{Tag, Event}
 use Rattle.part_events.specs.Section.{Element, children, is_named}
-use Rattle.xlsx_sections.specs.Answers.{some_answers, with_three}
+use Rattle.xlsx_sections.specs.Answers.{some_answers, with_two, with_three}
 use Rattle.xlsx_sections.specs.ElementText.{element_text}
 use Rattle.xlsx_sections.specs.NumberText.{number_text}
 use Rattle.xlsx_sections.specs.Refusal.{Refusal, plain, lookup_fault, misplaced, stray_child}
@@ -67,6 +68,35 @@ abbrev pub sharing_of : Tag → Result Sharing Refusal
 sharing_of tag =
     sharing_from (lookup (codes "t" ∷ codes "si" ∷ codes "ref" ∷ []) tag.attributes)
 
+-- the area that a text names, if it names one
+abbrev pub area_or_none : Result Dimensions RefError → Option Dimensions
+area_or_none (Ok range) = Some range
+area_or_none (Err fault) = None
+
+-- the area of an array, by the texts of the type and the area of its formula
+abbrev pub covers_typed : Option (List ℕ) → Option (List ℕ) → Option Dimensions
+covers_typed None range = None
+covers_typed (Some typ) range =
+    if bytes_eq typ (codes "array") then option_and_then (λ own. area_or_none (area own)) range
+    else None
+
+-- the same, by what was looked up at its start
+abbrev pub covers_from : Result (List (Option (List ℕ))) AttrFault → Option Dimensions
+covers_from (Ok values) = with_two covers_typed None values
+covers_from (Err fault) = None
+
+-- the area of cells that have the values of a formula, as the start of its `f` says it: that of the
+-- `ref` of an array, where this is an area
+abbrev pub covers_of : Tag → Option Dimensions
+covers_of tag = covers_from (lookup (codes "t" ∷ codes "ref" ∷ []) tag.attributes)
+
+-- The area that a formula covers in the cell at a position: what its start says, where that has the
+-- cell, and else the cell alone.
+abbrev pub covered : ℕ × ℕ → Option Dimensions → Dimensions
+covered position None = area_with position None
+covered position (Some range) =
+    if is_in_area range position then range else area_with position None
+
 -- a formula by its sharing and its text
 abbrev pub shared_text : Sharing → Result (List ℕ) Refusal → Result FormulaText Refusal
 shared_text sharing (Ok written) = Ok (record { sharing = sharing; text = written })
@@ -100,6 +130,20 @@ child_formula child = in_element child (said_formula child.tag child.inside)
 -- the formulas that a cell's children write, in order
 abbrev pub formulas_in : List Event → Result (List FormulaText) Refusal
 formulas_in inside = some_answers child_formula (children inside)
+
+-- what the last `f` says that it covers, behind one more child of its cell
+abbrev pub covers_with : Option Dimensions → Element → Option Dimensions
+covers_with latest child =
+    if is_named (codes "f" ∷ []) child.tag then covers_of child.tag else latest
+
+-- the same behind more children
+abbrev pub covers_along : Option Dimensions → List Element → Option Dimensions
+covers_along latest [] = latest
+covers_along latest (child ∷ others) = covers_along (covers_with latest child) others
+
+-- what the last `f` of a cell says that it covers
+abbrev pub covers_in : List Event → Option Dimensions
+covers_in inside = covers_along None (children inside)
 
 -- the formula of a group: its text, and the first written corner of the group's area
 pub record GroupFormula : Type 0 where

@@ -1,10 +1,11 @@
 -- What is kept of formulas, apart from where their texts lie in memory.
-use Rattle.std.specs.Prelude.{◌≡◌, ℕ, List, Option, Some, option_map, string_bytes}
+use Rattle.std.specs.Prelude.{◌≡◌, ℕ, List, Option, None, Some, option_map, string_bytes}
 use Rattle.std.specs.BTreeMap.{get}
 use Rattle.std.specs.Ordering.{nat_cmp}
 use Rattle.std.specs.Rc.{rc_value}
 use Rattle.std.specs.declared.alloc.Global.{Global}
 use Rattle.std.specs.declared.rc.Rc.{Rc}
+use Rattle.cell_refs.specs.declared.dimensions.Dimensions.{Dimensions}
 use Rattle.xlsx_formulas.specs.Formula.{Sharing, own, master, derived, FormulaText, GroupFormula}
 use Rattle.xlsx_formulas.specs.Formula.{master_of, moved_to}
 use Rattle.xlsx_formulas.specs.declared.cell_formula.CellFormula.{CellFormula}
@@ -31,6 +32,11 @@ formula_seen formula = record {
 -- that of a cell's last `f`, if it has one
 abbrev pub last_seen : Option Formula → Option FormulaText
 last_seen last = option_map formula_seen last
+
+-- what it says that it covers
+abbrev pub covers_seen : Option Formula → Option Dimensions
+covers_seen None = None
+covers_seen (Some formula) = formula.covers
 
 -- the formula of a group, which those that are derived from it share
 abbrev pub group_seen : Rc kept.Master Global → GroupFormula

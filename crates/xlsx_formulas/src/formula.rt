@@ -6,7 +6,7 @@ ghost use Rattle.xlsx_error.specs.declared.error.XlsxError.TheVariants.{Io};
 ghost use Rattle.xlsx_sections.specs.Elements.{ElementReadFails};
 ghost use Rattle.xlsx_sections.specs.PartSection.{always};
 ghost use Rattle.xlsx_sections.specs.Refusal.{ElementFails};
-ghost use Rattle.xlsx_formulas.specs.Formula.{sharing_of, formula_text};
+ghost use Rattle.xlsx_formulas.specs.Formula.{sharing_of, formula_text, covers_of};
 ghost use Rattle.xlsx_formulas.specs.Kept.{sharing_seen, formula_seen};
 ghost use Rattle.xlsx_formulas.specs.Refused.{IsShareError, IsFormulaError};
 
@@ -31,6 +31,8 @@ pub enum Share {
 #[derive(Debug, Drop)]
 pub struct Formula {
     pub share: Share,
+    /// The area of an array, where its `ref` names one, whether its cell lies there or not.
+    pub covers: Option<Dimensions>,
     pub text: String,
 }
 
@@ -64,9 +66,27 @@ pub fn share_of(tag: StartTag<'_>) -> Result<Share, XlsxError>
     }
 }
 
-/// Reads the `f` at whose start the reader stands, to its end: the sharing that its start says,
-/// and then its text, which is each Text, with its line ends as LF, and the character of each
-/// reference.
+/// The area that a start says that its formula covers, by its attributes `t` and `ref` (ECMA-376
+/// part 1, section 18.3.1.40): that of an array (`array`). None where the formula is no array, and
+/// where it has no `ref`, or one that names no area, which refuses nothing.
+pub fn covers_of(tag: StartTag<'_>) -> Option<Dimensions>
+    ensures { result ≡ covers_of (tag_of tag.entry) }
+{
+    let Ok((typ, range)) = get_attrs!(tag, "t" => typ, "ref" => range) else {
+        return None;
+    };
+    let Some("array") = typ else {
+        return None;
+    };
+    let Ok(area) = get_dimension(range?) else {
+        return None;
+    };
+    Some(area)
+}
+
+/// Reads the `f` at whose start the reader stands, to its end: the sharing and the area that its
+/// start says, and then its text, which is each Text, with its line ends as LF, and the character
+/// of each reference.
 ///
 /// It is refused as [`share_of`] its start is, where a reference in its text has no character, and
 /// where its end isn't there.
@@ -76,12 +96,19 @@ pub fn read_formula<P: Package>(xml: &mut XlReader<P>) -> Result<Formula, XlsxEr
     ensures formula { let inside = content 0 (ahead xml.old) in
         xml.old.source.is_told ≡ true → (tag : Tag) → start tag ≡ xml.old.source.current →
         IfOk result (λ found. formula_text tag inside ≡ Ok (formula_seen found)) }
+    ensures covers { (tag : Tag) → start tag ≡ xml.old.source.current →
+        IfOk result (λ found. found.covers ≡ covers_of tag) }
     ensures err { IfErr result (λ error. (tag : Tag) → start tag ≡ xml.old.source.current →
         ElementReadFails (always (codes "f")) (formula_text tag) xml.old xml.new error) }
     ensures kind { IfErr result IsFormulaError }
 {
     let share = share_of(start_tag(xml))?;
+    let covers = covers_of(start_tag(xml));
     let mut text = String::new(xml.alloc());
     read_element_text(xml, &mut text, false, "f")?;
-    Ok(Formula { share, text })
+    Ok(Formula {
+        share,
+        covers,
+        text,
+    })
 }

@@ -70,7 +70,7 @@ impl XlsxFormulaMetadata {
 pub fn metadata_of(last: Option<Formula>) -> Option<XlsxFormulaMetadata>
     ensures { option_map description_seen result ≡ described (last_seen last) }
 {
-    let Formula { share, text } = last?;
+    let Formula { share, text, .. } = last?;
     match share {
         Share::Own => {
             if text.is_empty() {

@@ -17,6 +17,10 @@ returns-in_err-formula-clause-err g c =
     named c.if-not-asked.false
     (c.in_err-formula.ensures.err element.tag stands.tag))
 
+pub returns-clause-covers : goal.returns-clause-covers
+returns-clause-covers g c = λ told wanted element stands.
+    c.in_ok-formula.ensures.covers element.tag stands.tag
+
 pub returns-clause-formula : goal.returns-clause-formula
 returns-clause-formula g c = λ told wanted element stands named.
     let read : formula_text element.tag element.inside ≡ Ok (formula_seen c.in_ok-formula.formula) =

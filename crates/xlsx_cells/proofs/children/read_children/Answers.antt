@@ -13,13 +13,14 @@ use Rattle.xlsx_sections.proofs.Kept.{last_further, last_refused}
 use Rattle.xlsx_sections.proofs.Refused.{refused_later}
 use Rattle.xlsx_values.specs.Book.{kind_of, grounds_of}
 use Rattle.xlsx_values.specs.Value.{child_value, said_value, or_nothing}
-use Rattle.xlsx_formulas.specs.Kept.{last_seen}
+use Rattle.xlsx_formulas.specs.Formula.{covers_in}
+use Rattle.xlsx_formulas.specs.Kept.{last_seen, covers_seen}
 use Rattle.xlsx_cells.specs.Children.{StandsAtElement, LastStep, ReadsCellFormulas}
 use Rattle.xlsx_cells.specs.Children.{value_kept}
 use Rattle.xlsx_cells.specs.Children.{IsChildRefused, AreChildrenRefused}
 use Rattle.xlsx_cells.specs.Ends.{end_in_child, end_in_child_element, end_in_children}
 use Rattle.xlsx_sections.proofs.SectionsRead.{leaves_further}
-use Rattle.xlsx_cells.proofs.ChildrenRead.{or_earlier_in_element}
+use Rattle.xlsx_cells.proofs.ChildrenRead.{or_earlier_in_element, covers_further, covers_whole}
 use Rattle.xlsx_cells.proofs.ChildrenRead.{written_further, formulas_refused, formulas_whole}
 use Rattle.xlsx_cells.proofs.children.read_children.Goals as goal
 
@@ -86,6 +87,11 @@ children-preserved g c =
       formulas = λ told wanted.
           written_further before behind (now.formulas told wanted) (passed.elements told)
           (c.in_ok-read_child.ensures.takes.formula (still told) wanted element stand);
+      covers = λ told wanted.
+          covers_further (covers_seen c.children.latest.formula)
+          (covers_seen c.read_child.new.latest.formula) _ element _ _ (passed.elements told)
+          (c.in_ok-read_child.ensures.takes.covers (still told) wanted element stand)
+          (now.covers told wanted);
       same = λ unwanted. c.in_ok-read_child.ensures.takes.same unwanted ∙ now.same unwanted;
       unvalued = λ unwanted.
           c.in_ok-read_child.ensures.takes.unvalued unwanted ∙ now.unvalued unwanted;
@@ -167,6 +173,14 @@ returns-clause-contents g c =
           subst (λ (n : ℕ). ReadsCellFormulas c.args.asked.keeps_masters (content n (ahead old))
           c.args.masters.now behind) none
           (formulas_whole behind (now.formulas told wanted) closes.elements);
+      covers = λ told wanted.
+          let closes : FindsElementIn is_any base None mid new =
+          rw c.in_default.is at
+          (c.in_ok-next_child_in.ensures.found (now.keeps.section.reads.moves.parts.is_told ∙ told))
+          in
+          subst (λ (n : ℕ). covers_seen c.children.latest.formula
+          ≡ covers_in (content n (ahead old))) none
+          (covers_whole _ _ _ closes.elements (now.covers told wanted));
       same = now.same;
       unvalued = now.unvalued;
       unlisted = now.unlisted;

@@ -108,6 +108,7 @@ returns-clause-takes g c = λ told before earlier behind.
     c.in_ok-read.ensures.cell.pos
     (λ wanted. c.in_ok-read.ensures.cell.value told_mid wanted element stand)
     (λ wanted. c.in_ok-read.ensures.cell.formula told_mid wanted element stand)
+    (λ wanted. c.in_ok-read.ensures.cell.covers told_mid wanted element stand)
     c.in_ok-read.ensures.cell.same
     (λ wanted. c.in_ok-read.ensures.cell.styled wanted element stand)
 

@@ -15,6 +15,7 @@ returns-clause-takes g c = λ told before earlier kept.
       pos = found.pos;
       value = found.value;
       text = text;
+      covers = found.covers;
       style_id = found.style_id;
     }) (sym c.in_ok-text.ensures))
     (rw c.in-Some.is at (c.in_ok-found.ensures.takes told before earlier kept))

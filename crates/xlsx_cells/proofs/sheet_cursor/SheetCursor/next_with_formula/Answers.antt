@@ -8,10 +8,10 @@ returns-in_default-clause-takes g c = λ told before earlier kept.
 
 pub returns-clause-takes : goal.returns-clause-takes
 returns-clause-takes g c = λ told before earlier kept.
-    text_taken c.in-Some.read _ refl refl refl c.in_ok-formula.ensures
+    text_taken c.in-Some.read _ refl refl refl c.in_ok-formula.ensures c.covered_area-covers.ensures
     (rw c.in-Some.is at (c.in_ok-read.ensures.takes told before earlier kept))
 
 pub returns-clause-unwanted : goal.returns-clause-unwanted
 returns-clause-unwanted g c =
-    text_unwanted c.next.new.self.masters c.in-Some.read _ refl refl c.in_ok-formula.ensures
-    (rw c.in-Some.is at c.in_ok-read.ensures.unwanted)
+    text_unwanted c.next.new.self.masters c.in-Some.read _ refl refl refl c.in_ok-formula.ensures
+    c.covered_area-covers.ensures (rw c.in-Some.is at c.in_ok-read.ensures.unwanted)

@@ -1,0 +1,27 @@
+use Rattle.std.proofs.Common.{◌≡◌, true}
+use Rattle.cell_data.specs.Cells.{AreInSheet}
+use Rattle.cell_data.specs.Gathered.{cells_gathered}
+use Rattle.xlsx_sections.specs.Elements.{KeepsElements}
+use Rattle.xlsx_values.specs.Book.{grounds_of}
+use Rattle.xlsx_cells.specs.Marks.{is_cell}
+use Rattle.xlsx_cells.specs.Stream.{stream, IsGoing}
+use Rattle.xlsx_cells.specs.CoveredFormulas.{covered_entries}
+use Rattle.xlsx_cells.proofs.CoveredCollected.{HasCovered}
+use Rattle.xlsx_cells.proofs.covered_cells.collect_covered.Given as goal
+
+abbrev pub invariant-cells : goal.invariant-cells
+invariant-cells g l =
+    let old = stream l.fn.xml l.fn.sheet in
+    let now = stream l.xml l.sheet in
+    record {
+      base : now.base ≡ old.base;
+      keeps : KeepsElements is_cell old.base old.reading now.reading;
+      going : IsGoing now;
+      inside : AreInSheet (cells_gathered l.cells);
+      collected : old.reading.source.is_told ≡ true →
+          HasCovered l.asked.wants (grounds_of l.asked.book) old now
+          (covered_entries (cells_gathered l.cells));
+    }
+
+abbrev pub decreases-cells : goal.decreases-cells
+decreases-cells g l = l.xml.source.left
