@@ -3,6 +3,8 @@ pub mod BookRead
 pub mod CodesKept
 pub mod CommentsTaken
 pub mod DataTaken
+pub mod FormulaTexts
+pub mod FormulasListed
 pub mod LastOfEach
 pub mod LeastAreas
 pub mod LinksTaken

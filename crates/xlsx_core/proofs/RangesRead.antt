@@ -1,19 +1,20 @@
 -- A part is read in one way, and what is read isn't refused.
 use Rattle.std.proofs.Common.{◌≡◌, ℕ, List, [], length, refl, sym, ◌∙◌, ap, map, inl, inr, subst}
 use Rattle.std.proofs.Common.{Option, Some, None, Ok, Err, codes, true, false, arith, String}
-use Rattle.std.proofs.Common.{Global}
+use Rattle.std.proofs.Common.{Global, Bool}
 use Rattle.std.specs.Prelude.{⊤, option_map, IsSomeAnd, is_some}
 use Rattle.part_events.specs.Event.{Event}
 use Rattle.part_events.specs.Nesting.{whole}
 use Rattle.part_events.specs.Package.{Part}
 use Rattle.part_events.specs.declared.fault.XmlFault.TheVariants.{Break}
-use Rattle.cell_data.specs.CellValue.{CellValue}
+use Rattle.cell_data.specs.CellValue.{CellValue, nothing, value_of_data}
 use Rattle.cell_data.specs.Range.{bounds_of}
 use Rattle.cell_data.specs.declared.range.Range.{Range}
 use Rattle.cell_data.specs.declared.value.Data.{Data}
 use Rattle.cell_data.specs.declared.value.DataRef.{DataRef}
 use Rattle.cell_data.specs.declared.value.HeaderRow.{HeaderRow}
 use Rattle.cell_refs.specs.Positions.{last_of_each, least_area}
+use Rattle.cell_refs.specs.declared.dimensions.Dimensions.{Dimensions}
 use Rattle.cell_styles.specs.StyleMap.{StyledCell, StyleMap}
 use Rattle.cell_styles.specs.declared.style.Style.{Style}
 use Rattle.xlsx_error.specs.declared.error.XlsxError.{XlsxError}
@@ -24,6 +25,7 @@ use Rattle.xlsx_sections.specs.Refusal.{Refusal}
 use Rattle.xlsx_sections.proofs.Refused.{never_refused}
 use Rattle.xlsx_values.specs.Value.{Grounds, resolved}
 use Rattle.xlsx_cells.specs.CellsReader.{values_alone, formulas_alone, styles_alone}
+use Rattle.xlsx_cells.specs.CellsReader.{values_and_styles}
 use Rattle.xlsx_cells.specs.Head.{HasNoData, HeadCause, dimensions_in, other_in}
 use Rattle.xlsx_cells.specs.Marks.{marks}
 use Rattle.xlsx_cells.specs.Sheet.{values_in, used_values, with_texts}
@@ -31,10 +33,14 @@ use Rattle.xlsx_cells.specs.SheetPart.{SheetPartCause, DataCause}
 use Rattle.xlsx_cells.specs.declared.children.Wants.{Wants}
 use Rattle.xlsx_cells.proofs.SoundSheet.{AreSound, sound_by_values, sound_by_formulas, sound_by_ids}
 use Rattle.xlsx_cells.proofs.SoundSheet.{no_part_cause}
+use Rattle.xlsx_open.specs.SharedParts.{SharedSaid}
 use Rattle.xlsx_open.proofs.Sound.{both_at}
 use Rattle.cell_data.specs.Pairs.{with_meaning, value_pairs, place_pairs}
 use Rattle.xlsx_core.specs.SheetReading.{events_at}
 use Rattle.xlsx_core.specs.SheetReading.{PlacedCause}
+use Rattle.xlsx_core.specs.ShownSheet.{shown_cells}
+use Rattle.xlsx_core.specs.ShownTable.{AnswersStyledValues, ShowsValuesIn}
+use Rattle.xlsx_core.specs.TableData.{IsRangeIn}
 use Rattle.xlsx_core.specs.Worksheets.{AnswersCells, AnswersValues, AnswersFormulas}
 use Rattle.xlsx_core.specs.Worksheets.{HasStyledCells, HasSheetData}
 use Rattle.xlsx_core.specs.Worksheets.{IsNoWorksheet, IsValueRange, IsPlaceRange, IsFormulaRange}
@@ -136,7 +142,7 @@ part_cause wants grounds events (NotAWorksheet other) cause = absurd cause
 part_cause wants grounds events error cause = cause
 
 -- an error tells something else than that a part is no worksheet
-abbrev IsOther : XlsxError → Type 0
+abbrev pub IsOther : XlsxError → Type 0
 IsOther (NotAWorksheet other) = ⊥
 IsOther error = ⊤
 
@@ -186,7 +192,20 @@ values_in_part grounds events values error (inl has) cause =
 values_in_part grounds events values error (inr none) cause =
     none_never values_alone grounds events error none.0 cause
 
-formulas_in_part : (grounds : Grounds) (events : List Event)
+shown_in_part : (grounds : Grounds) (events : List Event)
+    (found : List ((ℕ × ℕ) × (CellValue × ℕ))) (error : XlsxError)
+    → AnswersStyledValues values_and_styles grounds events found
+    → RangePartCause values_and_styles grounds events error → ⊥
+shown_in_part grounds events found error (inl has) cause =
+    let held = has.held in
+    data_never values_and_styles grounds events has.section error has.sheet
+    (sound_by_values values_and_styles grounds [] (marks (inside_of has.section))
+    (held.values, held.valued) (λ wanted. absurd (cc)) (λ wanted. (held.ids, held.styled)))
+    (part_cause values_and_styles grounds events error cause)
+shown_in_part grounds events found error (inr none) cause =
+    none_never values_and_styles grounds events error none.0 cause
+
+pub formulas_in_part : (grounds : Grounds) (events : List Event)
     (formulas : List ((ℕ × ℕ) × List ℕ)) (error : XlsxError) → AnswersFormulas events formulas
     → RangePartCause formulas_alone grounds events error → ⊥
 formulas_in_part grounds events formulas error (inl has) cause =
@@ -231,6 +250,20 @@ used_never grounds name path parts fact error reads cause =
     × fact values) error reads
     (λ events has is. let (values, answers, holds) = has in
     values_in_part grounds events values error answers is) cause
+
+pub shown_never : (grounds : Grounds) (shared : SharedSaid) (is_1904 : Bool) (header : HeaderRow)
+    (name : List ℕ) (area : Dimensions) (path : Option (List ℕ)) (parts : List Part)
+    (range : Range Data) (error : XlsxError)
+    → ShowsValuesIn grounds shared is_1904 header (Some area) path parts range
+    → RangeCause name values_and_styles grounds path parts error → ⊥
+shown_never grounds shared is_1904 header name area path parts range error shows cause =
+    placed_never name path (RangePartCause values_and_styles grounds) parts
+    (λ events. (found : List ((ℕ × ℕ) × (CellValue × ℕ)))
+    × AnswersStyledValues values_and_styles grounds events found
+    × IsRangeIn value_of_data header area (shown_cells shared is_1904 found) nothing range)
+    error shows
+    (λ events has is. let (found, answers, holds) = has in
+    shown_in_part grounds events found error answers is) cause
 
 pub values_never : (grounds : Grounds) (header : HeaderRow) (name : List ℕ)
     (path : Option (List ℕ)) (parts : List Part) (range : Range Data) (error : XlsxError)

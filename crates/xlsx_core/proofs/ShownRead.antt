@@ -5,15 +5,18 @@ use Rattle.std.proofs.Common.{Result, Ok, Err}
 use Rattle.std.specs.Prelude.{IsSomeAnd, IfOk}
 use Rattle.xlsx_error.specs.declared.error.XlsxError.{XlsxError}
 use Rattle.cell_refs.specs.Positions.{last_of_each}
+use Rattle.cell_refs.specs.declared.dimensions.Dimensions.{Dimensions}
 use Rattle.part_events.specs.Event.{Event}
 use Rattle.part_events.specs.Package.{Part, PackageState, SameParts}
-use Rattle.cell_data.specs.CellValue.{CellValue, value_of_data}
+use Rattle.cell_data.specs.CellValue.{CellValue, nothing, value_of_data}
 use Rattle.cell_data.specs.Pairs.{value_pairs, with_meaning}
 use Rattle.cell_data.specs.declared.range.Range.{Range}
 use Rattle.cell_data.specs.declared.value.Data.{Data}
+use Rattle.cell_data.specs.declared.value.HeaderRow.{HeaderRow}
 use Rattle.cell_data.specs.declared.value.HeaderRow.TheVariants.{FirstNonEmptyRow}
 use Rattle.cell_styles.specs.StyleMap.{styles_of}
 use Rattle.xlsx_values.specs.Value.{Grounds}
+use Rattle.xlsx_cells.specs.CellsReader.{values_and_styles}
 use Rattle.xlsx_cells.specs.Sheet.{with_texts, used_values, used_formulas, formulas_along}
 use Rattle.xlsx_cells.specs.StyledValues.{styled_entry, styled_entries, styled_meaning}
 use Rattle.xlsx_cells.specs.declared.styled_cells.StyledValue.{StyledValue}
@@ -23,6 +26,8 @@ use Rattle.xlsx_open.specs.SharedParts.{SharedSaid, shared_said}
 use Rattle.xlsx_core.specs.SheetReading.{events_at, grounds_with, opened_grounds, all_wanted}
 use Rattle.xlsx_core.specs.ShownSheet.{shown_cells, ShowsPlaced, ShownAs, HasStyledValues}
 use Rattle.xlsx_core.specs.ShownSheet.{shown_value}
+use Rattle.xlsx_core.specs.ShownTable.{AnswersStyledValues, ShowsValuesIn}
+use Rattle.xlsx_core.specs.TableData.{IsRangeIn}
 use Rattle.xlsx_core.specs.Worksheets.{path_of, palette_of_book, grounds_of_book, IsValueRange}
 use Rattle.xlsx_core.specs.declared.xlsx.Xlsx.{Xlsx}
 use Rattle.xlsx_core.proofs.SheetsRead.{some_of, listed_is_named}
@@ -46,6 +51,22 @@ shows_placed wants grounds shared is_1904 path parts cells range has is =
     × HasStyledValues wants grounds events found
     × (value_pairs range ≡ last_of_each (shown_cells shared is_1904 found)))
     (λ events own. (cells, own, is.cells)) has
+
+-- a range of what is shown of them in an area
+pub shows_in : (grounds : Grounds) (shared : SharedSaid) (is_1904 : Bool) (header : HeaderRow)
+    (area : Dimensions) (path : Option (List ℕ)) (parts : List Part)
+    (cells : List ((ℕ × ℕ) × (CellValue × ℕ))) (range : Range Data)
+    → IsSomeAnd (events_at path parts) (λ events. AnswersStyledValues values_and_styles grounds
+    events cells)
+    → IsRangeIn value_of_data header area (shown_cells shared is_1904 cells) nothing range
+    → ShowsValuesIn grounds shared is_1904 header (Some area) path parts range
+shows_in grounds shared is_1904 header area path parts cells range answers is =
+    if_some (events_at path parts)
+    (λ events. AnswersStyledValues values_and_styles grounds events cells)
+    (λ events. (found : List ((ℕ × ℕ) × (CellValue × ℕ)))
+    × AnswersStyledValues values_and_styles grounds events found
+    × IsRangeIn value_of_data header area (shown_cells shared is_1904 found) nothing range)
+    (λ events own. (cells, own, is)) answers
 
 -- the sheet of a workbook that was opened
 pub book_shown : {P : Type 0} (xlsx : Xlsx P) (name : List ℕ) (old mid : PackageState)

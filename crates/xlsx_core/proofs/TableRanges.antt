@@ -9,7 +9,7 @@ use Rattle.cell_refs.specs.Positions.{last_of_each, least_area}
 use Rattle.cell_refs.specs.declared.dimensions.Dimensions.{Dimensions}
 use Rattle.xlsx_error.specs.declared.error.XlsxError.{XlsxError}
 use Rattle.xlsx_error.specs.declared.error.XlsxError.TheVariants.{OutOfMemory, TableNotFound}
-use Rattle.xlsx_cells.specs.CellsReader.{values_alone}
+use Rattle.xlsx_cells.specs.declared.children.Wants.{Wants}
 use Rattle.xlsx_tables.specs.Tables.{SheetTable}
 use Rattle.xlsx_core.specs.TableData.{IsNoRange}
 use Rattle.xlsx_core.specs.TableData.{AreaFails, TableDataFails, IsTableDataError, LacksTable}
@@ -38,23 +38,30 @@ no_table_error : (sheet : List ℕ) (asked : String Global)
 no_table_error sheet asked (inl head) = head
 no_table_error sheet asked (inr own) = own
 
-module _ {P : Type 0} (xlsx : Xlsx P) where
+module _ {P : Type 0} (wants : Wants) (xlsx : Xlsx P) where
   pub area_fails : (sheet : List ℕ) (area : Dimensions) (old new : PackageState)
       (error : XlsxError)
-      → RangeFails sheet values_alone (grounds_of_book xlsx) (path_of xlsx sheet) old new error
-      → AreaFails xlsx sheet (Some area) old new error
+      → RangeFails sheet wants (grounds_of_book xlsx) (path_of xlsx sheet) old new error
+      → AreaFails wants xlsx sheet (Some area) old new error
   area_fails sheet area old new OutOfMemory fails = tt
   area_fails sheet area old new error fails = (refl, fails)
 
   pub data_fails : (name : List ℕ) (said : SheetTable) (old new : PackageState)
       (error : XlsxError) → table_of_book xlsx name ≡ Some said → IsRangeError said.sheet error
-      → AreaFails xlsx said.sheet said.table.area old new error
-      → TableDataFails xlsx name old new error
+      → AreaFails wants xlsx said.sheet said.table.area old new error
+      → TableDataFails wants xlsx name old new error
   data_fails name said old new OutOfMemory is kind fails = tt
   data_fails name said old new (TableNotFound asked) is kind fails =
       absurd (no_table_error said.sheet asked kind)
   data_fails name said old new error is kind fails = rw is fails
 
+  pub lacks_fails : (name : List ℕ) (old new : PackageState) (error : XlsxError)
+      → LacksTable name (loaded_tables xlsx) error → TableDataFails wants xlsx name old new error
+  lacks_fails name old new OutOfMemory lacks = tt
+  lacks_fails name old new (TableNotFound asked) lacks = lacks
+  lacks_fails name old new error lacks = absurd lacks
+
+module _ {P : Type 0} (xlsx : Xlsx P) where
   pub data_error : (name : List ℕ) (said : SheetTable) (error : XlsxError)
       → table_of_book xlsx name ≡ Some said → IsRangeError said.sheet error
       → IsTableDataError xlsx name error
@@ -62,12 +69,6 @@ module _ {P : Type 0} (xlsx : Xlsx P) where
   data_error name said (TableNotFound asked) is kind =
       absurd (no_table_error said.sheet asked kind)
   data_error name said error is kind = rw is kind
-
-  pub lacks_fails : (name : List ℕ) (old new : PackageState) (error : XlsxError)
-      → LacksTable name (loaded_tables xlsx) error → TableDataFails xlsx name old new error
-  lacks_fails name old new OutOfMemory lacks = tt
-  lacks_fails name old new (TableNotFound asked) lacks = lacks
-  lacks_fails name old new error lacks = absurd lacks
 
   pub lacks_error : (name : List ℕ) (error : XlsxError)
       → LacksTable name (loaded_tables xlsx) error → IsTableDataError xlsx name error

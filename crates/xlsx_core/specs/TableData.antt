@@ -17,8 +17,8 @@ use Rattle.cell_data.specs.declared.value.HeaderRow.{HeaderRow}
 use Rattle.xlsx_error.specs.declared.error.XlsxError.{XlsxError}
 use Rattle.xlsx_error.specs.declared.error.XlsxError.TheVariants.{OutOfMemory, TableNotFound}
 use Rattle.xlsx_values.specs.Value.{Grounds}
-use Rattle.xlsx_cells.specs.CellsReader.{values_alone}
 use Rattle.xlsx_cells.specs.Sheet.{with_texts}
+use Rattle.xlsx_cells.specs.declared.children.Wants.{Wants}
 use Rattle.xlsx_tables.specs.Tables.{SheetTable, table_of_sheet}
 use Rattle.cell_data.specs.Pairs.{pairs_by}
 use Rattle.xlsx_core.specs.SheetReading.{placed_events, data_events}
@@ -121,24 +121,24 @@ ReadsPlacesIn grounds header (Some area) path parts range =
     (λ values. IsRangeIn value_of_data_ref header area values nothing range)
 
 -- when what stands in an area isn't read: there is an area, and the range of the sheet of this name
--- is refused; want of memory may come at any time
+-- is refused, of whose cells this is wanted; want of memory may come at any time
 abbrev pub AreaFails :
-    {P : Type 0} → Xlsx P → List ℕ → Option Dimensions → PackageState → PackageState → XlsxError →
-    Type 0
-AreaFails xlsx sheet area old new OutOfMemory = ⊤
-AreaFails xlsx sheet area old new error =
+    {P : Type 0} → Wants → Xlsx P → List ℕ → Option Dimensions → PackageState → PackageState →
+    XlsxError → Type 0
+AreaFails wants xlsx sheet area old new OutOfMemory = ⊤
+AreaFails wants xlsx sheet area old new error =
     IsSome area
-    × RangeFails sheet values_alone (grounds_of_book xlsx) (path_of xlsx sheet) old new error
+    × RangeFails sheet wants (grounds_of_book xlsx) (path_of xlsx sheet) old new error
 
 -- when the data of a table aren't read: no table has the name, or what stands in its area isn't
 abbrev pub TableDataFails :
-    {P : Type 0} → Xlsx P → List ℕ → PackageState → PackageState → XlsxError → Type 0
-TableDataFails xlsx name old new OutOfMemory = ⊤
-TableDataFails xlsx name old new (TableNotFound asked) =
+    {P : Type 0} → Wants → Xlsx P → List ℕ → PackageState → PackageState → XlsxError → Type 0
+TableDataFails wants xlsx name old new OutOfMemory = ⊤
+TableDataFails wants xlsx name old new (TableNotFound asked) =
     (string_bytes asked ≡ name) × (table_of_book xlsx name ≡ None)
-TableDataFails xlsx name old new error =
+TableDataFails wants xlsx name old new error =
     IsSomeAnd (table_of_book xlsx name)
-    (λ own. AreaFails xlsx own.sheet own.table.area old new error)
+    (λ own. AreaFails wants xlsx own.sheet own.table.area old new error)
 
 -- the refusals that this can have, whatever the package tells
 abbrev pub IsTableDataError : {P : Type 0} → Xlsx P → List ℕ → XlsxError → Type 0

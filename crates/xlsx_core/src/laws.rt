@@ -1,4 +1,4 @@
-ghost use Rattle.std.specs.Prelude.{◌≡◌, ℕ, List, Option, Some};
+ghost use Rattle.std.specs.Prelude.{◌≡◌, ℕ, Bool, List, Option, Some};
 ghost use Rattle.part_events.specs.Package.{Part};
 ghost use Rattle.cell_data.specs.CellValue.{CellValue};
 ghost use Rattle.cell_data.specs.Range.{bounds_of};
@@ -16,14 +16,17 @@ ghost use Rattle.cell_data.specs.Pairs.{value_pairs, place_pairs, formula_pairs}
 ghost use Rattle.xlsx_areas.specs.Hyperlinks.{Link};
 ghost use Rattle.xlsx_core.specs.Links.{links_placed, PlacedLinksCause};
 ghost use Rattle.xlsx_core.specs.Listing.{IsListedAs, IsLeftOut};
+ghost use Rattle.xlsx_core.specs.ShownTable.{ShowsValuesIn};
 ghost use Rattle.xlsx_core.specs.TableData.{ReadsValuesIn, ReadsPlacesIn};
 ghost use Rattle.xlsx_core.specs.Worksheets.{HasLeastRanges, ReadsValues, ReadsPlaces};
 ghost use Rattle.xlsx_core.specs.Worksheets.{ReadsFormulas, ReadsStyles, RangeCause};
 ghost use Rattle.xlsx_cells.specs.CellsReader.{values_alone, formulas_alone, styles_alone};
+ghost use Rattle.xlsx_cells.specs.CellsReader.{values_and_styles};
 ghost use Rattle.xlsx_cells.specs.SheetPart.{SheetPartCause};
 ghost use Rattle.cell_styles.specs.declared.style.Style.{Style};
 ghost use Rattle.std.specs.Prelude.{String};
 ghost use Rattle.std.specs.declared.alloc.Global.{Global};
+ghost use Rattle.xlsx_open.specs.SharedParts.{SharedSaid};
 ghost use Rattle.xlsx_workbook.specs.declared.sheet.Sheet.{Sheet};
 ghost use Rattle.xlsx_core.specs.declared.sheet_reading.SheetReading.{SheetReading};
 ghost use Rattle.xlsx_cells.specs.Sheet.{with_texts};
@@ -128,4 +131,9 @@ pub fn table_data_that_are_read_are_not_refused()
         (range : Range DataRef) (error : XlsxError) →
         ReadsPlacesIn grounds header (Some area) path parts range →
         RangeCause name values_alone grounds path parts error → ⊥ }
+    ensures shown { (grounds : Grounds) (shared : SharedSaid) (is_1904 : Bool)
+        (header : HeaderRow) (name : List ℕ) (area : Dimensions) (path : Option (List ℕ))
+        (parts : List Part) (range : Range Data) (error : XlsxError) →
+        ShowsValuesIn grounds shared is_1904 header (Some area) path parts range →
+        RangeCause name values_and_styles grounds path parts error → ⊥ }
 {}

@@ -6,11 +6,13 @@
 //! `standing` (the last cell of each position, from the header row on), `ranges` (cells as ranges),
 //! `as_read` (the cells of a sheet as they came, and the ranges of them), `sheet_reading`
 //! (`read_sheet`, `read_sheet_values`, `SheetReading`, `SheetAnswer`), `shown_codes` (the codes of
-//! styles, each cut once), `shown_sheet` (`read_sheet_shown`), `shown_laws`, `merges` (the calls on
-//! merged cells), `links` (those on hyperlinks), `comments` (the one on comments), `properties`
-//! (the one on properties), `sheet_lists` (the loop over what the sheets say), `table_list` (tables
-//! that are loaded and listed), `table_data` (their data by their names), `pivots` (the call on
-//! pivot tables), `lists` (what was loaded), `laws`.
+//! styles, each cut once), `shown_sheet` (`read_sheet_shown`), `shown_table` (the call on the data of
+//! a table as they are shown), `shown_laws`, `merges` (the calls on merged cells), `links` (those on
+//! hyperlinks), `comments` (the one on comments), `formula_list` (the one on the formulas of all
+//! sheets), `formula_laws`, `properties` (the one on properties), `sheet_lists` (the loop over what
+//! the sheets say), `numbered_tables` (the tables of all sheets by the numbers of these),
+//! `table_list` (tables that are loaded and listed), `table_data` (their data by their names),
+//! `pivots` (the call on pivot tables), `lists` (what was loaded), `laws`.
 //!
 //! A cause is one of opening or one of the sheet's part (`SheetPartCause`), so that each layer
 //! below says its own half.
@@ -44,6 +46,10 @@
 //! one lemma. `worksheets` finds the first sheet of each name in an ordered map, which is filled
 //! from the last sheet to the first.
 //!
+//! `read_formulas` takes the sheets by their numbers and their paths alone, so that two of one name
+//! are two. Its cells are those of a pass of their own, `collect_covered`, over no grounds at all:
+//! formulas rest on nothing but their part.
+//!
 //! A table that is loaded keeps the number of its sheet, and is said with that sheet's name
 //! (`loaded_tables`), by which its data are read: where two sheets have one name, those of the
 //! first. Its texts are copied before its sheet is read, since the reading is lent the whole
@@ -56,10 +62,13 @@
 
 mod as_read;
 mod comments;
+mod formula_laws;
+mod formula_list;
 mod laws;
 mod links;
 mod lists;
 mod merges;
+mod numbered_tables;
 mod pivots;
 mod placed_sheet;
 mod properties;
@@ -69,6 +78,7 @@ mod sheet_reading;
 mod shown_codes;
 mod shown_laws;
 mod shown_sheet;
+mod shown_table;
 mod standing;
 mod table_data;
 mod table_list;
@@ -78,13 +88,17 @@ mod worksheets;
 mod xlsx;
 
 pub use as_read::{ReadCells, read_cells};
+pub use formula_laws::{
+    formulas_of_all_sheets_are_those_of_each, formulas_that_are_said_are_not_refused,
+};
+pub use formula_list::SheetFormula;
 pub use laws::{
     links_that_are_taken_are_not_refused, ranges_differ_by_texts, readable_sheets_are_not_refused,
     sheets_are_read_alike, sheets_go_by_their_parts, table_data_that_are_read_are_not_refused,
     worksheets_are_listed_or_left_out, worksheets_that_are_read_are_not_refused,
 };
 pub use sheet_reading::{SheetAnswer, SheetReading, ValuesAnswer, read_sheet, read_sheet_values};
-pub use shown_laws::sheets_are_shown_alike;
+pub use shown_laws::{areas_are_shown_as_their_sheets, sheets_are_shown_alike};
 pub use shown_sheet::read_sheet_shown;
 pub use table_list::TableNames;
 pub use workbook::Workbook;

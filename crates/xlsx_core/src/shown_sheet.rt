@@ -5,10 +5,11 @@ ghost use Rattle.cell_data.specs.Cells.{AreInSheet};
 ghost use Rattle.cell_data.specs.Gathered.{cells_gathered};
 ghost use Rattle.cell_data.specs.Pairs.{with_meaning, value_pairs};
 ghost use Rattle.cell_data.specs.declared.value.HeaderRow.TheVariants.{FirstNonEmptyRow};
-ghost use Rattle.part_events.specs.Package.{SameParts, KeepsFaults, Uses};
+ghost use Rattle.part_events.specs.Package.{SameParts, KeepsFaults, Uses, CountsUp};
 ghost use Rattle.sorted_cells.specs.Kept.{kept_cells};
 ghost use Rattle.xlsx_error.specs.declared.error.XlsxError.TheVariants.{Io};
 ghost use Rattle.xlsx_values.specs.Book.{grounds_of};
+ghost use Rattle.xlsx_cells.specs.Head.{IfNoWorksheet};
 ghost use Rattle.xlsx_cells.specs.StyledValues.{styled_entries};
 ghost use Rattle.xlsx_open.specs.SharedParts.{shared_said};
 ghost use Rattle.xlsx_core.specs.Opened.{path_lent};
@@ -34,7 +35,7 @@ use xlsx_error::XlsxError;
 use xlsx_open::{KeptPath, SharedParts};
 
 /// The cells with the texts that are shown of them, under the codes of their styles.
-fn shown_texts(
+pub fn shown_texts(
     alloc: Global,
     cells: SortedCells<StyledValue>,
     shared: &SharedParts,
@@ -71,7 +72,7 @@ fn shown_range(
 
 /// The values of the sheet of this name, whose part is at this path, each with the style id of its
 /// cell. It is refused as `read_placed` is.
-fn read_styled<P: Package>(
+pub fn read_styled<P: Package>(
     xml: &mut XlReader<P>,
     path: Option<&KeptPath>,
     name: &str,
@@ -91,6 +92,10 @@ fn read_styled<P: Package>(
         (styled_entries (cells_gathered cells)))) }
     ensures err { IfErr result (PlacedSheetFails name.now asked.entry.wants
         (grounds_of asked.entry.book) (path_lent path.entry) xml.old.source xml.new.source) }
+    ensures lacks { let old = xml.old.source in
+        let all = placed_events (path_lent path.entry) old.parts in
+        old.is_told ≡ true →
+        IfErr result (IfNoWorksheet (CountsUp all old.taken xml.new.source.taken)) }
     ensures kind { IfErr result (IsPlacedError name.now) }
 {
     let (sheet, _) = open_placed(xml, path, name)?;

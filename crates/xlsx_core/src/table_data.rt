@@ -6,6 +6,7 @@ ghost use Rattle.cell_data.specs.Table.{table_data};
 ghost use Rattle.cell_refs.specs.Positions.{are_sheet_bounds};
 ghost use Rattle.part_events.specs.Package.{Uses};
 ghost use Rattle.xlsx_error.specs.declared.error.XlsxError.TheVariants.{Io};
+ghost use Rattle.xlsx_cells.specs.CellsReader.{values_alone};
 ghost use Rattle.xlsx_core.specs.TableData.{first_named, table_of_book, area_of_book, head_said};
 ghost use Rattle.xlsx_core.specs.TableData.{IsOfTable, ReadsValuesIn, ReadsPlacesIn};
 ghost use Rattle.xlsx_core.specs.TableData.{AreaFails, TableDataFails, IsTableDataError};
@@ -30,14 +31,14 @@ use xlsx_tables::LoadedTable;
 
 /// What a table says beside its data, in memory of its own.
 #[derive(Drop)]
-struct TableHead {
-    name: String,
-    sheet: String,
-    columns: Vec<String>,
-    whole: Dimensions,
-    headers: u32,
-    totals: u32,
-    area: Option<Dimensions>,
+pub(crate) struct TableHead {
+    pub name: String,
+    pub sheet: String,
+    pub columns: Vec<String>,
+    pub whole: Dimensions,
+    pub headers: u32,
+    pub totals: u32,
+    pub area: Option<Dimensions>,
 }
 
 /// The first of these tables that has this name.
@@ -69,7 +70,7 @@ impl<P: Package> Xlsx<P> {
     /// What the first loaded table of this name says beside its data.
     ///
     /// Fails with `TableNotFound` where none has the name.
-    fn table_head(&self, name: &str) -> Result<TableHead, XlsxError>
+    pub(crate) fn table_head(&self, name: &str) -> Result<TableHead, XlsxError>
         requires { IsSome self.now.lists.tables }
         ensures found { IfOk result (λ head.
             table_of_book self.now name.now ≡ Some (head_said head)) }
@@ -108,7 +109,7 @@ impl<P: Package> Xlsx<P> {
         ensures reads { self.old.xml.source.is_told ≡ true →
             IfOk result (ReadsValuesIn (grounds_of_book self.old)
             self.old.header_row area (path_of self.old sheet.now) self.old.xml.source.parts) }
-        ensures err { IfErr result (AreaFails self.old sheet.now area self.old.xml.source
+        ensures err { IfErr result (AreaFails values_alone self.old sheet.now area self.old.xml.source
             self.new.xml.source) }
         ensures kind { IfErr result (IsRangeError sheet.now) }
     {
@@ -144,7 +145,7 @@ impl<P: Package> Xlsx<P> {
         ensures reads { self.old.xml.source.is_told ≡ true →
             IfOk result (ReadsPlacesIn (grounds_of_book self.old)
             self.old.header_row area (path_of self.old sheet.now) self.old.xml.source.parts) }
-        ensures err { IfErr result (AreaFails self.old sheet.now area self.old.xml.source
+        ensures err { IfErr result (AreaFails values_alone self.old sheet.now area self.old.xml.source
             self.new.xml.source) }
         ensures kind { IfErr result (IsRangeError sheet.now) }
     {
@@ -195,7 +196,7 @@ impl<P: Package> Xlsx<P> {
             IsSomeAnd (table_of_book self.old table_name.now) (λ own.
             ReadsValuesIn (grounds_of_book self.old) self.old.header_row own.table.area
             (path_of self.old own.sheet) self.old.xml.source.parts (table_data table))) }
-        ensures err { IfErr result (TableDataFails self.old table_name.now
+        ensures err { IfErr result (TableDataFails values_alone self.old table_name.now
             self.old.xml.source self.new.xml.source) }
         ensures kind { IfErr result (IsTableDataError self.old table_name.now) }
     {
@@ -223,7 +224,7 @@ impl<P: Package> Xlsx<P> {
             IsSomeAnd (table_of_book self.old table_name.now) (λ own.
             ReadsPlacesIn (grounds_of_book self.old) self.old.header_row own.table.area
             (path_of self.old own.sheet) self.old.xml.source.parts (table_data table))) }
-        ensures err { IfErr result (TableDataFails self.old table_name.now
+        ensures err { IfErr result (TableDataFails values_alone self.old table_name.now
             self.old.xml.source self.new.xml.source) }
         ensures kind { IfErr result (IsTableDataError self.old table_name.now) }
     {

@@ -1,6 +1,7 @@
 use Rattle.std.proofs.Common.{ap, length, subst}
 use Rattle.cell_data.specs.Gathered.{cells_gathered}
 use Rattle.cell_data.specs.declared.value.HeaderRow.{HeaderRow}
+use Rattle.xlsx_cells.specs.CellsReader.{values_alone}
 use Rattle.xlsx_cells.specs.SheetPart.{value_entries, formula_entries}
 use Rattle.xlsx_core.specs.SheetReading.{events_at}
 use Rattle.xlsx_core.specs.TableData.{IsRangeIn}
@@ -28,7 +29,7 @@ returns-in_err-cells-clause-err g c =
     let p = err_from_is_err_and c.from_residual-in_err-cells.result
     c.from_residual-in_err-cells.ensures.1 in
     rw (p.1, p.2, c.in-Some.is)
-    (area_fails xlsx c.args.sheet.now c.in-Some.area old new c.in_err-cells.field-0.0
+    (area_fails values_alone xlsx c.args.sheet.now c.in-Some.area old new c.in_err-cells.field-0.0
     c.in_err-cells.ensures.err)
 
 pub returns-clause-reads : goal.returns-clause-reads

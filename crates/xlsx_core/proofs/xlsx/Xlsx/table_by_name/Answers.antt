@@ -1,4 +1,5 @@
 use Rattle.std.proofs.lemmas.Result.{err_from_is_err_and}
+use Rattle.xlsx_cells.specs.CellsReader.{values_alone}
 use Rattle.xlsx_core.specs.TableData.{head_said}
 use Rattle.xlsx_core.proofs.TableRanges.{data_fails, data_error, lacks_fails, lacks_error}
 use Rattle.xlsx_core.proofs.xlsx.Xlsx.table_by_name.Goals as goal
@@ -10,7 +11,7 @@ returns-in_err-head-clause-err g c =
     let p = err_from_is_err_and c.from_residual.result
     c.from_residual.ensures.1 in
     rw (p.1, p.2)
-    (lacks_fails xlsx c.args.table_name.now old old c.in_err-head.field-0.0
+    (lacks_fails values_alone xlsx c.args.table_name.now old old c.in_err-head.field-0.0
     c.in_err-head.ensures.err)
 
 pub returns-in_err-head-clause-kind : goal.returns-in_err-head-clause-kind
@@ -29,7 +30,7 @@ returns-in_err-data-clause-err g c =
     let p = err_from_is_err_and c.from_residual-in_err-data.result
     c.from_residual-in_err-data.ensures.1 in
     rw (p.1, p.2)
-    (data_fails xlsx c.args.table_name.now (head_said c.in_ok-head.head) old new
+    (data_fails values_alone xlsx c.args.table_name.now (head_said c.in_ok-head.head) old new
     c.in_err-data.field-0.0 c.in_ok-head.ensures.found
     (rw c.as_str.ensures.value at c.in_err-data.ensures.kind)
     (rw c.as_str.ensures.value at c.in_err-data.ensures.err))
