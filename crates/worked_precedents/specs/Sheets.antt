@@ -10,7 +10,7 @@ two_formulas =
     (((0, 0), codes "SUM(B1:C2)+$D$4+Other!E5") ∷ ((0, 1), codes "A:A") ∷ [])
 
 -- so many rows, from the last one up to the first, with a formula that names A1 alone
-abbrev pub narrow_above : ℕ → List ((ℕ × ℕ) × List Dimensions)
-narrow_above zero = []
-narrow_above (suc row) =
-    ((row, 0), record { start = (0, 0); end = (0, 0) } ∷ []) ∷ narrow_above row
+abbrev pub first_cells : ℕ → List ((ℕ × ℕ) × List Dimensions)
+first_cells zero = []
+first_cells (suc row) =
+    ((row, 0), record { start = (0, 0); end = (0, 0) } ∷ []) ∷ first_cells row

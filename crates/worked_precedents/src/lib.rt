@@ -11,4 +11,4 @@ mod index_tests;
 mod sheets;
 mod steps;
 
-pub use steps::{a_search_of_a_sheet_takes_four_steps, a_search_passes_other_blocks};
+pub use steps::{a_search_of_a_sheet_takes_eight_steps, a_search_passes_other_rows};

@@ -1,7 +1,7 @@
 //! Searches that count their steps, and how many the bound of one allows.
-ghost use Rattle.std.specs.Prelude.{◌≡◌, ◌<◌, ℕ, IfOk};
+ghost use Rattle.std.specs.Prelude.{◌≡◌, ◌*◌, ◌<◌, ℕ, IfOk};
 ghost use Rattle.xlsx_precedents.specs.Precedents.{dependents_of, steps_within};
-ghost use Rattle.worked_precedents.specs.Sheets.{two_formulas, narrow_above};
+ghost use Rattle.worked_precedents.specs.Sheets.{two_formulas, first_cells};
 
 use std::alloc::{AllocError, Global};
 use std::marker::Brand;
@@ -34,12 +34,13 @@ fn counted_by<L: Ledger>(
     index.dependents_counted(alloc, pos, &mut steps)
 }
 
-/// Three areas have rows of the first block, and one is wide.
-pub fn a_search_of_a_sheet_takes_four_steps()
-    ensures { steps_within two_formulas (6, 0) ≡ 4 }
+/// The number of three areas has two binary digits, and one of them has cells of row 7.
+pub fn a_search_of_a_sheet_takes_eight_steps()
+    ensures { steps_within two_formulas (6, 0) 2 ≡ 8 }
 {}
 
-/// No area of other blocks that isn't wide is looked at, however many there are.
-pub fn a_search_passes_other_blocks()
-    ensures { (count : ℕ) → steps_within (narrow_above count) (1024, 0) ≡ 0 }
+/// Where no area has cells of the row there are two steps for each binary digit, however many areas
+/// there are.
+pub fn a_search_passes_other_rows()
+    ensures { (count digits : ℕ) → steps_within (first_cells count) (1, 0) digits ≡ 2 * digits }
 {}

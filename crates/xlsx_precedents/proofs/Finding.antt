@@ -1,9 +1,8 @@
 -- The cells that are found by the numbers of their areas.
 use Rattle.std.proofs.Common.{◌≡◌, ℕ, suc, ◌+◌, ◌-◌, Bool, true, false, cond, not, ◌||◌}
 use Rattle.std.proofs.Common.{List, [], ◌∷◌, ◌++◌, length, map, replicate, Option, None, Some}
-use Rattle.std.proofs.Common.{refl, sym, ap, ◌∙◌, subst, arith}
-use Rattle.std.specs.Prelude.{◌&&◌, ◌==◌, ◌/◌, ◌≤◌, nat_le, filter}
-use Rattle.std.specs.Global.{Vec}
+use Rattle.std.proofs.Common.{refl, sym, ap, ◌∙◌, arith}
+use Rattle.std.specs.Prelude.{◌&&◌, ◌==◌, filter}
 use Rattle.std.specs.List.{slice_get, list_all}
 use Rattle.std.specs.declared.cmp.Ordering.TheVariants.{Less, Greater}
 use Rattle.std.specs.Ordering.{ordering_reverse, is_lt}
@@ -14,59 +13,48 @@ use Rattle.cell_refs.specs.Positions.{position_cmp, is_in_area}
 use Rattle.cell_refs.specs.declared.dimensions.Dimensions.{Dimensions}
 use Rattle.cell_refs.proofs.PositionOrder.{and_both, and_from, positions_rise}
 use Rattle.cell_refs.proofs.PositionOrder.{position_total, less_from, rising_positions}
-use Rattle.xlsx_precedents.specs.Kept.{all_naming, entry_in, cell_naming, AreGathered, AreNumbered}
-use Rattle.xlsx_precedents.specs.Numbers.{numbers_where, numbers_at, is_narrow_in, merged, naming}
-use Rattle.xlsx_precedents.specs.Numbers.{is_this, last_cell, put_found, found_by}
-use Rattle.xlsx_precedents.specs.Precedents.{names_cell, dependents_of, all_named, meets_block}
-use Rattle.xlsx_precedents.specs.Precedents.{is_wide, steps_within}
+use Rattle.xlsx_precedents.specs.Kept.{all_naming, entry_in, AreGathered}
+use Rattle.xlsx_precedents.specs.Numbers.{numbers_where, is_this, last_cell, put_found, found_by}
+use Rattle.xlsx_precedents.specs.Precedents.{names_cell, dependents_of, all_named}
 use Rattle.xlsx_precedents.specs.declared.named_areas.NamedAreas.{NamedAreas}
 use Rattle.xlsx_precedents.proofs.Gathering.{paired}
-use Rattle.xlsx_precedents.proofs.Merging.{merged-either, length-merged, length-numbers_where}
-use Rattle.xlsx_precedents.proofs.Merging.{length-filter_fewer}
 
 -- the cells that are found along areas and the cell of each
 abbrev along : ℕ × ℕ → List (ℕ × ℕ) → List Dimensions → List (ℕ × ℕ) → List (ℕ × ℕ)
 along position found [] cells = found
 along position found (area ∷ areas) [] = found
 along position found (area ∷ areas) (cell ∷ cells) =
-    along position (put_found found (naming position (Some area) (Some cell))) areas cells
+    along position (put_found found (cond (is_in_area area position) (Some cell) None)) areas cells
 
--- all areas that have the position are among those that are looked at
-module _ (position : ℕ × ℕ) (look : ℕ → Option (ℕ × ℕ)) (passes : Dimensions → Bool)
-    (sees : (area : Dimensions) → is_in_area area position ≡ true → passes area ≡ true) where
+-- the cells of the areas that have a position, by their numbers
+module _ (position : ℕ × ℕ) (look : ℕ → Option (ℕ × ℕ)) where
+  abbrev having : Dimensions → Bool
+  having area = is_in_area area position
+
   pub found_along : (found : List (ℕ × ℕ)) (from : ℕ) (areas : List Dimensions)
       (cells : List (ℕ × ℕ)) → length areas ≡ length cells →
-      ((k : ℕ) → look (from + k) ≡ naming position (slice_get areas k) (slice_get cells k)) →
-      found_by look found (numbers_where passes from areas) ≡ along position found areas cells
+      ((k : ℕ) → look (from + k) ≡ slice_get cells k) →
+      found_by look found (numbers_where having from areas) ≡ along position found areas cells
   found_along found from [] cells paired looks = refl
   found_along found from (area ∷ areas) [] paired looks = absurd (omega arith)
   found_along found from (area ∷ areas) (cell ∷ cells) paired looks =
-      let first : look from ≡ naming position (Some area) (Some cell) =
-      ap look (omega arith) ∙ looks 0 in
-      let looks' : (k : ℕ) →
-      look (from + 1 + k) ≡ naming position (slice_get areas k) (slice_get cells k) =
+      let first : look from ≡ Some cell = ap look (omega arith) ∙ looks 0 in
+      let looks' : (k : ℕ) → look (from + 1 + k) ≡ slice_get cells k =
       λ k. ap look (omega arith) ∙ looks (suc k) in
-      by_tests (passes area) refl (is_in_area area position) refl first
+      by_test (is_in_area area position) first
       (λ found. found_along found (from + 1) areas cells (omega arith) looks') where
-        by_tests : (t : Bool) → passes area ≡ t → (u : Bool) → is_in_area area position ≡ u →
-            look from ≡ naming position (Some area) (Some cell) →
+        by_test : (t : Bool) → look from ≡ Some cell →
             ((found : List (ℕ × ℕ)) →
-            found_by look found (numbers_where passes (from + 1) areas)
+            found_by look found (numbers_where having (from + 1) areas)
             ≡ along position found areas cells) →
-            found_by look found (cond t (from ∷ numbers_where passes (from + 1) areas)
-            (numbers_where passes (from + 1) areas))
-            ≡ along position
-            (put_found found (naming position (Some area) (Some cell))) areas cells
-        by_tests true pass u has first rest =
-            ap (λ o. found_by look (put_found found o) (numbers_where passes (from + 1) areas))
+            found_by look found (cond t (from ∷ numbers_where having (from + 1) areas)
+            (numbers_where having (from + 1) areas))
+            ≡ along position (put_found found (cond t (Some cell) None)) areas cells
+        by_test true first rest =
+            ap (λ o. found_by look (put_found found o) (numbers_where having (from + 1) areas))
             first
-            ∙ rest (put_found found (naming position (Some area) (Some cell)))
-        by_tests false pass true has first rest =
-            let never : passes area ≡ true = sees area has in absurd (cc)
-        by_tests false pass false has first rest =
-            rest found
-            ∙ ap (λ u. along position (put_found found (cond u (Some cell) None)) areas cells)
-            (sym has)
+            ∙ rest (put_found found (Some cell))
+        by_test false first rest = rest found
 
 last_cell-push : (found : List (ℕ × ℕ)) (cell : ℕ × ℕ) →
     last_cell (found ++ cell ∷ []) ≡ Some cell
@@ -208,92 +196,30 @@ along_index position found (entry ∷ index) rise apart =
 
 -- ---- a search
 
--- an area that has a position has rows of its block
-in_block : (position : ℕ × ℕ) (area : Dimensions) → is_in_area area position ≡ true →
-    meets_block (position.0 / 1024) area ≡ true
-in_block position area has =
-    let rows = (and_both (nat_le area.start.0 position.0 && nat_le position.0 area.end.0)
-    (nat_le area.start.1 position.1 && nat_le position.1 area.end.1) has).0 in
-    let (above, below) = and_both (nat_le area.start.0 position.0) (nat_le position.0 area.end.0)
-    rows in
-    let above' : area.start.0 ≤ position.0 = grind (arith, nat_tests, above) in
-    let below' : position.0 ≤ area.end.0 = grind (arith, nat_tests, below) in
-    let first : area.start.0 / 1024 ≤ position.0 / 1024 = omega (arith, above') in
-    let last : position.0 / 1024 ≤ area.end.0 / 1024 = omega (arith, below') in
-    and_from (nat_le (area.start.0 / 1024) (position.0 / 1024))
-    (nat_le (position.0 / 1024) (area.end.0 / 1024)) (grind (arith, nat_tests, first))
-    (grind (arith, nat_tests, last))
-
-looked_at : (position : ℕ × ℕ) (area : Dimensions) → is_in_area area position ≡ true →
-    (is_narrow_in (position.0 / 1024) area || is_wide area) ≡ true
-looked_at position area has =
-    ap (λ t. (t && not (is_wide area)) || is_wide area) (in_block position area has)
-    ∙ by_test (is_wide area) where
-      by_test : (t : Bool) → (not t || t) ≡ true
-      by_test true = refl
-      by_test false = refl
-
-never_both : (block : ℕ) (area : Dimensions) → (is_narrow_in block area && is_wide area) ≡ false
-never_both block area = by_tests (meets_block block area) (is_wide area) where
-  by_tests : (t u : Bool) → ((t && not u) && u) ≡ false
-  by_tests true true = refl
-  by_tests true false = refl
-  by_tests false u = refl
-
--- cells, their areas and the numbers of these
-module _ (cells : List ((ℕ × ℕ) × (ℕ × ℕ))) (named : NamedAreas) (narrow : List (Vec ℕ))
-    (wide : List ℕ) (position : ℕ × ℕ) (gathered : AreGathered cells named)
-    (numbered : AreNumbered named.areas.items narrow wide)
-    (index : List ((ℕ × ℕ) × List Dimensions))
+-- cells, and their areas
+module _ (cells : List ((ℕ × ℕ) × (ℕ × ℕ))) (named : NamedAreas) (position : ℕ × ℕ)
+    (gathered : AreGathered cells named) (index : List ((ℕ × ℕ) × List Dimensions))
     (index_is : map (entry_in named.areas.items) cells ≡ index) where
-  abbrev own_block : ℕ
-  own_block = position.0 / 1024
-
   abbrev entries : List ((ℕ × ℕ) × List Dimensions)
   entries = map (entry_in named.areas.items) cells
 
-  numbers_are : merged (numbers_at own_block narrow) wide
-      ≡ merged (numbers_where (is_narrow_in own_block) 0 named.areas.items)
-      (numbers_where is_wide 0 named.areas.items)
-  numbers_are = λ i. merged (numbered.narrow_in own_block i) (numbered.wide_are i)
+  abbrev cell_numbered : ℕ → Option (ℕ × ℕ)
+  cell_numbered n = slice_get named.cells.items n
 
   both_lists : length named.areas.items ≡ length named.cells.items
   both_lists = ap length gathered.areas ∙ paired entries ∙ sym (ap length gathered.owners)
 
+  pub named_are : named.areas.items ≡ all_named index
+  named_are = gathered.areas ∙ ap all_named index_is
+
   pub searched :
-      found_by (cell_naming named position) [] (merged (numbers_at own_block narrow) wide)
+      found_by cell_numbered []
+      (numbers_where (λ area. is_in_area area position) 0 named.areas.items)
       ≡ dependents_of index position
   searched =
-      ap (found_by (cell_naming named position) []) numbers_are
-      ∙ ap (found_by (cell_naming named position) [])
-      (merged-either (is_narrow_in own_block) is_wide 0 named.areas.items (never_both own_block))
-      ∙ found_along position (cell_naming named position)
-      (λ area. is_narrow_in own_block area || is_wide area) (looked_at position) [] 0
-      named.areas.items named.cells.items both_lists
-      (λ k. ap (cell_naming named position) (omega arith))
+      found_along position cell_numbered [] 0 named.areas.items named.cells.items both_lists
+      (λ k. ap cell_numbered (omega arith))
       ∙ (λ i. along position [] (gathered.areas i) (gathered.owners i))
       ∙ along_index position [] entries (sym (rising_positions entries) ∙ gathered.rising)
       (no_last (positions entries))
       ∙ ap (λ index. dependents_of index position) index_is
-
-  pub search_steps :
-      length (merged (numbers_at own_block narrow) wide) ≤ steps_within index position
-  unfolding steps_within
-  search_steps =
-      let areas = named.areas.items in
-      let named_are : areas ≡ all_named index = gathered.areas ∙ ap all_named index_is in
-      let sizes : length (merged (numbers_at own_block narrow) wide)
-      ≡ length (numbers_where (is_narrow_in own_block) 0 areas)
-      + length (numbers_where is_wide 0 areas) =
-      ap length numbers_are
-      ∙ length-merged (numbers_where (is_narrow_in own_block) 0 areas)
-      (numbers_where is_wide 0 areas) in
-      subst (λ all. length (merged (numbers_at own_block narrow) wide)
-      ≤ length (filter (meets_block own_block) all) + length (filter is_wide all)) named_are
-      (omega (
-        arith,
-        sizes,
-        length-numbers_where (is_narrow_in own_block) 0 areas,
-        length-numbers_where is_wide 0 areas,
-        length-filter_fewer (meets_block own_block) (λ area. not (is_wide area)) areas,
-      ))

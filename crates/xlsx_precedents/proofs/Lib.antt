@@ -1,6 +1,7 @@
 pub mod OwnAreas
-pub mod Numbering
-pub mod Merging
+pub mod InOrder
+pub mod Halving
+pub mod Searching
 pub mod Finding
 pub mod Gathering
 pub mod Standing

@@ -1,16 +1,14 @@
 -- What an index keeps of the cells and their areas.
 use Rattle.std.specs.Prelude.{◌≡◌, ℕ, ◌&&◌, nat_le, Bool, true, List, map, length, Option}
 use Rattle.std.specs.Prelude.{replicate, [], option_to_list, if◌then◌else◌}
-use Rattle.std.specs.List.{flat_map, list_all, slice_get, slice_range}
-use Rattle.std.specs.Global.{Vec}
+use Rattle.std.specs.List.{flat_map, list_all, slice_range}
 use Rattle.cell_refs.specs.Positions.{is_rising, is_sheet_area}
 use Rattle.cell_refs.specs.declared.dimensions.Dimensions.{Dimensions}
 use Rattle.formula_shift.specs.Areas.{is_elsewhere}
 use Rattle.formula_shift.specs.Pieces.{PieceText}
 use Rattle.formula_shift.specs.Relocation.{piece_reference}
 use Rattle.formula_shift.specs.declared.reference.Reference.{Reference}
-use Rattle.xlsx_precedents.specs.Numbers.{numbers_where, is_narrow_in, numbers_at, naming}
-use Rattle.xlsx_precedents.specs.Precedents.{is_wide, all_named}
+use Rattle.xlsx_precedents.specs.Precedents.{all_named}
 use Rattle.xlsx_precedents.specs.declared.named_areas.NamedAreas.{NamedAreas}
 
 -- the reference of its own sheet that a piece is, if any, between these bytes
@@ -37,15 +35,3 @@ pub record AreGathered (cells : List ((ℕ × ℕ) × (ℕ × ℕ))) (named : Na
   pub areas : named.areas.items ≡ all_named (map (entry_in named.areas.items) cells)
   pub owners : named.cells.items ≡ all_naming (map (entry_in named.areas.items) cells)
   pub on_sheet : list_all is_sheet_area named.areas.items ≡ true
-
--- the cell of the area of a number, where the area has the position
-abbrev pub cell_naming : NamedAreas → ℕ × ℕ → ℕ → Option (ℕ × ℕ)
-cell_naming named position number =
-    naming position (slice_get named.areas.items number) (slice_get named.cells.items number)
-
--- these are the numbers of the wide areas, and of the narrow ones of each block
-pub record AreNumbered (areas : List Dimensions) (narrow : List (Vec ℕ)) (wide : List ℕ) :
-    Type 0 where
-  pub narrow_in : (block : ℕ) →
-      numbers_at block narrow ≡ numbers_where (is_narrow_in block) 0 areas
-  pub wide_are : wide ≡ numbers_where is_wide 0 areas

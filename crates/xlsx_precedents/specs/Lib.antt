@@ -2,3 +2,4 @@ pub mod Kept
 pub mod Lines
 pub mod Numbers
 pub mod Precedents
+pub mod Spans

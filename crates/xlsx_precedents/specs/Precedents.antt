@@ -1,5 +1,5 @@
 -- The areas that a formula names, and the cells whose formulas name a cell.
-use Rattle.std.specs.Prelude.{ℕ, ◌+◌, ◌-◌, ◌/◌, ◌&&◌, nat_le, nat_lt, Bool, List, map, length}
+use Rattle.std.specs.Prelude.{ℕ, ◌+◌, ◌*◌, ◌&&◌, nat_le, Bool, List, map, length}
 use Rattle.std.specs.Prelude.{filter, None, option_to_list, ℤ}
 use Rattle.std.specs.List.{flat_map, list_any}
 use Rattle.std.specs.Prelude.{String, string_bytes}
@@ -37,27 +37,18 @@ unfoldable pub dependents_of : List ((ℕ × ℕ) × List Dimensions) → ℕ ×
 dependents_of index position =
     map (λ entry. entry.0) (filter (λ entry. names_cell entry.1 position) index)
 
--- ---- how many areas a search looks at
-
--- the rows of a worksheet lie in blocks of so many
-abbrev pub block_rows : ℕ
-block_rows = 1024
-
--- an area has rows of a block
-abbrev pub meets_block : ℕ → Dimensions → Bool
-meets_block block area =
-    nat_le (area.start.0 / block_rows) block && nat_le block (area.end.0 / block_rows)
-
--- the area meets more than 16 blocks
-abbrev pub is_wide : Dimensions → Bool
-is_wide area = nat_lt 16 (area.end.0 / block_rows + 1 - area.start.0 / block_rows)
-
 -- the areas that all formulas name, in order
 abbrev pub all_named : List ((ℕ × ℕ) × List Dimensions) → List Dimensions
 all_named index = flat_map (λ entry. entry.1) index
 
--- the most steps of a search for a position: how many areas meet its block, and how many are wide
-unfoldable pub steps_within : List ((ℕ × ℕ) × List Dimensions) → ℕ × ℕ → ℕ
-steps_within index position =
-    length (filter (meets_block (position.0 / block_rows)) (all_named index))
-    + length (filter is_wide (all_named index))
+-- ---- how many areas a search looks at
+
+-- an area has cells of a row
+abbrev pub has_row : ℕ → Dimensions → Bool
+has_row row area = nat_le area.start.0 row && nat_le row area.end.0
+
+-- the most steps of a search for a position among areas whose number has so many binary digits: by
+-- how many of them have cells of its row
+unfoldable pub steps_within : List ((ℕ × ℕ) × List Dimensions) → ℕ × ℕ → ℕ → ℕ
+steps_within index position digits =
+    2 * (digits * (1 + length (filter (has_row position.0) (all_named index))))

@@ -1,20 +1,19 @@
 //! The index of the formulas of a sheet by the cells that they name.
-ghost use Rattle.std.specs.Prelude.{◌≡◌, ◌+◌, ◌<◌, ◌≤◌, [], map, length, IfOk, OnOk};
+ghost use Rattle.std.specs.Prelude.{◌≡◌, ◌+◌, ◌^◌, ◌<◌, ◌≤◌, ℕ, [], map, length, IfOk, OnOk};
 ghost use Rattle.std.specs.FinMap.{find};
+ghost use Rattle.std.specs.List.{slice_get};
 ghost use Rattle.std.specs.Option.{unwrap_or};
 ghost use Rattle.cell_data.specs.Cells.{AreInSheet};
 ghost use Rattle.cell_data.specs.Range.{cells_of};
 ghost use Rattle.cell_refs.specs.Positions.{position_cmp};
 ghost use Rattle.sorted_cells.specs.Kept.{kept_cells};
-ghost use Rattle.xlsx_precedents.specs.Kept.{entry_in, AreGathered, cell_naming};
+ghost use Rattle.xlsx_precedents.specs.Kept.{entry_in, AreGathered};
 ghost use Rattle.xlsx_precedents.specs.Numbers.{put_once, is_this, last_cell, found_by};
-ghost use Rattle.xlsx_precedents.specs.Numbers.{candidates_left};
 ghost use Rattle.xlsx_precedents.specs.Precedents.{named_by, formula_entry, dependents_of};
-ghost use Rattle.xlsx_precedents.specs.Precedents.{steps_within};
+ghost use Rattle.xlsx_precedents.specs.Precedents.{all_named, steps_within};
 
-use crate::candidates::Candidates;
 use crate::named_areas::NamedAreas;
-use crate::numbers::{block_of, narrow_numbers, numbers_of, wide_numbers};
+use crate::spans::{Span, numbers_at, spans_of};
 use cell_data::Range;
 use cell_refs::Dimensions;
 use counted_steps::Steps;
@@ -26,49 +25,46 @@ use std::sync::ledger::{Blank, Ledger};
 /// The formulas of a sheet, each by its cell and the areas that it names, for the question which
 /// formulas name a cell.
 ///
-/// A worksheet has 1,024 blocks of 1,024 rows each. An area that meets at most 16 of them is listed
-/// in each of these, and every other one in one list of wide areas, so that a search looks at the
-/// areas of one block and at the wide ones alone.
+/// The areas are kept once more by their first rows, as a tree by halving, so that a search goes
+/// where an area has the row that is asked for, and to few others.
 #[derive(Drop)]
 pub struct DependencyIndex {
     cells: SortedCells<(usize, usize)>,
     named: NamedAreas,
-    narrow: Vec<Vec<usize>>,
-    wide: Vec<usize>,
+    spans: Vec<Span>,
 }
 
 impl Model for DependencyIndex {
     ghost use Rattle.std.specs.Prelude.{ℕ, List, map};
     ghost use Rattle.cell_refs.specs.declared.dimensions.Dimensions.{Dimensions};
     ghost use Rattle.sorted_cells.specs.Kept.{kept_cells};
-    ghost use Rattle.xlsx_precedents.specs.Kept.{entry_in, AreGathered, AreNumbered};
+    ghost use Rattle.xlsx_precedents.specs.Kept.{entry_in, AreGathered};
+    ghost use Rattle.xlsx_precedents.specs.Spans.{AreSpans};
 
     ghost Value = { List ((ℕ × ℕ) × List Dimensions) };
 
     ghost view = { λ index. map (entry_in index.named.areas.items) (kept_cells index.cells) };
 
     ghost invariant = { λ index. AreGathered (kept_cells index.cells) index.named
-        × AreNumbered index.named.areas.items index.narrow.items index.wide.items };
+        × AreSpans index.named.areas.items index.spans.items };
 }
 
 impl DependencyIndex {
     /// The index of the used cells, each with the areas that its formula names.
     ///
-    /// It takes time and memory by the text of the formulas and by the number of their areas: for
-    /// each area its corners, its cell and at most 16 numbers.
+    /// It takes memory by the number of the areas that formulas name: for each its corners twice,
+    /// its cell, its number and a row.
     pub fn build(alloc: Global, formulas: &Range<String>) -> Result<DependencyIndex, AllocError>
         ensures entries { IfOk result
             (λ index. index ≡ map named_by (map formula_entry (cells_of formulas.now))) }
         ensures sheet { IfOk result AreInSheet }
     {
         let (cells, named) = gather(alloc, formulas)?;
-        let narrow = narrow_numbers(alloc, named.as_slice())?;
-        let wide = wide_numbers(alloc, named.as_slice())?;
+        let spans = spans_of(alloc, named.as_slice())?;
         Ok(DependencyIndex {
             cells,
             named,
-            narrow,
-            wide,
+            spans,
         })
     }
 
@@ -91,8 +87,9 @@ impl DependencyIndex {
         self.dependents_uncounted::<Brand>(alloc, pos, Blank::new(1))
     }
 
-    /// The answer of `dependents`, found in at most as many steps as areas meet the block of the
-    /// position and as are wide. A step is a look at an area.
+    /// The answer of `dependents`. Where the number of all areas has so many binary digits, it is
+    /// found in at most two steps for each digit, and two more for each digit and each area that
+    /// has cells of the row that is asked for. A step is a look at an area.
     pub fn dependents_counted<L: Ledger>(
         &self,
         alloc: Global,
@@ -101,16 +98,11 @@ impl DependencyIndex {
     ) -> Result<Vec<(u32, u32)>, AllocError>
         ensures value { IfOk result (λ found. found.items ≡ dependents_of self.now pos) }
         ensures counted { steps.old ≤ steps.new }
-        ensures cost { steps.new ≤ steps.old + steps_within self.now pos }
+        ensures cost { (digits : ℕ) → length (all_named self.now) < 2 ^ digits →
+            steps.new ≤ steps.old + steps_within self.now pos digits }
     {
-        let narrow = numbers_of(&self.narrow, block_of(pos.0));
-        found_among(
-            alloc,
-            &self.named,
-            Candidates::new(narrow, &self.wide),
-            pos,
-            steps,
-        )
+        let numbers = numbers_at(alloc, self.named.as_slice(), &self.spans, pos, steps)?;
+        found_by(alloc, &self.named, &numbers)
     }
 
     /// The search, by a counter that nobody reads.
@@ -152,23 +144,18 @@ fn gather(
     Ok((cells, named))
 }
 
-/// The cells of the areas among these that have a position, each once.
-fn found_among<L: Ledger>(
+/// The cells whose formulas name the areas of these numbers. One that came last isn't put again.
+fn found_by(
     alloc: Global,
     named: &NamedAreas,
-    candidates: Candidates<'_>,
-    pos: (u32, u32),
-    steps: &mut Steps<L>,
+    numbers: &[usize],
 ) -> Result<Vec<(u32, u32)>, AllocError>
-    ensures found { IfOk result (λ found. found.items
-        ≡ found_by (cell_naming named.now pos) [] (candidates_left candidates.entry)) }
-    ensures counted { steps.old ≤ steps.new }
-    ensures cost { steps.new ≤ steps.old + length (candidates_left candidates.entry) }
+    ensures { IfOk result (λ found. found.items
+        ≡ found_by (λ n. slice_get named.now.cells.items n) [] numbers.now) }
 {
     let mut found = Vec::new(alloc);
-    let mut left = candidates;
-    while let Some(number) = left.next() {
-        if let Some(cell) = named.naming(number, pos, steps) {
+    for number in numbers {
+        if let Some(cell) = named.cell(*number) {
             put_once(&mut found, cell)?;
         }
     }

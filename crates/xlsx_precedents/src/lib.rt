@@ -1,8 +1,7 @@
 //! What formulas name: the areas of a formula, and the cells whose formulas name a cell.
 //!
 //! Rooms: `areas` (the areas of one formula), `named_areas` (all areas, and the cell of each),
-//! `numbers` (the numbers of the wide areas, and of the narrow ones of each block), `candidates`
-//! (two lists of numbers as one), `index` (`DependencyIndex`), `lines` (what is printed of both
+//! `spans` (all areas by their rows), `index` (`DependencyIndex`), `lines` (what is printed of both
 //! questions), `laws` (the areas of a moved text).
 //!
 //! A formula is cut once, and no list of its pieces is kept: beside a piece stand the last byte of
@@ -11,28 +10,29 @@
 //!
 //! **An index is seen as a list** of each used cell with its areas, row by row. It keeps all areas
 //! in one list, the cell of each beside it, and for each cell where its areas begin and end, so
-//! that `precedents` is a slice. A worksheet has 1,024 blocks of 1,024 rows. The number of an area
-//! that meets at most 16 of them is kept with each, that of a wide one in one list, and the
-//! invariant says of both that they are the numbers of the areas that pass a test, in order
-//! (`numbers_where`). So a search merges two lists that rise, and sorts nothing. What it finds
-//! comes cell by cell, and a cell that came last isn't put again.
+//! that `precedents` is a slice.
 //!
-//! `NamedAreas::naming` is the only look at an area that a search has, and the one that ticks;
-//! `dependents` is `dependents_counted` with a counter that takes no bytes. The bound speaks of the
-//! areas, and of no list that is kept: how many meet the block of the position, and how many are
-//! wide.
+//! Beside them the areas stand by their first rows, each with its number. The area in the middle of
+//! a stretch keeps the greatest last row of the stretch, and so down. A search goes into a stretch
+//! only where that is not above the row that is asked for, and to the right of a middle only where
+//! it begins at the row or above: of stretches that begin by the row it sees none in vain, and of
+//! others one a halving. What it finds is sorted by the numbers of the areas, so it comes cell by
+//! cell, and a cell that came last isn't put again.
+//!
+//! A look at a middle is the only one that a search has, and ticks; `dependents` is
+//! `dependents_counted` with a counter that takes no bytes. The bound speaks of the areas, and of
+//! no list that is kept: how many there are, and how many have cells of the row.
 //!
 //! Its lemma file for the crates above is `Standing`: where the cells of formulas stand in a
 //! worksheet, so do the dependents.
 #![tactic(auto)]
 
 mod areas;
-mod candidates;
 mod index;
 mod laws;
 mod lines;
 mod named_areas;
-mod numbers;
+mod spans;
 
 pub use areas::areas_of;
 pub use counted_steps::Steps;

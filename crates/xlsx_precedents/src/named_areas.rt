@@ -1,15 +1,12 @@
 //! All areas that formulas name, and the cell of each.
-ghost use Rattle.std.specs.Prelude.{◌≡◌, ◌+◌, ◌≤◌, ◌++◌, [], length, replicate, true, OnOk};
-ghost use Rattle.std.specs.List.{list_all, slice_range};
-ghost use Rattle.cell_refs.specs.Positions.{is_in_area, is_sheet_area};
-ghost use Rattle.xlsx_precedents.specs.Kept.{cell_naming};
+ghost use Rattle.std.specs.Prelude.{◌≡◌, ◌≤◌, ◌++◌, [], length, replicate, true, OnOk};
+ghost use Rattle.std.specs.List.{list_all, slice_get, slice_range};
+ghost use Rattle.cell_refs.specs.Positions.{is_sheet_area};
 ghost use Rattle.xlsx_precedents.specs.Precedents.{areas};
 
 use crate::areas::push_areas;
 use cell_refs::Dimensions;
-use counted_steps::Steps;
 use std::alloc::{AllocError, Global};
-use std::sync::ledger::Ledger;
 
 /// Areas in the order in which formulas name them, and for each of them the cell of its formula, a
 /// row and a column counted from 0.
@@ -69,31 +66,10 @@ impl NamedAreas {
         Ok(())
     }
 
-    /// The cell of an area's formula, where the area has a position. It is the only look at an
-    /// area, and a step.
-    pub(crate) fn naming<L: Ledger>(
-        &self,
-        number: usize,
-        pos: (u32, u32),
-        steps: &mut Steps<L>,
-    ) -> Option<(u32, u32)>
-        ensures cell { result ≡ cell_naming self.now pos number }
-        ensures step { steps.new ≡ steps.old + 1 }
+    /// The cell of the formula that names the area of a number.
+    pub(crate) fn cell(&self, number: usize) -> Option<(u32, u32)>
+        ensures { result ≡ slice_get self.now.cells.items number }
     {
-        steps.tick();
-        let area = self.areas.get(number)?;
-        let cell = self.cells.get(number)?;
-        if is_in_area(*area, pos) {
-            Some(*cell)
-        } else {
-            None
-        }
+        self.cells.get(number).copied()
     }
-}
-
-/// Whether an area has a position.
-fn is_in_area(area: Dimensions, pos: (u32, u32)) -> bool
-    ensures { result ≡ is_in_area area pos }
-{
-    (area.start.0 <= pos.0 && pos.0 <= area.end.0) && (area.start.1 <= pos.1 && pos.1 <= area.end.1)
 }

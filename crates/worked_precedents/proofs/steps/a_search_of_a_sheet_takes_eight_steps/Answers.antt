@@ -5,7 +5,7 @@ use Rattle.formula_shift.specs.Pieces.{group_length}
 use Rattle.formula_shift.specs.References.{corner_of, word_reference}
 use Rattle.formula_shift.specs.Relocation.{piece_reference}
 use Rattle.xlsx_precedents.specs.Precedents.{areas, steps_within}
-use Rattle.worked_precedents.proofs.steps.a_search_of_a_sheet_takes_four_steps.Goals as goal
+use Rattle.worked_precedents.proofs.steps.a_search_of_a_sheet_takes_eight_steps.Goals as goal
 
 pub returns : goal.returns
 unfolding areas pieces pieces_behind string_length quoted_length group_length piece_reference
