@@ -10,6 +10,7 @@ use crate::firsts::firsts_around;
 use crate::links::Links;
 use crate::plain_cycles::firsts_plainly;
 use crate::search::search_components;
+use crate::turns::number_or;
 use std::alloc::{AllocError, Global};
 use std::marker::Model;
 
@@ -82,17 +83,8 @@ impl Cycles {
     }
 }
 
-/// How many cycles begin before a formula.
-fn place_of(places: &[usize], formula: usize) -> usize
-    ensures { result ≡ slice_index_or places.now formula 0 }
-{
-    match places.get(formula) {
-        Some(place) => *place,
-        None => 0,
-    }
-}
-
-/// Keeps a formula on the cycle of its first one, if it has one.
+/// Keeps a formula on the cycle of its first one, if it has one; `places` tells how many cycles
+/// begin before each formula.
 fn keep_next(
     alloc: Global,
     lists: &mut Vec<Vec<usize>>,
@@ -104,7 +96,7 @@ fn keep_next(
         ≡ with_next (map (λ list. list.items) lists.old.items) places.now first formula) }
 {
     match first {
-        Some(first) => keep(alloc, lists, place_of(places, first), first, formula),
+        Some(first) => keep(alloc, lists, number_or(places, first, 0), first, formula),
         None => Ok(()),
     }
 }

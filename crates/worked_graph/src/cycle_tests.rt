@@ -1,5 +1,5 @@
 use crate::order_tests::{links_of, told};
-use calculation_order::Cycles;
+use calculation_order::{Cycles, Links};
 use std::alloc::{AllocError, Global};
 use std::test::Fail;
 use test_tables::{assert_text, cases, cut};
@@ -95,5 +95,29 @@ fn formulas_have_their_cycles(rt: HostRuntime) -> Result<(), Fail> {
         assert_text(&lists_told(alloc, &cycles.lists(alloc)?)?, lists, case)?;
         assert_text(&marks_told(alloc, &cycles, links.formulas())?, marks, case)?;
     }
+    Ok(())
+}
+
+/// Each formula needs the next one, and the last the first: so many that to go round for each of
+/// them takes too long.
+#[test]
+fn a_long_ring_is_one_cycle(rt: HostRuntime) -> Result<(), Fail> {
+    let alloc = rt.alloc();
+    let last = 99_999;
+    let mut links = Links::new(alloc, last + 1);
+    for formula in 0..last {
+        links.push(formula + 1)?;
+        links.close()?;
+    }
+    links.push(0)?;
+    links.close()?;
+    assert!(rt; links.is_grouped());
+    assert!(rt; links.order(alloc)?.is_empty());
+    let cycles = links.cycles(alloc)?;
+    assert!(rt; cycles.is_on_cycle(last));
+    let lists = cycles.lists(alloc)?;
+    assert_eq!(rt; lists.len(), 1);
+    let formulas: Option<usize> = lists.first().map(|list| list.len());
+    assert_eq!(rt; formulas, Some(last + 1));
     Ok(())
 }

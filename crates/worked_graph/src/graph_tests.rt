@@ -4,7 +4,7 @@ use std::alloc::{AllocError, Global};
 use std::test::Fail;
 use test_tables::{assert_text, cases, cut};
 use xlsx_graph::{
-    NamingError, Standing, WorkbookGraph, push_cycles, push_dependents_at, push_graph,
+    NamingError, Standing, WorkbookGraph, push_cycles, push_dependents_at, push_graph, push_order,
 };
 
 /// Formulas of two sheets, sheet by sheet and row by row, each by the number of its sheet, its cell
@@ -65,6 +65,23 @@ const GRAPH: &str = "\
 'T'!C1\t?gone #REF!\t?external [1]S
 'T'!A2\t'T'!A3:A3
 'T'!A3\t'T'!A2:A2\t'S'!A1:A1
+";
+
+/// The lines of their order: four rounds of those that can be computed, and the others.
+const ORDER: &str = "\
+'S'!F1
+'S'!A3
+'T'!A1
+'T'!B1\topen
+'T'!C1
+'S'!B1
+'S'!A2
+'S'!A1
+'S'!C1
+'S'!D1\tcycle
+'S'!E1\tbehind
+'T'!A2\tcycle
+'T'!A3\tcycle
 ";
 
 fn book(alloc: Global) -> Result<BookNames, AllocError> {
@@ -137,6 +154,16 @@ fn formulas_stand_behind_all_that_they_need(rt: HostRuntime) -> Result<(), Fail>
 }
 
 #[test]
+fn lines_tell_the_order_and_what_is_left(rt: HostRuntime) -> Result<(), Fail> {
+    let alloc = rt.alloc();
+    let book = book(alloc)?;
+    let graph = graph_of(alloc, &book, FORMULAS)?;
+    let mut out = String::new(alloc);
+    push_order(&mut out, &book, &graph)?;
+    assert_text(out.as_str(), ORDER, "the order")
+}
+
+#[test]
 fn dependents_are_found_through_others(rt: HostRuntime) -> Result<(), Fail> {
     let alloc = rt.alloc();
     let book = book(alloc)?;
@@ -167,7 +194,7 @@ fn lines_tell_cycles_and_dependents(rt: HostRuntime) -> Result<(), Fail> {
     let book = book(alloc)?;
     let graph = graph_of(alloc, &book, FORMULAS)?;
     let mut out = String::new(alloc);
-    push_cycles(&mut out, &book, &graph, &graph.cycle_lists(alloc)?)?;
+    push_cycles(&mut out, &book, &graph)?;
     assert_text(out.as_str(), "'S'!D1\n'T'!A2\t'T'!A3\n", "the cycles")?;
     let cell = Standing {
         sheet: 0,
@@ -204,5 +231,39 @@ fn an_array_over_too_many_cells_is_too_large(rt: HostRuntime) -> Result<(), Fail
     let more = graph.push(&book, cell, columns_of(1), "1");
     assert!(rt; matches!(more, Err(NamingError::TooLarge)));
     assert_eq!(rt; graph.len(), 1);
+    Ok(())
+}
+
+/// So many arrays over the first two cells, of which each names the first one.
+fn overlapping(
+    alloc: Global,
+    book: &BookNames,
+    count: usize,
+) -> Result<WorkbookGraph, NamingError> {
+    let covers = Dimensions {
+        start: (0, 0),
+        end: (0, 1),
+    };
+    let cell = Standing {
+        sheet: 0,
+        row: 0,
+        column: 0,
+    };
+    let mut graph = WorkbookGraph::new(alloc, book)?;
+    if !book.sheet_names().is_empty() {
+        for _ in 0..count {
+            graph.push(book, cell, covers, "A1")?;
+        }
+    }
+    Ok(graph)
+}
+
+#[test]
+fn arrays_that_overlap_are_one_cycle(rt: HostRuntime) -> Result<(), Fail> {
+    let alloc = rt.alloc();
+    let graph = overlapping(alloc, &book(alloc)?, 20_000)?;
+    let cycles = graph.cycle_lists(alloc)?;
+    let sizes: Option<&Vec<usize>> = cycles.first();
+    assert!(rt; cycles.len() == 1 && sizes.is_some_and(|cycle| cycle.len() == 20_000));
     Ok(())
 }

@@ -1,5 +1,5 @@
--- Hulls have what the formulas under their forks cover: so an area that is apart from a hull meets
--- none of these, and one that has it whole meets each.
+-- Hulls have what the formulas under their forks cover, and lie inside of each: so an area that is
+-- apart from a hull meets none of these, and one that meets its inside meets each.
 use Rattle.std.proofs.Common.{◌≡◌, ◌∙◌, inl, inr, ℕ, zero, suc, ◌+◌, ◌*◌, ◌<◌, ◌≤◌, true}
 use Rattle.std.proofs.Common.{false, List, [], ◌∷◌, ◌++◌, cond, refl, sym, ap, subst, arith, length}
 use Rattle.std.proofs.Common.{min, max, filter, set, ◌-◌}
@@ -9,11 +9,13 @@ use Rattle.std.proofs.lemmas.Bool.{leb-true, le-leb, and_parts, and_from, false_
 use Rattle.std.proofs.lemmas.Bool.{true≢false, cases_eq}
 use Rattle.std.proofs.lemmas.List.Folds.{list_all-append}
 use Rattle.xlsx_graph.specs.Graph.{do_meet, has_sheet}
-use Rattle.xlsx_graph.specs.Hulls.{may_meet, has_whole, corners_of, joined_hull}
+use Rattle.xlsx_graph.specs.Hulls.{may_meet, meets_all, corners_of, joined_hull}
 use Rattle.xlsx_graph.specs.Tree.{meets, meets_at, has_corners, has_corners_at, lie_between}
-use Rattle.xlsx_graph.specs.Tree.{is_hull}
+use Rattle.xlsx_graph.specs.Tree.{is_hull, lies_inside}
 use Rattle.xlsx_graph.specs.Tree.{under, fork_count, AreNumbers, IsHullOf, AreHullsFrom, leaf_at}
+use Rattle.xlsx_graph.specs.declared.hulls.Hull.{Hull}
 use Rattle.xlsx_graph.specs.declared.named.BookArea.{BookArea}
+use Rattle.cell_refs.specs.declared.dimensions.Dimensions.{Dimensions}
 use Rattle.xlsx_graph.specs.declared.workbook_graph.Placed.{Placed}
 use Rattle.xlsx_graph.proofs.UnderForks.{under_fork, under_leaf, leaf_below}
 
@@ -46,38 +48,64 @@ between_from first last a b lie =
     and_from _ _ (both_from first a a last lie.low_a lie.high_a)
     (both_from first b b last lie.low_b lie.high_b)
 
--- the corners of what a formula covers lie in a hull
-record HasCorners (h : BookArea) (p : Placed) : Type 0 where
+-- an area begins in another, or behind its start, and ends in it, or before its end
+record LiesInside (a b : Dimensions) : Type 0 where
+  top : b.start.0 ≤ a.start.0
+  bottom : a.end.0 ≤ b.end.0
+  left : b.start.1 ≤ a.start.1
+  right : a.end.1 ≤ b.end.1
+
+of_inside : (a b : Dimensions) → lies_inside a b ≡ true → LiesInside a b
+of_inside a b is =
+    let parts = and_parts (nat_le b.start.0 a.start.0 && nat_le a.end.0 b.end.0) _ is in
+    let rows = both b.start.0 a.start.0 a.end.0 b.end.0 parts.0 in
+    let columns = both b.start.1 a.start.1 a.end.1 b.end.1 parts.1 in
+    record { top = rows.0; bottom = rows.1; left = columns.0; right = columns.1 }
+
+inside_from : (a b : Dimensions) → LiesInside a b → lies_inside a b ≡ true
+inside_from a b lie =
+    and_from _ _ (both_from b.start.0 a.start.0 a.end.0 b.end.0 lie.top lie.bottom)
+    (both_from b.start.1 a.start.1 a.end.1 b.end.1 lie.left lie.right)
+
+-- the corners of what a formula covers lie in a hull, and the hull inside of it
+record HasCorners (h : Hull) (p : Placed) : Type 0 where
   first : h.first ≤ p.cell.sheet
   last : p.cell.sheet ≤ h.last
-  rows : LieBetween h.area.start.0 h.area.end.0 p.covers.start.0 p.covers.end.0
-  columns : LieBetween h.area.start.1 h.area.end.1 p.covers.start.1 p.covers.end.1
+  rows : LieBetween h.all.start.0 h.all.end.0 p.covers.start.0 p.covers.end.0
+  columns : LieBetween h.all.start.1 h.all.end.1 p.covers.start.1 p.covers.end.1
+  inside : LiesInside h.each p.covers
 
-of_corners : (h : BookArea) (p : Placed) → has_corners h p ≡ true → HasCorners h p
+of_corners : (h : Hull) (p : Placed) → has_corners h p ≡ true → HasCorners h p
 of_corners h p is =
-    let parts = and_parts (has_sheet h p.cell.sheet) _ is in
+    let parts = and_parts (nat_le h.first p.cell.sheet && nat_le p.cell.sheet h.last) _ is in
     let sheet = both h.first p.cell.sheet p.cell.sheet h.last parts.0 in
-    let inside = and_parts
-    (lie_between h.area.start.0 h.area.end.0 p.covers.start.0 p.covers.end.0) _ parts.1 in
+    let areas = and_parts
+    (lie_between h.all.start.0 h.all.end.0 p.covers.start.0 p.covers.end.0
+    && lie_between h.all.start.1 h.all.end.1 p.covers.start.1 p.covers.end.1) _ parts.1 in
+    let sides = and_parts
+    (lie_between h.all.start.0 h.all.end.0 p.covers.start.0 p.covers.end.0) _ areas.0 in
     record {
       first = sheet.0;
       last = sheet.1;
-      rows = of_between h.area.start.0 h.area.end.0 p.covers.start.0 p.covers.end.0 inside.0;
-      columns = of_between h.area.start.1 h.area.end.1 p.covers.start.1 p.covers.end.1 inside.1;
+      rows = of_between h.all.start.0 h.all.end.0 p.covers.start.0 p.covers.end.0 sides.0;
+      columns = of_between h.all.start.1 h.all.end.1 p.covers.start.1 p.covers.end.1 sides.1;
+      inside = of_inside h.each p.covers areas.1;
     }
 
-corners_from : (h : BookArea) (p : Placed) → HasCorners h p → has_corners h p ≡ true
+corners_from : (h : Hull) (p : Placed) → HasCorners h p → has_corners h p ≡ true
 corners_from h p has =
     and_from _ _ (both_from h.first p.cell.sheet p.cell.sheet h.last has.first has.last)
     (and_from _ _
-    (between_from h.area.start.0 h.area.end.0 p.covers.start.0 p.covers.end.0 has.rows)
-    (between_from h.area.start.1 h.area.end.1 p.covers.start.1 p.covers.end.1 has.columns))
+    (and_from _ _
+    (between_from h.all.start.0 h.all.end.0 p.covers.start.0 p.covers.end.0 has.rows)
+    (between_from h.all.start.1 h.all.end.1 p.covers.start.1 p.covers.end.1 has.columns))
+    (inside_from h.each p.covers has.inside))
 
 -- ---- areas and hulls
 
 -- an area that meets what lies in a hull may meet the hull
-pub meeting_may : (a h : BookArea) (p : Placed) → has_corners h p ≡ true → meets a p ≡ true
-    → may_meet a h ≡ true
+pub meeting_may : (a : BookArea) (h : Hull) (p : Placed) → has_corners h p ≡ true
+    → meets a p ≡ true → may_meet a h ≡ true
 meeting_may a h p lies meet =
     let has = of_corners h p lies in
     let first = has.first in
@@ -91,24 +119,25 @@ meeting_may a h p lies meet =
     let column = both a.area.start.1 p.covers.end.1 p.covers.start.1 a.area.end.1 inside.1 in
     and_from _ _ (both_from a.first h.last h.first a.last (omega arith) (omega arith))
     (and_from _ _
-    (both_from a.area.start.0 h.area.end.0 h.area.start.0 a.area.end.0 (omega arith) (omega arith))
-    (both_from a.area.start.1 h.area.end.1 h.area.start.1 a.area.end.1 (omega arith)
-    (omega arith)))
+    (both_from a.area.start.0 h.all.end.0 h.all.start.0 a.area.end.0 (omega arith) (omega arith))
+    (both_from a.area.start.1 h.all.end.1 h.all.start.1 a.area.end.1 (omega arith) (omega arith)))
 
--- an area that has a hull whole meets what lies in it
-pub whole_meets : (a h : BookArea) (p : Placed) → has_corners h p ≡ true
-    → has_whole a h ≡ true → meets a p ≡ true
-whole_meets a h p lies whole =
+-- an area that meets the inside of a hull meets what the hull lies inside of
+pub inside_meets : (a : BookArea) (h : Hull) (p : Placed) → has_corners h p ≡ true
+    → meets_all a h ≡ true → meets a p ≡ true
+inside_meets a h p lies met =
     let has = of_corners h p lies in
     let first = has.first in
     let last = has.last in
-    let rows = has.rows in
-    let columns = has.columns in
-    let parts = and_parts (nat_le a.first h.first && nat_le h.last a.last) _ whole in
+    let top = has.inside.top in
+    let bottom = has.inside.bottom in
+    let left = has.inside.left in
+    let right = has.inside.right in
+    let parts = and_parts (nat_le a.first h.first && nat_le h.last a.last) _ met in
     let sheet = both a.first h.first h.last a.last parts.0 in
-    let inside = and_parts _ _ parts.1 in
-    let row = both a.area.start.0 h.area.start.0 h.area.end.0 a.area.end.0 inside.0 in
-    let column = both a.area.start.1 h.area.start.1 h.area.end.1 a.area.end.1 inside.1 in
+    let areas = and_parts _ _ parts.1 in
+    let row = both a.area.start.0 h.each.end.0 h.each.start.0 a.area.end.0 areas.0 in
+    let column = both a.area.start.1 h.each.end.1 h.each.start.1 a.area.end.1 areas.1 in
     and_from _ _ (both_from a.first p.cell.sheet p.cell.sheet a.last (omega arith) (omega arith))
     (and_from _ _
     (both_from a.area.start.0 p.covers.end.0 p.covers.start.0 a.area.end.0 (omega arith)
@@ -133,6 +162,12 @@ own_corners p = corners_from (corners_of p) p (record {
   last = omega arith;
   rows = between_own p.covers.start.0 p.covers.end.0;
   columns = between_own p.covers.start.1 p.covers.end.1;
+  inside = record {
+    top = omega arith;
+    bottom = omega arith;
+    left = omega arith;
+    right = omega arith;
+  };
 })
 
 between_more : (f g k l a b : ℕ) → f ≤ g → k ≤ l → LieBetween g k a b → LieBetween f l a b
@@ -148,16 +183,31 @@ between_more f g k l a b low high lie =
       high_b = omega arith;
     }
 
--- a greater hull has what a less one has
-record IsWithin (h g : BookArea) : Type 0 where
+inside_more : (a b c : Dimensions) → LiesInside a b → LiesInside b c → LiesInside a c
+inside_more a b c first second =
+    let top = first.top in
+    let bottom = first.bottom in
+    let left = first.left in
+    let right = first.right in
+    let top' = second.top in
+    let bottom' = second.bottom in
+    let left' = second.left in
+    let right' = second.right in
+    record {
+      top = omega arith;
+      bottom = omega arith;
+      left = omega arith;
+      right = omega arith;
+    }
+
+-- a greater hull has what a less one has, and lies inside of what that lies inside of
+record IsWithin (h g : Hull) : Type 0 where
   first : h.first ≤ g.first
   last : g.last ≤ h.last
-  top : h.area.start.0 ≤ g.area.start.0
-  bottom : g.area.end.0 ≤ h.area.end.0
-  left : h.area.start.1 ≤ g.area.start.1
-  right : g.area.end.1 ≤ h.area.end.1
+  all : LiesInside g.all h.all
+  each : LiesInside h.each g.each
 
-corners_more : (h g : BookArea) (p : Placed) → IsWithin h g → has_corners g p ≡ true
+corners_more : (h g : Hull) (p : Placed) → IsWithin h g → has_corners g p ≡ true
     → has_corners h p ≡ true
 corners_more h g p within lies =
     let has = of_corners g p lies in
@@ -168,41 +218,58 @@ corners_more h g p within lies =
     corners_from h p (record {
       first = omega arith;
       last = omega arith;
-      rows = between_more h.area.start.0 g.area.start.0 g.area.end.0 h.area.end.0
-          p.covers.start.0 p.covers.end.0 within.top within.bottom has.rows;
-      columns = between_more h.area.start.1 g.area.start.1 g.area.end.1 h.area.end.1
-          p.covers.start.1 p.covers.end.1 within.left within.right has.columns;
+      rows = between_more h.all.start.0 g.all.start.0 g.all.end.0 h.all.end.0
+          p.covers.start.0 p.covers.end.0 within.all.top within.all.bottom has.rows;
+      columns = between_more h.all.start.1 g.all.start.1 g.all.end.1 h.all.end.1
+          p.covers.start.1 p.covers.end.1 within.all.left within.all.right has.columns;
+      inside = inside_more h.each g.each p.covers within.each has.inside;
     })
 
-joined_left : (a b : BookArea) → IsWithin (joined_hull a b) a
+joined_left : (a b : Hull) → IsWithin (joined_hull a b) a
 joined_left a b = record {
   first = omega arith;
   last = omega arith;
-  top = omega arith;
-  bottom = omega arith;
-  left = omega arith;
-  right = omega arith;
+  all = record {
+    top = omega arith;
+    bottom = omega arith;
+    left = omega arith;
+    right = omega arith;
+  };
+  each = record {
+    top = omega arith;
+    bottom = omega arith;
+    left = omega arith;
+    right = omega arith;
+  };
 }
 
-joined_right : (a b : BookArea) → IsWithin (joined_hull a b) b
+joined_right : (a b : Hull) → IsWithin (joined_hull a b) b
 joined_right a b = record {
   first = omega arith;
   last = omega arith;
-  top = omega arith;
-  bottom = omega arith;
-  left = omega arith;
-  right = omega arith;
+  all = record {
+    top = omega arith;
+    bottom = omega arith;
+    left = omega arith;
+    right = omega arith;
+  };
+  each = record {
+    top = omega arith;
+    bottom = omega arith;
+    left = omega arith;
+    right = omega arith;
+  };
 }
 
 -- ---- formulas by their numbers
 
-corners_more_at : (placed : List Placed) (h g : BookArea) (n : ℕ) → IsWithin h g
+corners_more_at : (placed : List Placed) (h g : Hull) (n : ℕ) → IsWithin h g
     → has_corners_at placed g n ≡ true → has_corners_at placed h n ≡ true
 corners_more_at [] h g n within lies = lies
 corners_more_at (p ∷ ps) h g zero within lies = corners_more h g p within lies
 corners_more_at (p ∷ ps) h g (suc n) within lies = corners_more_at ps h g n within lies
 
-hull_more : (placed : List Placed) (h g : BookArea) (ns : List ℕ) → IsWithin h g
+hull_more : (placed : List Placed) (h g : Hull) (ns : List ℕ) → IsWithin h g
     → is_hull placed g ns ≡ true → is_hull placed h ns ≡ true
 hull_more placed h g [] within hull = refl
 hull_more placed h g (n ∷ ns) within hull =
@@ -211,7 +278,7 @@ hull_more placed h g (n ∷ ns) within hull =
     (hull_more placed h g ns within parts.1)
 
 -- the hull of two hulls has the formulas of both
-pub hull_joined : (placed : List Placed) (a b : BookArea) (ms ns : List ℕ)
+pub hull_joined : (placed : List Placed) (a b : Hull) (ms ns : List ℕ)
     → is_hull placed a ms ≡ true → is_hull placed b ns ≡ true
     → is_hull placed (joined_hull a b) (ms ++ ns) ≡ true
 hull_joined placed a b ms ns left right =
@@ -234,20 +301,20 @@ hull_one placed n p at = and_from _ _ (own_corners_at placed n p at) refl
 
 -- ---- which formulas an area meets
 
-may_at : (placed : List Placed) (a h : BookArea) (n : ℕ) → has_corners_at placed h n ≡ true
-    → meets_at placed a n ≡ true → may_meet a h ≡ true
+may_at : (placed : List Placed) (a : BookArea) (h : Hull) (n : ℕ)
+    → has_corners_at placed h n ≡ true → meets_at placed a n ≡ true → may_meet a h ≡ true
 may_at [] a h n lies meet = absurd (cc)
 may_at (p ∷ ps) a h zero lies meet = meeting_may a h p lies meet
 may_at (p ∷ ps) a h (suc n) lies meet = may_at ps a h n lies meet
 
-whole_at : (placed : List Placed) (a h : BookArea) (n : ℕ) → has_corners_at placed h n ≡ true
-    → has_whole a h ≡ true → meets_at placed a n ≡ true
-whole_at [] a h n lies whole = absurd (cc)
-whole_at (p ∷ ps) a h zero lies whole = whole_meets a h p lies whole
-whole_at (p ∷ ps) a h (suc n) lies whole = whole_at ps a h n lies whole
+inside_at : (placed : List Placed) (a : BookArea) (h : Hull) (n : ℕ)
+    → has_corners_at placed h n ≡ true → meets_all a h ≡ true → meets_at placed a n ≡ true
+inside_at [] a h n lies met = absurd (cc)
+inside_at (p ∷ ps) a h zero lies met = inside_meets a h p lies met
+inside_at (p ∷ ps) a h (suc n) lies met = inside_at ps a h n lies met
 
 -- none, where it is apart from a hull
-pub none_apart : (placed : List Placed) (a h : BookArea) (ns : List ℕ)
+pub none_apart : (placed : List Placed) (a : BookArea) (h : Hull) (ns : List ℕ)
     → is_hull placed h ns ≡ true → may_meet a h ≡ false → filter (meets_at placed a) ns ≡ []
 none_apart placed a h [] hull apart = refl
 none_apart placed a h (n ∷ ns) hull apart =
@@ -258,15 +325,15 @@ none_apart placed a h (n ∷ ns) hull apart =
     ap (λ t. cond t (n ∷ filter (meets_at placed a) ns) (filter (meets_at placed a) ns)) not_met
     ∙ none_apart placed a h ns parts.1 apart
 
--- all, where it has a hull whole
-pub all_whole : (placed : List Placed) (a h : BookArea) (ns : List ℕ)
-    → is_hull placed h ns ≡ true → has_whole a h ≡ true → filter (meets_at placed a) ns ≡ ns
-all_whole placed a h [] hull whole = refl
-all_whole placed a h (n ∷ ns) hull whole =
+-- all, where it meets the inside of their hull
+pub all_met : (placed : List Placed) (a : BookArea) (h : Hull) (ns : List ℕ)
+    → is_hull placed h ns ≡ true → meets_all a h ≡ true → filter (meets_at placed a) ns ≡ ns
+all_met placed a h [] hull met = refl
+all_met placed a h (n ∷ ns) hull met =
     let parts = and_parts (has_corners_at placed h n) (is_hull placed h ns) hull in
     ap (λ t. cond t (n ∷ filter (meets_at placed a) ns) (filter (meets_at placed a) ns))
-    (whole_at placed a h n parts.0 whole)
-    ∙ ap (λ ms. n ∷ ms) (all_whole placed a h ns parts.1 whole)
+    (inside_at placed a h n parts.0 met)
+    ∙ ap (λ ms. n ∷ ms) (all_met placed a h ns parts.1 met)
 
 -- an area meets the formula of a number
 pub meets_own : (placed : List Placed) (a : BookArea) (n : ℕ) (p : Placed)
@@ -285,7 +352,7 @@ meets_below (q ∷ qs) a (suc n) meet = (let below = meets_below qs a n meet in 
 -- ---- the hulls of nodes
 
 -- a leaf of no formula has nothing
-pub leaf_none : (placed : List Placed) (order : List ℕ) (h : BookArea) (k i : ℕ)
+pub leaf_none : (placed : List Placed) (order : List ℕ) (h : Hull) (k i : ℕ)
     → fork_count order ≤ k → i ≡ k - fork_count order → slice_get order i ≡ None
     → is_hull placed h (under order k) ≡ true
 leaf_none placed order h k i leaf place at =
@@ -303,13 +370,13 @@ leaf_own placed order p k i m leaf place at own =
     ∙ ap (λ (o : Option ℕ). option_to_list o) at)
     ∙ hull_one placed m p own
 
-get_set : (hulls : List BookArea) (k : ℕ) (h : BookArea) → k < length hulls
+get_set : (hulls : List Hull) (k : ℕ) (h : Hull) → k < length hulls
     → slice_get (set hulls k h) k ≡ Some h
 get_set [] k h below = absurd (omega arith)
 get_set (g ∷ gs) zero h below = refl
 get_set (g ∷ gs) (suc k) h below = get_set gs k h (omega arith)
 
-get_other : (hulls : List BookArea) (k j : ℕ) (h : BookArea) → k < j
+get_other : (hulls : List Hull) (k j : ℕ) (h : Hull) → k < j
     → slice_get (set hulls k h) j ≡ slice_get hulls j
 get_other [] k j h above = refl
 get_other (g ∷ gs) zero zero h above = absurd (omega arith)
@@ -318,8 +385,8 @@ get_other (g ∷ gs) (suc k) zero h above = absurd (omega arith)
 get_other (g ∷ gs) (suc k) (suc j) h above = get_other gs k j h (omega arith)
 
 -- with the hull of one more fork
-pub hulls_step : (placed : List Placed) (order : List ℕ) (hulls : List BookArea) (n k : ℕ)
-    (a b h : BookArea) → n ≡ k + 1 → length hulls ≡ fork_count order → k < fork_count order
+pub hulls_step : (placed : List Placed) (order : List ℕ) (hulls : List Hull) (n k : ℕ)
+    (a b h : Hull) → n ≡ k + 1 → length hulls ≡ fork_count order → k < fork_count order
     → AreHullsFrom n placed order hulls → h ≡ joined_hull a b
     → is_hull placed a (under order (2 * k + 1)) ≡ true
     → is_hull placed b (under order (2 * k + 2)) ≡ true
@@ -328,14 +395,14 @@ hulls_step placed order hulls n k a b h next count fork before is left right = �
     elim (cases_eq j k) [
       | inl e ↦ subst (λ (i : ℕ). IsHullOf placed (slice_get (set hulls k h) i) (under order i))
           (sym e)
-          (subst (λ (o : Option BookArea). IsHullOf placed o (under order k))
+          (subst (λ (o : Option Hull). IsHullOf placed o (under order k))
           (sym (get_set hulls k h (omega arith)))
           (ap (is_hull placed h) (under_fork order k fork)
           ∙ ap (λ g. is_hull placed g (under order (2 * k + 1) ++ under order (2 * k + 2))) is
           ∙ hull_joined placed a b (under order (2 * k + 1)) (under order (2 * k + 2)) left right))
       | inr e ↦ (let least = leb-true k j from in
           let above : k < j = omega arith in
-          subst (λ (o : Option BookArea). IsHullOf placed o (under order j))
+          subst (λ (o : Option Hull). IsHullOf placed o (under order j))
           (sym (get_other hulls k j h above))
           (before j (le-leb n j (omega arith))))
     ]

@@ -12,6 +12,7 @@ pub mod LineTexts
 pub mod Linking
 pub mod Numbers
 pub mod Opening
+pub mod OrderTexts
 pub mod Ranging
 pub mod UnderForks
 pub mod Unnamed

@@ -11,6 +11,7 @@ use Rattle.cell_refs.specs.A1.{capitals_with_fuel}
 use Rattle.escaped_text.proofs.Extending.{Extends-push, Extends-trans}
 use Rattle.escaped_text.specs.Escaped.{Extends, escaped, escaped_byte}
 use Rattle.list_lines.specs.Fields.{next_field}
+use Rattle.xlsx_graph.proofs.Asking.{formula_at}
 use Rattle.xlsx_graph.specs.Graph.{GraphFormula}
 use Rattle.xlsx_graph.specs.GraphLines.{book_area_field, cell_text, doubled, graph_line}
 use Rattle.xlsx_graph.specs.GraphLines.{graph_lines}
@@ -124,19 +125,13 @@ drop_get [] n f at = absurd (cc)
 drop_get (g ∷ gs) zero f at = let e : g ≡ f = cc in ap (λ h. h ∷ gs) e
 drop_get (g ∷ gs) (suc n) f at = drop_get gs n f at
 
-get_within : (fs : List GraphFormula) (n : ℕ) → n < length fs
-    → (f : GraphFormula) × (slice_get fs n ≡ Some f)
-get_within [] n within = absurd (omega arith)
-get_within (g ∷ gs) zero within = (g, refl)
-get_within (g ∷ gs) (suc n) within = get_within gs n (omega arith)
-
 -- one line more
 pub lines_step : (book : Book) (fs : List GraphFormula) (n : ℕ) (out new all : List ℕ)
     → n < length fs → out ++ flat_map (graph_line book) (drop n fs) ≡ all
     → ((f : GraphFormula) → slice_get fs n ≡ Some f → new ≡ out ++ graph_line book f)
     → new ++ flat_map (graph_line book) (drop (n + 1) fs) ≡ all
 lines_step book fs n out new all within before pushed =
-    let found = get_within fs n within in
+    let found = formula_at fs n within in
     let f = found.0 in
     let rest = flat_map (graph_line book) (drop (suc n) fs) in
     ap (λ k. new ++ flat_map (graph_line book) (drop k fs)) (add-one n)
@@ -173,19 +168,19 @@ pub line_extends : (book : Book) (fs : List GraphFormula) (n : ℕ) (start out n
     → ((f : GraphFormula) → slice_get fs n ≡ Some f → new ≡ out ++ graph_line book f)
     → Extends start new
 line_extends book fs n start out new within before pushed =
-    let found = get_within fs n within in
+    let found = formula_at fs n within in
     Extends-trans start out new before
     (Extends-push out new (graph_line book found.0) (pushed found.0 found.1))
 
 -- ---- formulas by their numbers
 
-one_own : (fs : List GraphFormula) (n : ℕ) (f : GraphFormula) → slice_get fs n ≡ Some f
+pub one_own : (fs : List GraphFormula) (n : ℕ) (f : GraphFormula) → slice_get fs n ≡ Some f
     → one_of fs n ≡ f ∷ []
 one_own [] n f at = absurd (cc)
 one_own (g ∷ gs) zero f at = let e : g ≡ f = cc in ap (λ h. h ∷ []) e
 one_own (g ∷ gs) (suc n) f at = one_own gs n f at
 
-one_none : (fs : List GraphFormula) (n : ℕ) → length fs ≤ n → one_of fs n ≡ []
+pub one_none : (fs : List GraphFormula) (n : ℕ) → length fs ≤ n → one_of fs n ≡ []
 one_none [] n past = refl
 one_none (g ∷ gs) zero past = absurd (omega arith)
 one_none (g ∷ gs) (suc n) past = one_none gs n (omega arith)
@@ -195,7 +190,7 @@ pub numbered_own : (book : Book) (fs : List GraphFormula) (n : ℕ) (cell : Stan
     → n < length fs → ((f : GraphFormula) → slice_get fs n ≡ Some f → cell ≡ f.cell)
     → cell_text book cell ≡ cell_numbered book fs n
 numbered_own book fs n cell within is =
-    let found = get_within fs n within in
+    let found = formula_at fs n within in
     ap (cell_text book) (is found.0 found.1) ∙ sym (append-nil (cell_text book found.0.cell))
     ∙ ap (flat_map (λ (f : GraphFormula). cell_text book f.cell))
     (sym (one_own fs n found.0 found.1))

@@ -14,12 +14,13 @@ use Rattle.calculation_order.specs.Edges.{numbers_below}
 use Rattle.calculation_order.specs.Links.{Linked, with_closed, with_link}
 use Rattle.xlsx_graph.specs.Tree.{Watches, fork_count, fork_links, sons_of, stands_for, under}
 use Rattle.xlsx_graph.specs.Tree.{vertex_count, vertex_of}
-use Rattle.xlsx_graph.specs.Hulls.{has_whole, may_meet}
+use Rattle.xlsx_graph.specs.Hulls.{may_meet, meets_all}
 use Rattle.xlsx_graph.specs.Tree.{AreWatched, IsHullOf, IsTree, asked_by, asked_of, is_hull}
 use Rattle.xlsx_graph.specs.Tree.{meets_at}
+use Rattle.xlsx_graph.specs.declared.hulls.Hull.{Hull}
 use Rattle.xlsx_graph.specs.declared.named.BookArea.{BookArea}
 use Rattle.xlsx_graph.specs.declared.workbook_graph.Placed.{Placed}
-use Rattle.xlsx_graph.proofs.HullsHold.{all_whole, none_apart}
+use Rattle.xlsx_graph.proofs.HullsHold.{all_met, none_apart}
 use Rattle.xlsx_graph.proofs.UnderForks.{stands_fork, stands_itself, under_fork}
 
 -- no more vertices stand for no more formulas
@@ -76,7 +77,7 @@ pub watches_leaf : (order : List ℕ) (old new : Linked) (n : ℕ) (ns : List �
 watches_leaf order old new n ns some below is same =
     watches_one order old new n ns same (omega arith) (stands_itself order n below ∙ sym is)
 
--- a fork that lies in an area whole
+-- a fork of which an area meets all
 pub watches_fork : (order : List ℕ) (old new : Linked) (k : ℕ) (ns : List ℕ)
     → k < fork_count order → ns ≡ under order k → new ≡ with_link old (length order + k)
     → Watches order old new ns
@@ -112,30 +113,30 @@ forks_all order count is = ap (λ n. map (sons_of order) (numbers_below n)) is
 
 -- ---- what an area meets under a node
 
-hull_of : (placed : List Placed) (order : List ℕ) (hulls : List BookArea) (h : BookArea) (k : ℕ)
+hull_of : (placed : List Placed) (order : List ℕ) (hulls : List Hull) (h : Hull) (k : ℕ)
     → IsTree placed order hulls → slice_get hulls k ≡ Some h
     → is_hull placed h (under order k) ≡ true
 hull_of placed order hulls h k tree at =
-    subst (λ (o : Option BookArea). IsHullOf placed o (under order k)) at
+    subst (λ (o : Option Hull). IsHullOf placed o (under order k)) at
     (tree.have k (le-leb 0 k (omega arith)))
 
 -- none, where it is apart from a fork's hull
-pub watches_apart : (placed : List Placed) (order : List ℕ) (hulls : List BookArea) (a h : BookArea)
-    (k : ℕ) (old : Linked) → IsTree placed order hulls → slice_get hulls k ≡ Some h
+pub watches_apart : (placed : List Placed) (order : List ℕ) (hulls : List Hull) (a : BookArea)
+    (h : Hull) (k : ℕ) (old : Linked) → IsTree placed order hulls → slice_get hulls k ≡ Some h
     → may_meet a h ≡ false → Watches order old old (filter (meets_at placed a) (under order k))
 watches_apart placed order hulls a h k old tree at apart =
     watches_as order old old [] (filter (meets_at placed a) (under order k))
     (sym (none_apart placed a h (under order k) (hull_of placed order hulls h k tree at) apart))
     (watches_none order old old refl)
 
--- all, where it has the hull whole
-pub watches_whole : (placed : List Placed) (order : List ℕ) (hulls : List BookArea) (a h : BookArea)
-    (k : ℕ) (old new : Linked) → IsTree placed order hulls → slice_get hulls k ≡ Some h
-    → k < fork_count order → has_whole a h ≡ true → new ≡ with_link old (length order + k)
+-- all, where it meets the inside of the hull
+pub watches_all : (placed : List Placed) (order : List ℕ) (hulls : List Hull) (a : BookArea)
+    (h : Hull) (k : ℕ) (old new : Linked) → IsTree placed order hulls → slice_get hulls k ≡ Some h
+    → k < fork_count order → meets_all a h ≡ true → new ≡ with_link old (length order + k)
     → Watches order old new (filter (meets_at placed a) (under order k))
-watches_whole placed order hulls a h k old new tree at fork whole same =
+watches_all placed order hulls a h k old new tree at fork met same =
     watches_fork order old new k (filter (meets_at placed a) (under order k)) fork
-    (all_whole placed a h (under order k) (hull_of placed order hulls h k tree at) whole) same
+    (all_met placed a h (under order k) (hull_of placed order hulls h k tree at) met) same
 
 -- those under the two sons of a fork
 pub watches_sons : (placed : List Placed) (order : List ℕ) (a : BookArea) (k : ℕ)

@@ -7,8 +7,8 @@ use Rattle.escaped_text.specs.Escaped.{escaped}
 use Rattle.list_lines.specs.Fields.{area_field, next_field}
 use Rattle.book_names.specs.Book.{Book}
 use Rattle.xlsx_graph.specs.Naming.{OpenText}
-use Rattle.calculation_order.specs.Edges.{order_of, cycles_of, reached, numbers_below}
-use Rattle.calculation_order.specs.Edges.{is_number_of}
+use Rattle.calculation_order.specs.Edges.{order_of, cycles_of, is_number_of, numbers_below}
+use Rattle.calculation_order.specs.OrderLaws.{is_on_cycle}
 use Rattle.xlsx_graph.specs.Graph.{GraphFormula, dependents_at, needed}
 use Rattle.xlsx_graph.specs.declared.named.BookArea.{BookArea}
 use Rattle.xlsx_graph.specs.declared.named.Cause.{Cause}
@@ -89,11 +89,13 @@ is_hiding _ = true
 abbrev pub may_name : OpenText → Bool
 may_name o = is_hiding o.cause
 
--- the mark of a formula that may name more cells than are known
+-- the formula of a number may name more cells than are known
+abbrev pub is_open : List GraphFormula → ℕ → Bool
+is_open formulas n = list_any (λ f. list_any may_name f.found.words) (one_of formulas n)
+
+-- its mark
 abbrev pub open_mark : List GraphFormula → ℕ → List ℕ
-open_mark formulas n =
-    if list_any (λ f. list_any may_name f.found.words) (one_of formulas n)
-    then next_field (codes "open") else []
+open_mark formulas n = if is_open formulas n then next_field (codes "open") else []
 
 -- a formula by its number, with its marks
 abbrev pub order_line : Book → List GraphFormula → List ℕ → ℕ → List ℕ
@@ -102,14 +104,17 @@ order_line book formulas mark n =
 
 -- the mark of a formula that has no place in the order: it needs itself, or one that does
 abbrev pub left_mark : List (List ℕ) → ℕ → List ℕ
-left_mark edges n =
-    next_field (if is_number_of (reached edges n) n then codes "cycle" else codes "behind")
+left_mark edges n = next_field (if is_on_cycle edges n then codes "cycle" else codes "behind")
+
+-- such a formula by its number, with its marks
+abbrev pub left_line : Book → List GraphFormula → List (List ℕ) → ℕ → List ℕ
+left_line book formulas edges n = order_line book formulas (left_mark edges n) n
 
 -- the formulas in an order; then the others, by their numbers
 abbrev pub order_lines_by : Book → List GraphFormula → List (List ℕ) → List ℕ → List ℕ
 order_lines_by book formulas edges order =
     flat_map (order_line book formulas []) order
-    ++ flat_map (λ n. order_line book formulas (left_mark edges n) n)
+    ++ flat_map (left_line book formulas edges)
     (filter (λ n. not (is_number_of order n)) (numbers_below (length edges)))
 
 -- a line for each formula: those that can be computed, then those on cycles and behind them

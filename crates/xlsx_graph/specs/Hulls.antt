@@ -1,42 +1,44 @@
--- Areas that have what formulas cover, and how an area lies to them.
-use Rattle.std.specs.Prelude.{◌&&◌, nat_le, min, max, Bool, true}
+-- How an area lies to what formulas cover.
+use Rattle.std.specs.Prelude.{◌&&◌, nat_le, min, max, Bool}
 use Rattle.cell_refs.specs.declared.dimensions.Dimensions.{Dimensions}
 use Rattle.xlsx_graph.specs.Graph.{do_meet}
 use Rattle.xlsx_graph.specs.Naming.{hull}
+use Rattle.xlsx_graph.specs.declared.hulls.Hull.{Hull}
 use Rattle.xlsx_graph.specs.declared.named.BookArea.{BookArea}
 use Rattle.xlsx_graph.specs.declared.workbook_graph.Placed.{Placed}
 
--- an area may have a cell of what a hull has
-abbrev pub may_meet : BookArea → BookArea → Bool
-may_meet a h = (nat_le a.first h.last && nat_le h.first a.last) && do_meet a.area h.area
+-- an area may have a cell of what formulas cover
+abbrev pub may_meet : BookArea → Hull → Bool
+may_meet a h = (nat_le a.first h.last && nat_le h.first a.last) && do_meet a.area h.all
 
--- an area has another one whole
-abbrev pub has_area : Dimensions → Dimensions → Bool
-has_area a b =
-    (nat_le a.start.0 b.start.0 && nat_le b.end.0 a.end.0)
-    && (nat_le a.start.1 b.start.1 && nat_le b.end.1 a.end.1)
+-- an area has cells of what each of them covers
+abbrev pub meets_all : BookArea → Hull → Bool
+meets_all a h = (nat_le a.first h.first && nat_le h.last a.last) && do_meet a.area h.each
 
--- an area has a hull whole
-abbrev pub has_whole : BookArea → BookArea → Bool
-has_whole a h = (nat_le a.first h.first && nat_le h.last a.last) && has_area a.area h.area
-
--- the least area that has both corners of what a formula covers
-abbrev pub corners_of : Placed → BookArea
+-- the hull of what a formula covers
+abbrev pub corners_of : Placed → Hull
 corners_of p = record {
   first = p.cell.sheet;
   last = p.cell.sheet;
-  area = record {
+  all = record {
     start = (min p.covers.start.0 p.covers.end.0, min p.covers.start.1 p.covers.end.1);
     end = (max p.covers.start.0 p.covers.end.0, max p.covers.start.1 p.covers.end.1);
   };
-  is_valued = true;
+  each = p.covers;
 }
 
--- the least hull that has two
-abbrev pub joined_hull : BookArea → BookArea → BookArea
+-- from the later start of two areas up to the earlier end
+abbrev pub shared : Dimensions → Dimensions → Dimensions
+shared a b = record {
+  start = (max a.start.0 b.start.0, max a.start.1 b.start.1);
+  end = (min a.end.0 b.end.0, min a.end.1 b.end.1);
+}
+
+-- the hull of what two have
+abbrev pub joined_hull : Hull → Hull → Hull
 joined_hull a b = record {
   first = min a.first b.first;
   last = max a.last b.last;
-  area = hull a.area b.area;
-  is_valued = true;
+  all = hull a.all b.all;
+  each = shared a.each b.each;
 }

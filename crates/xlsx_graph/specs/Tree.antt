@@ -5,9 +5,11 @@ use Rattle.std.specs.Prelude.{◌≡◌, ℕ, zero, suc, ◌+◌, ◌-◌, ◌*�
 use Rattle.std.specs.Prelude.{true, false, if◌then◌else◌, List, [], ◌∷◌, ◌++◌, length, map, filter}
 use Rattle.std.specs.Prelude.{Option, None, Some, option_to_list}
 use Rattle.std.specs.List.{list_all, flat_map, slice_get, slice_index_or, slice_range}
+use Rattle.cell_refs.specs.declared.dimensions.Dimensions.{Dimensions}
 use Rattle.calculation_order.specs.Edges.{is_number_of, numbers_below}
 use Rattle.calculation_order.specs.Links.{Linked}
 use Rattle.xlsx_graph.specs.Graph.{has_sheet, do_meet}
+use Rattle.xlsx_graph.specs.declared.hulls.Hull.{Hull}
 use Rattle.xlsx_graph.specs.declared.named.BookArea.{BookArea}
 use Rattle.xlsx_graph.specs.declared.workbook_graph.Placed.{Placed}
 
@@ -79,35 +81,42 @@ abbrev pub lie_between : ℕ → ℕ → ℕ → ℕ → Bool
 lie_between first last a b =
     (nat_le first a && nat_le a last) && (nat_le first b && nat_le b last)
 
--- an area has both corners of all that a formula covers
-abbrev pub has_corners : BookArea → Placed → Bool
+-- an area begins in another, or behind its start, and ends in it, or before its end
+abbrev pub lies_inside : Dimensions → Dimensions → Bool
+lies_inside a b =
+    (nat_le b.start.0 a.start.0 && nat_le a.end.0 b.end.0)
+    && (nat_le b.start.1 a.start.1 && nat_le a.end.1 b.end.1)
+
+-- a hull has both corners of all that a formula covers, and lies inside of it
+abbrev pub has_corners : Hull → Placed → Bool
 has_corners h p =
-    has_sheet h p.cell.sheet
-    && (lie_between h.area.start.0 h.area.end.0 p.covers.start.0 p.covers.end.0
-    && lie_between h.area.start.1 h.area.end.1 p.covers.start.1 p.covers.end.1)
+    (nat_le h.first p.cell.sheet && nat_le p.cell.sheet h.last)
+    && ((lie_between h.all.start.0 h.all.end.0 p.covers.start.0 p.covers.end.0
+    && lie_between h.all.start.1 h.all.end.1 p.covers.start.1 p.covers.end.1)
+    && lies_inside h.each p.covers)
 
 -- the same of the formula of a number
-abbrev pub has_corners_at : List Placed → BookArea → ℕ → Bool
+abbrev pub has_corners_at : List Placed → Hull → ℕ → Bool
 has_corners_at [] h n = false
 has_corners_at (p ∷ ps) h zero = has_corners h p
 has_corners_at (p ∷ ps) h (suc n) = has_corners_at ps h n
 
--- an area has both corners of all that these formulas cover
-abbrev pub is_hull : List Placed → BookArea → List ℕ → Bool
+-- a hull has both corners of all that these formulas cover, and lies inside of each
+abbrev pub is_hull : List Placed → Hull → List ℕ → Bool
 is_hull placed h ns = list_all (has_corners_at placed h) ns
 
--- an area that there is has them
-abbrev pub IsHullOf : List Placed → Option BookArea → List ℕ → Type 0
+-- a hull that there is has them
+abbrev pub IsHullOf : List Placed → Option Hull → List ℕ → Type 0
 IsHullOf placed None ns = Unit {0}
 IsHullOf placed (Some h) ns = is_hull placed h ns ≡ true
 
--- the areas from this number on are the hulls of their forks
-abbrev pub AreHullsFrom : ℕ → List Placed → List ℕ → List BookArea → Type 0
+-- the hulls from this number on are those of their forks
+abbrev pub AreHullsFrom : ℕ → List Placed → List ℕ → List Hull → Type 0
 AreHullsFrom from placed order hulls =
     (k : ℕ) → nat_le from k ≡ true → IsHullOf placed (slice_get hulls k) (under order k)
 
 -- formulas, the leaves of a tree over them, and the hulls of its forks
-pub record IsTree (placed : List Placed) (order : List ℕ) (hulls : List BookArea) : Type 0 where
+pub record IsTree (placed : List Placed) (order : List ℕ) (hulls : List Hull) : Type 0 where
   pub size : length order ≡ length placed
   pub numbers : AreNumbers order
   pub count : length hulls ≡ fork_count order

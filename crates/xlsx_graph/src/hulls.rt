@@ -1,8 +1,8 @@
-//! The least areas that have what formulas cover, fork by fork.
+//! What the formulas under a fork cover, told by two areas.
 ghost use Rattle.std.specs.Prelude.{◌≡◌, ◌≤◌, true, length, IfOk};
 ghost use Rattle.std.specs.List.{slice_get};
 ghost use Rattle.xlsx_graph.specs.Graph.{do_meet};
-ghost use Rattle.xlsx_graph.specs.Hulls.{has_area, has_whole, may_meet, joined_hull, corners_of};
+ghost use Rattle.xlsx_graph.specs.Hulls.{corners_of, joined_hull, may_meet, meets_all, shared};
 ghost use Rattle.xlsx_graph.specs.Naming.{hull};
 ghost use Rattle.xlsx_graph.specs.Tree.{AreHullsFrom, AreNumbers, IsHullOf, fork_count, is_hull};
 ghost use Rattle.xlsx_graph.specs.Tree.{meets, under};
@@ -29,68 +29,87 @@ pub(crate) fn meets(area: BookArea, placed: Placed) -> bool
     (area.first <= sheet && sheet <= area.last) && do_meet(area.area, placed.covers)
 }
 
-/// Whether an area may have a cell of what a hull has.
-pub(crate) fn may_meet(area: BookArea, hull: BookArea) -> bool
+/// What formulas cover. Sheets are counted from 0.
+#[derive(Clone, Copy, Debug)]
+pub(crate) struct Hull {
+    /// The first and the last of their sheets.
+    first: usize,
+    last: usize,
+    /// The least area that has all that they cover.
+    all: Dimensions,
+    /// From the last row and column in which one of them begins up to the first in which one ends:
+    /// what meets it meets each, also where it is an area from its end to its start.
+    each: Dimensions,
+}
+
+/// Whether an area may have a cell of what these formulas cover.
+pub(crate) fn may_meet(area: BookArea, hull: Hull) -> bool
     ensures { result ≡ may_meet area hull }
 {
-    (area.first <= hull.last && hull.first <= area.last) && do_meet(area.area, hull.area)
+    (area.first <= hull.last && hull.first <= area.last) && do_meet(area.area, hull.all)
 }
 
-/// Whether an area has another one whole.
-fn has_area(a: Dimensions, b: Dimensions) -> bool
-    ensures { result ≡ has_area a b }
+/// Whether an area has cells of what each of them covers.
+pub(crate) fn meets_all(area: BookArea, hull: Hull) -> bool
+    ensures { result ≡ meets_all area hull }
 {
-    (a.start.0 <= b.start.0 && b.end.0 <= a.end.0) && (a.start.1 <= b.start.1 && b.end.1 <= a.end.1)
+    (area.first <= hull.first && hull.last <= area.last) && do_meet(area.area, hull.each)
 }
 
-/// Whether an area has a hull whole.
-pub(crate) fn has_whole(area: BookArea, hull: BookArea) -> bool
-    ensures { result ≡ has_whole area hull }
-{
-    (area.first <= hull.first && hull.last <= area.last) && has_area(area.area, hull.area)
-}
-
-/// The least area that has both corners of what a formula covers.
-fn corners_of(placed: Placed) -> BookArea
+/// The hull of what a formula covers.
+fn corners_of(placed: Placed) -> Hull
     ensures { result ≡ corners_of placed }
 {
     let Dimensions { start, end } = placed.covers;
-    BookArea {
+    Hull {
         first: placed.cell.sheet,
         last: placed.cell.sheet,
-        area: Dimensions {
+        all: Dimensions {
             start: (start.0.min(end.0), start.1.min(end.1)),
             end: (start.0.max(end.0), start.1.max(end.1)),
         },
-        is_valued: true,
+        each: placed.covers,
     }
 }
 
-/// The least hull that has two.
-fn joined_hull(a: BookArea, b: BookArea) -> BookArea
+/// From the later start of two areas up to the earlier end.
+fn shared(a: Dimensions, b: Dimensions) -> Dimensions
+    ensures { result ≡ shared a b }
+{
+    Dimensions {
+        start: (a.start.0.max(b.start.0), a.start.1.max(b.start.1)),
+        end: (a.end.0.min(b.end.0), a.end.1.min(b.end.1)),
+    }
+}
+
+/// The hull of what two have.
+fn joined_hull(a: Hull, b: Hull) -> Hull
     ensures { result ≡ joined_hull a b }
 {
-    BookArea {
+    Hull {
         first: a.first.min(b.first),
         last: a.last.max(b.last),
-        area: hull(a.area, b.area),
-        is_valued: true,
+        all: hull(a.all, b.all),
+        each: shared(a.each, b.each),
     }
 }
 
 /// A hull of nothing.
-const NOWHERE: BookArea = BookArea {
+const NOWHERE: Hull = Hull {
     first: 0,
     last: 0,
-    area: Dimensions {
+    all: Dimensions {
         start: (0, 0),
         end: (0, 0),
     },
-    is_valued: true,
+    each: Dimensions {
+        start: (0, 0),
+        end: (0, 0),
+    },
 };
 
 /// The hull of a node: that of a fork stands among these.
-fn node_hull(placed: &[Placed], order: &[usize], hulls: &[BookArea], node: usize) -> BookArea
+fn node_hull(placed: &[Placed], order: &[usize], hulls: &[Hull], node: usize) -> Hull
     requires size { length order.now ≡ length placed.now }
     requires numbers { AreNumbers order.now }
     requires count { length hulls.now ≡ fork_count order.now }
@@ -114,7 +133,7 @@ pub(crate) fn hulls_of(
     alloc: Global,
     placed: &[Placed],
     order: &[usize],
-) -> Result<Vec<BookArea>, AllocError>
+) -> Result<Vec<Hull>, AllocError>
     requires size { length order.now ≡ length placed.now }
     requires numbers { AreNumbers order.now }
     ensures count { IfOk result (λ hulls. length hulls.items ≡ fork_count order.now) }

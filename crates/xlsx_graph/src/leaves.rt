@@ -7,14 +7,14 @@ ghost use Rattle.calculation_order.specs.Edges.{numbers_below};
 ghost use Rattle.xlsx_graph.specs.Tree.{AreNumbers};
 
 use crate::workbook_graph::Placed;
+use cell_refs::Dimensions;
 use std::alloc::{AllocError, Global};
 
 /// Where a formula stands, and its number.
 #[derive(Clone, Copy, Debug)]
 struct Leaf {
     sheet: usize,
-    row: u32,
-    column: u32,
+    covers: Dimensions,
     number: usize,
 }
 
@@ -42,6 +42,18 @@ fn full_count(leaves: usize) -> usize {
     full
 }
 
+/// By the rows of what is covered first: its first and last row, its first and last column.
+fn rows_first(covers: Dimensions) -> (u32, u32, u32, u32) {
+    let Dimensions { start, end } = covers;
+    (start.0, end.0, start.1, end.1)
+}
+
+/// By its columns first.
+fn columns_first(covers: Dimensions) -> (u32, u32, u32, u32) {
+    let Dimensions { start, end } = covers;
+    (start.1, end.1, start.0, end.0)
+}
+
 /// Halves the leaves by their rows and by their columns in turn, those of several sheets by their
 /// sheets first.
 fn arrange(leaves: &mut [Leaf], is_by_rows: bool) {
@@ -49,9 +61,9 @@ fn arrange(leaves: &mut [Leaf], is_by_rows: bool) {
         return;
     }
     if is_by_rows {
-        leaves.sort_unstable_by_key(|leaf| (leaf.sheet, leaf.row, leaf.column));
+        leaves.sort_unstable_by_key(|leaf| (leaf.sheet, rows_first(leaf.covers)));
     } else {
-        leaves.sort_unstable_by_key(|leaf| (leaf.sheet, leaf.column, leaf.row));
+        leaves.sort_unstable_by_key(|leaf| (leaf.sheet, columns_first(leaf.covers)));
     }
     let left = left_count(leaves.len());
     arrange(&mut leaves[..left], !is_by_rows);
@@ -64,8 +76,7 @@ fn places(alloc: Global, placed: &[Placed]) -> Result<Vec<Leaf>, AllocError> {
     for (number, own) in placed.iter().enumerate() {
         leaves.push(Leaf {
             sheet: own.cell.sheet,
-            row: own.covers.start.0,
-            column: own.covers.start.1,
+            covers: own.covers,
             number,
         })?;
     }

@@ -7,7 +7,8 @@
 //! (what holds of all that is named), `workbook_graph` (all formulas of a workbook), `leaves` (their
 //! order along a tree), `hulls` (what the forks of a tree cover), `tree`, `links` (what formulas
 //! need, by way of a tree), `graph_laws` (what holds of all graphs), `reference` (places as texts),
-//! `graph_lines`, `order_lines` (what is printed), `equality`, `error`.
+//! `graph_lines`, `order_marks` (marks of formulas in an order), `order_lines` (what is printed),
+//! `equality`, `error`.
 //!
 //! A text is read once, from the left, and that of a defined name as often as it is named, one
 //! level of calls for each name within another. What is found is counted as it is appended, so a
@@ -29,6 +30,7 @@ mod named;
 mod naming;
 mod naming_laws;
 mod order_lines;
+mod order_marks;
 mod range;
 mod reader;
 mod reference;
@@ -45,5 +47,5 @@ pub use graph_lines::push_graph;
 pub use named::{BookArea, Cause, OpenWord, Standing};
 pub use naming::push_named;
 pub use naming_laws::formulas_without_names_ask_for_none;
-pub use order_lines::{push_cycles, push_dependents_at};
+pub use order_lines::{push_cycles, push_dependents_at, push_order};
 pub use workbook_graph::{MAX_COVERED, MAX_NAMED, MAX_READ, WorkbookGraph};

@@ -1,15 +1,15 @@
 //! A tree over the formulas of a workbook, by the cells that they cover.
 //!
 //! The formulas stand in an order in which those whose cells lie near each other stand near each
-//! other, and are the leaves. A fork keeps the least area that has what its leaves cover. An area
-//! is told by the nodes that lie in it whole, so that it needs no link for each of its cells.
+//! other, and are the leaves. A fork keeps what its leaves cover. An area is told by the nodes of
+//! which it meets all, so that it needs no link for each of its cells.
 ghost use Rattle.std.specs.Prelude.{◌≡◌, ◌≤◌, ◌*◌, ◌++◌, [], length, map, filter, IfOk, IfSome};
 ghost use Rattle.std.specs.Prelude.{◌<◌, OnOk, option_to_list};
 ghost use Rattle.std.specs.List.{flat_map};
 ghost use Rattle.xlsx_graph.specs.Tree.{IsTree, Watches, asked_of, fork_links, meets_at, under};
 ghost use Rattle.xlsx_graph.specs.Tree.{leaf_at, vertex_of, fork_count};
 
-use crate::hulls::{has_whole, hulls_of, may_meet, meets};
+use crate::hulls::{Hull, hulls_of, may_meet, meets, meets_all};
 use crate::leaves::{leaves_of, number_at, placed_at};
 use crate::named::BookArea;
 use crate::workbook_graph::Placed;
@@ -20,7 +20,7 @@ use std::alloc::{AllocError, Global};
 #[derive(Debug, Drop)]
 pub(crate) struct Tree {
     order: Vec<usize>,
-    hulls: Vec<BookArea>,
+    hulls: Vec<Hull>,
 }
 
 impl Tree {
@@ -84,7 +84,7 @@ impl Tree {
         if !may_meet(area, hull) {
             return Ok(());
         }
-        if has_whole(area, hull) {
+        if meets_all(area, hull) {
             return links.push(self.order.len() + node);
         }
         self.watch_under(links, placed, area, 2 * node + 1)?;

@@ -2,7 +2,7 @@ use Rattle.std.proofs.Common.{◌≡◌, ◌-◌, ◌≤◌, arith, length, rule
 use Rattle.std.specs.Prelude.{None, Some}
 use Rattle.std.specs.List.{slice_get}
 use Rattle.xlsx_graph.specs.Tree.{fork_count, is_hull, under}
-use Rattle.xlsx_graph.specs.declared.named.BookArea.{BookArea}
+use Rattle.xlsx_graph.specs.declared.hulls.Hull.{Hull}
 use Rattle.xlsx_graph.proofs.HullsHold.{leaf_none, leaf_own, leaf_there}
 use Rattle.xlsx_graph.proofs.hulls.node_hull.Goals as goal
 
@@ -21,7 +21,7 @@ returns-in-Some-placed_at c =
     let at : slice_get c.args.order.now i ≡ Some m = search rules in
     let own : slice_get c.args.placed.now m ≡ Some c.in-Some-placed_at.own = search rules in
     subst
-    (λ (h : BookArea). is_hull c.args.placed.now h (under c.args.order.now c.args.node) ≡ true)
+    (λ (h : Hull). is_hull c.args.placed.now h (under c.args.order.now c.args.node) ≡ true)
     (sym c.corners_of.ensures)
     (leaf_own c.args.placed.now c.args.order.now c.in-Some-placed_at.own c.args.node i m leaf
     (omega arith) at own)
