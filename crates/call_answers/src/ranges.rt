@@ -7,7 +7,7 @@ use crate::words::word;
 use anyhow::Result;
 use cell_data::{Data, HeaderRow, Range};
 use cell_styles::StyleRange;
-use xlsx_core::XlsxError;
+use xlsx_core::{SheetFormula, XlsxError};
 
 /// The used cells of a range, each by its row and column.
 pub fn push_cells<T: Told>(out: &mut String, range: &Range<T>) -> Result<()> {
@@ -72,6 +72,26 @@ fn push_worksheets(
     }
 }
 
+/// Each formula of all sheets with the number of its sheet, its cell and the area that it covers,
+/// or why none are read.
+fn push_formulas(out: &mut String, answer: Result<Vec<SheetFormula>, XlsxError>) -> Result<()> {
+    match answer {
+        Ok(formulas) => {
+            for own in &formulas {
+                write!(
+                    out,
+                    "{} ({},{}) ",
+                    own.sheet, own.position.0, own.position.1
+                )?;
+                push_area(out, own.covers)?;
+                write!(out, " ={};", own.text)?;
+            }
+            Ok(())
+        }
+        Err(error) => push_refusal(out, &error),
+    }
+}
+
 /// The area that a sheet tells of its cells.
 fn push_entered(out: &mut String, opened: &mut Opened, name: &str) -> Result<()> {
     match opened.xlsx.enter_worksheet(name) {
@@ -98,6 +118,7 @@ pub fn push_range_answer(out: &mut String, opened: &mut Opened, words: &[&str]) 
         "formula" => push_read(out, xlsx.worksheet_formula(name))?,
         "style" => push_style_answer(out, xlsx.worksheet_style(name))?,
         "worksheets" => push_worksheets(out, xlsx.worksheets())?,
+        "formulas" => push_formulas(out, xlsx.read_formulas())?,
         "enter" => push_entered(out, opened, name)?,
         "header" => {
             xlsx.with_header_row(header_row(name));

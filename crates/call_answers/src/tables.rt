@@ -78,15 +78,17 @@ fn push_table<T: Told + Drop>(out: &mut String, answer: Result<Table<T>, XlsxErr
     }
 }
 
-/// The data of a table, with shared strings as texts or by their places.
+/// The data of a table, with shared strings as texts or by their places, or as they are shown.
 fn push_data(out: &mut String, xlsx: &mut Xlsx<FailingPackage>, words: &[&str]) -> Result<()> {
     if !xlsx.tables_loaded() {
         return Ok(out.push_str("not loaded")?);
     }
-    if word(words, 0) == "table" {
-        return push_table(out, xlsx.table_by_name(word(words, 1)));
+    let name = word(words, 1);
+    match word(words, 0) {
+        "table" => push_table(out, xlsx.table_by_name(name)),
+        "table_ref" => push_table(out, xlsx.table_by_name_ref(name)),
+        _ => push_table(out, xlsx.table_by_name_shown(name)),
     }
-    push_table(out, xlsx.table_by_name_ref(word(words, 1)))
 }
 
 /// Whether this is a call for tables, which is answered then.
@@ -97,7 +99,7 @@ pub fn push_table_answer(out: &mut String, opened: &mut Opened, words: &[&str]) 
         "tables" => push_tables(out, xlsx)?,
         "table_shapes" => push_shapes(out, xlsx)?,
         "table_names" => push_names(out, xlsx, word(words, 1))?,
-        "table" | "table_ref" => push_data(out, xlsx, words)?,
+        "table" | "table_ref" | "table_shown" => push_data(out, xlsx, words)?,
         _ => return Ok(false),
     }
     Ok(true)

@@ -26,7 +26,7 @@ pub use in_memory::{
 };
 pub use shown::{
     all_are_read, comment_texts, count_of_formulas, fill_color_at, first_cell, first_row,
-    link_count, opened_from_row, size_of_values, title,
+    formula_total, link_count, opened_from_row, size_of_values, table_total, title,
 };
 pub use taking::{first_error, formulas_taken, two_taken};
 pub use whole_cells::full_cells;

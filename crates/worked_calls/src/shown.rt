@@ -8,9 +8,11 @@ ghost use Rattle.cell_data.specs.Range.{cells_of, bounds_of, height_of, width_of
 ghost use Rattle.cell_styles.specs.StyleMap.{style_at};
 ghost use Rattle.xlsx_areas.specs.Hyperlinks.{link_said};
 ghost use Rattle.xlsx_core.specs.Comments.{named_comments_ask};
+ghost use Rattle.xlsx_core.specs.FormulaList.{all_formulas_ask};
 ghost use Rattle.xlsx_core.specs.Links.{links_placed, PlacedLinksFail};
 ghost use Rattle.xlsx_core.specs.Listing.{AreListed};
 ghost use Rattle.xlsx_core.specs.Merges.{sheets_of_book};
+ghost use Rattle.xlsx_core.specs.NumberedTables.{all_numbered_tables_ask};
 ghost use Rattle.xlsx_cells.specs.CellsReader.{values_alone, formulas_alone, styles_alone};
 ghost use Rattle.xlsx_core.specs.SheetReading.{PlacedSheetFails};
 ghost use Rattle.xlsx_core.specs.Worksheets.{ReadsValues, ReadsFormulas, ReadsStyles, path_of};
@@ -194,4 +196,30 @@ pub fn first_row<P: Package>(
         Some(row) => Ok(Some(row?)),
         None => Ok(None),
     }
+}
+
+/// How many formulas the workbook has.
+pub fn formula_total<P: Package>(xlsx: &mut Xlsx<P>) -> Result<usize, XlsxError>
+    ensures ok { let ask = all_formulas_ask (sheets_of_book xlsx.old) in
+        xlsx.old.xml.source.is_told ≡ true → IfOk result (Shows
+        (λ said. ask.said xlsx.old.xml.source.parts ≡ Some said) (λ said. length said)) }
+    ensures err { let ask = all_formulas_ask (sheets_of_book xlsx.old) in
+        IfErr result (FailsBy (ask.cause xlsx.old.xml.source.parts)
+        xlsx.old.xml.source xlsx.new.xml.source) }
+{
+    let formulas = xlsx.read_formulas()?;
+    Ok(formulas.len())
+}
+
+/// How many tables the workbook has.
+pub fn table_total<P: Package>(xlsx: &mut Xlsx<P>) -> Result<usize, XlsxError>
+    ensures ok { let ask = all_numbered_tables_ask (sheets_of_book xlsx.old) in
+        xlsx.old.xml.source.is_told ≡ true → IfOk result (Shows
+        (λ said. ask.said xlsx.old.xml.source.parts ≡ Some said) (λ said. length said)) }
+    ensures err { let ask = all_numbered_tables_ask (sheets_of_book xlsx.old) in
+        IfErr result (FailsBy (ask.cause xlsx.old.xml.source.parts)
+        xlsx.old.xml.source xlsx.new.xml.source) }
+{
+    let tables = xlsx.read_tables()?;
+    Ok(tables.len())
 }

@@ -1,7 +1,7 @@
 use crate::{
     all_are_read, comment_texts, count_of_formulas, fill_color_at, first_cell,
-    first_place_and_table, first_row, formula_count, full_cells, link_count, opened_from_row,
-    size_of_values, title,
+    first_place_and_table, first_row, formula_count, formula_total, full_cells, link_count,
+    opened_from_row, size_of_values, table_total, title,
 };
 use cell_data::CellFormat;
 use cell_refs::Dimensions;
@@ -119,6 +119,7 @@ fn a_table_is_read_behind_a_reader(rt: HostRuntime) -> Result<(), Fail> {
     let Ok(mut xlsx) = Xlsx::new(alloc, package_of(alloc, &WITH_TABLE)?) else {
         return Err(XlsxError::Failed.into());
     };
+    assert_eq!(rt; table_total(&mut xlsx)?, 1);
     xlsx.load_tables()?;
     let (_, read) = first_place_and_table(xlsx, "S", "T");
     let (place, table) = read?;
@@ -197,6 +198,8 @@ fn short_calls_answer_of_an_open_workbook(rt: HostRuntime) -> Result<(), Fail> {
     };
     assert!(rt; size_of_values(&mut xlsx, "S")? == (2, 1));
     assert_eq!(rt; count_of_formulas(&mut xlsx, "S")?, 1);
+    assert_eq!(rt; formula_total(&mut xlsx)?, 1);
+    assert_eq!(rt; table_total(&mut xlsx)?, 0);
     assert!(rt; fill_color_at(&mut xlsx, "S", (1, 1))?.is_some());
     assert!(rt; all_are_read(&mut xlsx)?);
     let Some(cell) = first_cell(&mut xlsx, "S")? else {

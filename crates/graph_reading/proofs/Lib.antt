@@ -1,0 +1,3 @@
+pub mod FormulaSheets
+pub mod FormulasPushed
+pub mod ReadingFails

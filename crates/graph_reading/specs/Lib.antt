@@ -1,0 +1,3 @@
+pub mod BookRead
+pub mod GraphError
+pub mod GraphRead
