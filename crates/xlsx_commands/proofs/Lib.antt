@@ -2,6 +2,7 @@ pub mod AnswerLemmas
 pub mod AreasInside
 pub mod CachesRead
 pub mod FilesMade
+pub mod GraphsListed
 pub mod LinksInside
 pub mod MemoryCalls
 pub mod NamedSheets

@@ -249,7 +249,7 @@ module _ (parts : List Part) (name : List ℕ) (asked : AskedRows) (values : Ran
 -- ---- a table
 
 module _ (parts : List Part) (name : List ℕ) (table : Table Data)
-    (has : HasTable parts name table) (range : Range Data) (same : range ≡ table_data table)
+    (has : HasTable false parts name table) (range : Range Data) (same : range ≡ table_data table)
     (keys : List (List ℕ))
     (named : keys ≡ header_over (bounds_of (table_data table)) (table_columns table)) where
   area_said : bounds_of range ≡ has.own.table.area
@@ -369,7 +369,7 @@ double_key_never true parts name asked rows key law prints gives =
 
 -- a table with objects has no area that is too large
 pub objects_never : (parts : List Part) (name : List ℕ) (options : CsvOptions) (rows : List ℕ)
-    → AreTableObjects parts name options rows → HasLargeTable parts name → ⊥
+    → AreTableObjects parts name options rows → HasLargeTable false parts name → ⊥
 objects_never parts name options rows prints has =
     not_both (area_count prints.has.own.table.area) (area_count has.has.own.table.area)
     (ap (λ (own : SheetTable). area_count own.table.area)

@@ -15,6 +15,7 @@ use Rattle.std.specs.Map.{keys_of}
 use Rattle.std.specs.Ordering.{is_lt, nat_cmp}
 use Rattle.std.specs.declared.cmp.Ordering.{Ordering}
 use Rattle.std.specs.declared.cmp.Ordering.TheVariants.{Less}
+use Rattle.book_names.specs.Book.{Book}
 use Rattle.cell_data.specs.CellValue.{nothing, value_of_data}
 use Rattle.cell_data.specs.Pairs.{value_pairs, formula_pairs, with_meaning}
 use Rattle.cell_data.specs.Table.{table_data}
@@ -34,13 +35,16 @@ use Rattle.xlsx_core.specs.Comments.{named_comments_ask}
 use Rattle.xlsx_core.specs.Links.{links_placed}
 use Rattle.xlsx_core.specs.Merges.{merges_placed}
 use Rattle.xlsx_core.specs.SheetReading.{SayTheSame, events_at, opened_grounds, path_named}
+use Rattle.xlsx_core.specs.ShownTable.{ShowsValuesIn}
 use Rattle.xlsx_core.specs.TableData.{ReadsValuesIn, IsRangeIn}
 use Rattle.xlsx_core.specs.Worksheets.{AnswersValues, below_header}
 use Rattle.xlsx_core.proofs.RangesRead.{same_values}
-use Rattle.xlsx_core.proofs.ShownLaws.{one_shown}
+use Rattle.xlsx_core.proofs.ShownLaws.{one_shown, one_shown_in}
 use Rattle.list_lines.specs.declared.content.LineForm.{LineForm}
-use Rattle.xlsx_core.proofs.SheetLaws.{are_alike, same_grounds}
-use Rattle.xlsx_open.specs.Opening.{without_path}
+use Rattle.xlsx_core.proofs.SheetLaws.{are_alike, same_grounds, same_shared}
+use Rattle.xlsx_graph.specs.Graph.{GraphFormula}
+use Rattle.xlsx_graph.specs.GraphLines.{dependents_lines}
+use Rattle.xlsx_open.specs.Opening.{Opening, OpensAs, without_path}
 use Rattle.xlsx_open.proofs.Sound.{both_at}
 use Rattle.xlsx_out.specs.Groups.{Placed}
 use Rattle.xlsx_out.specs.WrittenSheet.{PlacedValues, written_parts}
@@ -48,7 +52,8 @@ use Rattle.xlsx_out.specs.declared.form.WrittenForm.TheVariants.{PackageText}
 use Rattle.xlsx_pivot_cache.specs.CacheRecords.{cache_rows}
 use Rattle.xlsx_pivots.specs.PivotTables.{pairs_of}
 use Rattle.xlsx_pivots.specs.Pivots.{PivotSaid}
-use Rattle.xlsx_precedents.specs.Lines.{precedents_lines, dependents_lines}
+use Rattle.xlsx_precedents.specs.Lines.{precedents_lines}
+use Rattle.xlsx_precedents.specs.Lines as of_sheet
 use Rattle.xlsx_properties.specs.declared.property.Property.{Property}
 use Rattle.xlsx_tables.specs.Tables.{SheetTable}
 use Rattle.xlsx_values.specs.Value.{Grounds}
@@ -59,8 +64,11 @@ use Rattle.xlsx_commands.specs.CacheRows.{ArePivotRows, row_lines}
 use Rattle.xlsx_commands.specs.Command.{Command, cells, sheets, names, merges, links, props, csv}
 use Rattle.xlsx_commands.specs.Command.{csv_table, tables, table, pivots, pivot, precedents}
 use Rattle.xlsx_commands.specs.Command.{dependents, check, part, upgrade, resave, sample, comments}
-use Rattle.xlsx_commands.specs.Command.{resave_file, json_rows, table_objects}
+use Rattle.xlsx_commands.specs.Command.{resave_file, json_rows, table_objects, all_dependents}
+use Rattle.xlsx_commands.specs.Command.{workbook_graph}
 use Rattle.xlsx_commands.specs.FormulaLists.{ArePrecedentLines, AreDependentLines, AreCheckLines}
+use Rattle.xlsx_commands.specs.GraphLists.{AreAllDependents, AreGraphLines, cell_on}
+use Rattle.xlsx_commands.specs.GraphLists.{graph_list_lines}
 use Rattle.xlsx_commands.specs.Outputs.{IsOutput, IsResaved}
 use Rattle.xlsx_commands.specs.PartNames.{IsPartLine}
 use Rattle.xlsx_commands.specs.PivotLists.{ArePivotLines, pivot_lines}
@@ -70,11 +78,15 @@ use Rattle.xlsx_commands.specs.ResavedFile.{IsResavedFile, sheet_file}
 use Rattle.xlsx_commands.specs.SampleLines.{AreSampleLines, sample_name}
 use Rattle.xlsx_commands.specs.SheetLists.{HasNamed, AreMergeLines, AreLinkLines, AreCommentLines}
 use Rattle.xlsx_commands.specs.SheetLists.{merge_lines, link_lines, comment_lines}
-use Rattle.xlsx_commands.specs.TableLists.{AreTableLines, AreTableValueLines, HasTable, table_lines}
+use Rattle.xlsx_commands.specs.TableLists.{AreTableLines, AreTableValueLines, table_lines}
+use Rattle.xlsx_commands.specs.TableLists.{HasDataIn, HasTable}
 use Rattle.xlsx_commands.specs.RowObjects.{objects_placed}
 use Rattle.xlsx_commands.specs.TableObjects.{table_keys, AreTableObjects}
 use Rattle.xlsx_commands.specs.TableRows.{AreTableRows, table_records}
+use Rattle.xlsx_commands.specs.declared.asked_rows.AskedTable.{AskedTable}
+use Rattle.xlsx_commands.specs.declared.command.GraphList.{GraphList}
 use Rattle.xlsx_commands.proofs.CachesRead.{same_cache, same_pivots}
+use Rattle.xlsx_commands.proofs.GraphsListed.{same_graph, same_sheet}
 use Rattle.xlsx_commands.proofs.NamedSheets.{same_path}
 use Rattle.xlsx_commands.proofs.OneListing.{AreReadAlike, one_form}
 use Rattle.xlsx_commands.proofs.ObjectsPlaced.{same_json_rows}
@@ -106,7 +118,9 @@ one_dependents : (parts : List Part) (name : List ℕ) (position : ℕ × ℕ) (
 one_dependents parts name position one other law first second =
     let same = law first.values second.values first.formulas second.formulas first.styles
     second.styles first.reads second.reads in
-    first.listed ∙ ap (λ (own : Placed). dependents_lines own position) same.1 ∙ sym second.listed
+    first.listed
+    ∙ ap (λ (own : Placed). of_sheet.dependents_lines own position) same.1
+    ∙ sym second.listed
 
 one_check : (parts : List Part) (name one other : List ℕ) → AreReadAlike parts parts name
     → AreCheckLines parts name one → AreCheckLines parts name other → one ≡ other
@@ -325,51 +339,64 @@ one_in_area grounds (Some area) path parts one two first second =
     (same_values grounds events values others answers again)
     ∙ sym also.cells
 
+-- and so is what is shown there, of openings that are alike
+one_data_in : (shown : Bool) (parts : List Part) (here there : Opening)
+    (area : Option Dimensions) (path : Option (List ℕ)) (one two : Range Data)
+    → OpensAs parts here → OpensAs parts there → HasDataIn shown here area path parts one
+    → HasDataIn shown there area path parts two → value_pairs one ≡ value_pairs two
+one_data_in false parts here there area path one two opens again first second =
+    one_in_area (opened_grounds there) area path parts one two
+    (subst (λ (own : Grounds). ReadsValuesIn own FirstNonEmptyRow area path parts one)
+    (same_grounds parts here there opens again) first) second
+one_data_in true parts here there area path one two opens again first second =
+    one_shown_in (opened_grounds there) here.shared there.shared here.is_1904 there.is_1904 area
+    path parts one two (same_shared parts here there opens again)
+    (are_alike parts here there opens again).epoch
+    (subst (λ (own : Grounds). ShowsValuesIn own here.shared here.is_1904 FirstNonEmptyRow area path
+    parts one) (same_grounds parts here there opens again) first) second
+
 -- the data of the first table of a name are had once
-one_table : (parts : List Part) (name : List ℕ) (one two : Table Data)
-    (first : HasTable parts name one) (second : HasTable parts name two)
+one_table : (shown : Bool) (parts : List Part) (name : List ℕ) (one two : Table Data)
+    (first : HasTable shown parts name one) (second : HasTable shown parts name two)
     → (first.own ≡ second.own) × (value_pairs (table_data one) ≡ value_pairs (table_data two))
-one_table parts name one two first second =
+one_table shown parts name one two first second =
     let here = first.has.has in
     let there = second.has.has in
     let own = same_table parts name first.own second.own first.has second.has in
-    let grounds = same_grounds parts here.opening there.opening here.opens there.opens in
     let placed = (are_alike parts here.opening there.opening here.opens there.opens).sheets in (
       own,
-      one_in_area (opened_grounds there.opening) second.own.table.area
-          (path_named second.own.sheet there.opening.sheets) parts (table_data one) (table_data two)
-          (subst (λ (own : Grounds). ReadsValuesIn own FirstNonEmptyRow second.own.table.area
-          (path_named second.own.sheet there.opening.sheets) parts (table_data one)) grounds
-          (subst (λ (all : List PlacedSheet). ReadsValuesIn (opened_grounds here.opening)
-          FirstNonEmptyRow second.own.table.area (path_named second.own.sheet all) parts
-          (table_data one)) placed
-          (subst (λ (said : SheetTable). ReadsValuesIn (opened_grounds here.opening)
-          FirstNonEmptyRow said.table.area (path_named said.sheet here.opening.sheets) parts
-          (table_data one)) own first.reads))) second.reads,
+      one_data_in shown parts here.opening there.opening second.own.table.area
+          (path_named second.own.sheet there.opening.sheets) (table_data one) (table_data two)
+          here.opens there.opens
+          (subst (λ (all : List PlacedSheet). HasDataIn shown here.opening second.own.table.area
+          (path_named second.own.sheet all) parts (table_data one)) placed
+          (subst (λ (said : SheetTable). HasDataIn shown here.opening said.table.area
+          (path_named said.sheet here.opening.sheets) parts (table_data one)) own first.reads))
+          second.reads,
     )
 
 one_values : (parts : List Part) (name one other : List ℕ) → AreTableValueLines parts name one
     → AreTableValueLines parts name other → one ≡ other
 one_values parts name one other first second =
     first.listed
-    ∙ ap value_lines (one_table parts name first.table second.table first.has second.has).1
+    ∙ ap value_lines (one_table false parts name first.table second.table first.has second.has).1
     ∙ sym second.listed
 
-one_records : (parts : List Part) (name : List ℕ) (options : CsvOptions) (one other : List ℕ)
-    → AreTableRows parts name options one → AreTableRows parts name options other → one ≡ other
-one_records parts name options one other first second =
-    let same = one_table parts name first.table second.table first.has second.has in
+one_records : (parts : List Part) (name : List ℕ) (asked : AskedTable) (one other : List ℕ)
+    → AreTableRows parts name asked one → AreTableRows parts name asked other → one ≡ other
+one_records parts name asked one other first second =
+    let same = one_table asked.shown parts name first.table second.table first.has second.has in
     first.listed
-    ∙ ap (λ (own : SheetTable). table_records options own.table.area own.table.columns
+    ∙ ap (λ (own : SheetTable). table_records asked.options own.table.area own.table.columns
     (value_pairs (table_data first.table))) same.0
-    ∙ ap (table_records options second.has.own.table.area second.has.own.table.columns) same.1
+    ∙ ap (table_records asked.options second.has.own.table.area second.has.own.table.columns) same.1
     ∙ sym second.listed
 
 one_objects : (parts : List Part) (name : List ℕ) (options : CsvOptions) (one other : List ℕ)
     → AreTableObjects parts name options one → AreTableObjects parts name options other
     → one ≡ other
 one_objects parts name options one other first second =
-    let same = one_table parts name first.table second.table first.has second.has in
+    let same = one_table false parts name first.table second.table first.has second.has in
     let own = second.has.own in
     first.listed
     ∙ ap (λ (own : SheetTable). objects_placed options (table_keys own)
@@ -400,6 +427,34 @@ one_cache parts sheet name one other first second =
     let rows : first.rows ≡ second.rows = cc in
     first.listed ∙ ap row_lines rows ∙ sym second.listed
 
+-- ---- what formulas name in all of a workbook
+
+one_graph : (list : GraphList) (parts : List Part) (one other : List ℕ)
+    → AreGraphLines list parts one → AreGraphLines list parts other → one ≡ other
+one_graph list parts one other first second =
+    let same = same_graph parts first.book second.book first.formulas second.formulas first.has
+    second.has in
+    first.listed
+    ∙ ap (λ (book : Book). graph_list_lines list book first.formulas) same.0
+    ∙ ap (graph_list_lines list second.book) same.1
+    ∙ sym second.listed
+
+one_all : (parts : List Part) (name : List ℕ) (position : ℕ × ℕ) (one other : List ℕ)
+    → AreAllDependents parts name position one → AreAllDependents parts name position other
+    → one ≡ other
+one_all parts name position one other first second =
+    let same = same_graph parts first.book second.book first.formulas second.formulas first.has
+    second.has in
+    let sheet = same_sheet parts name first.has.opening second.has.opening first.sheet second.sheet
+    first.has.opens second.has.opens first.called second.called in
+    first.listed
+    ∙ ap (λ (book : Book). dependents_lines book first.formulas (cell_on first.sheet position))
+    same.0
+    ∙ ap (λ (all : List GraphFormula). dependents_lines second.book all
+    (cell_on first.sheet position)) same.1
+    ∙ ap (λ (own : ℕ). dependents_lines second.book second.formulas (cell_on own position)) sheet
+    ∙ sym second.listed
+
 -- ---- a row for each command
 
 pub one_output : ((parts : List Part) (name : List ℕ) → AreReadAlike parts parts name)
@@ -428,8 +483,8 @@ one_output alike (json_rows name asked) parts one other first second =
     (one_row_values parts name (alike parts name)) first second
 one_output alike (table_objects name options) parts one other first second =
     one_objects parts name options one other first second
-one_output alike (csv_table name options) parts one other first second =
-    one_records parts name options one other first second
+one_output alike (csv_table name asked) parts one other first second =
+    one_records parts name asked one other first second
 one_output alike (tables form) parts one other first second =
     one_tables form parts one other first second
 one_output alike (table name) parts one other first second =
@@ -442,6 +497,10 @@ one_output alike (precedents name) parts one other first second =
     one_precedents parts name one other (alike parts name) first second
 one_output alike (dependents name position) parts one other first second =
     one_dependents parts name position one other (alike parts name) first second
+one_output alike (all_dependents name position) parts one other first second =
+    one_all parts name position one other first second
+one_output alike (workbook_graph list) parts one other first second =
+    one_graph list parts one other first second
 one_output alike (check name) parts one other first second =
     one_check parts name one other (alike parts name) first second
 one_output alike (part name) parts one other first second =

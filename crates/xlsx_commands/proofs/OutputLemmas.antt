@@ -1,5 +1,6 @@
 -- The rows of the commands: what each call gives and what it is refused for.
 use Rattle.std.proofs.Common.{◌≡◌, ◌⊎◌, ◌∙◌, ℕ, List, map, refl, sym, subst, Option, Some, None}
+use Rattle.std.proofs.Common.{false}
 use Rattle.std.specs.Prelude.{Result, Ok, Err, IfOk, IfErr, string_bytes}
 use Rattle.part_events.specs.Package.{Part}
 use Rattle.cell_data.specs.CellValue.{CellValue}
@@ -20,12 +21,15 @@ use Rattle.xlsx_core.specs.SheetReading.{ReadsAs, IsReadable, SheetCause}
 use Rattle.xlsx_commands.specs.BookLists.{sheet_lines, name_lines}
 use Rattle.xlsx_rows.specs.declared.options.CsvOptions.{CsvOptions}
 use Rattle.xlsx_commands.specs.declared.asked_rows.AskedRows.{AskedRows}
+use Rattle.xlsx_commands.specs.AskedRows.{as_they_are}
 use Rattle.xlsx_commands.specs.Command.{Command, cells, sheets, names, merges, links, props, csv}
 use Rattle.xlsx_commands.specs.Command.{csv_table, tables, table, pivots, pivot, precedents}
 use Rattle.xlsx_commands.specs.Command.{dependents, check, part, upgrade, resave, sample, comments}
-use Rattle.xlsx_commands.specs.Command.{resave_file, json_rows, table_objects}
+use Rattle.xlsx_commands.specs.Command.{resave_file, json_rows, table_objects, all_dependents}
+use Rattle.xlsx_commands.specs.Command.{workbook_graph}
 use Rattle.xlsx_commands.specs.Outputs.{IsOutput, RefusedWorkbookCause, IsTooLarge, OutputCause}
-use Rattle.xlsx_commands.specs.Outputs.{HasOutput, IsUnwritable, HasNoKeys, HasTwoColumns}
+use Rattle.xlsx_commands.specs.Outputs.{HasOutput, HasLargeGraph, IsUnwritable, HasNoKeys}
+use Rattle.xlsx_commands.specs.Outputs.{HasTwoColumns}
 use Rattle.xlsx_commands.specs.ResavedFile.{fits_file}
 use Rattle.xlsx_commands.specs.PartNames.{PartPathCause}
 use Rattle.xlsx_commands.specs.PropertyLists.{text_of_name}
@@ -34,9 +38,11 @@ use Rattle.xlsx_commands.specs.SheetLists.{MergesPathCause, CommentsPathCause}
 use Rattle.xlsx_commands.specs.declared.error.ToolError.{ToolError}
 use Rattle.xlsx_commands.specs.declared.error.ToolError.TheVariants.{Workbook, BoxTooLarge}
 use Rattle.xlsx_commands.specs.declared.error.ToolError.TheVariants.{Unwritable, NoHeader}
-use Rattle.xlsx_commands.specs.declared.error.ToolError.TheVariants.{TwoColumns}
+use Rattle.xlsx_commands.specs.declared.error.ToolError.TheVariants.{TwoColumns, GraphTooLarge}
 use Rattle.xlsx_commands.proofs.NamedSheets.{OpeningsNever, MergesNever, named_never, merges_never}
 use Rattle.xlsx_commands.proofs.CachesRead.{CachesNever, rows_never_refused}
+use Rattle.xlsx_commands.proofs.GraphsListed.{FormulasNever, dependents_never, fits_never}
+use Rattle.xlsx_commands.proofs.GraphsListed.{graph_never}
 use Rattle.xlsx_commands.proofs.PartsNamed.{path_never}
 use Rattle.xlsx_commands.proofs.PivotsListed.{PivotsNever, pivots_never}
 use Rattle.xlsx_commands.proofs.PropertiesListed.{PropertiesNever, listed_never}
@@ -122,18 +128,19 @@ readable_by_area parts name asked large =
 
 pub records_of_values : (parts : List Part) (name : List ℕ) (options : CsvOptions)
     → HasOutput (table name) parts
-    → HasOutput (csv_table name options) parts ⊎ IsTooLarge (csv_table name options) parts
+    → HasOutput (csv_table name (as_they_are options)) parts
+    ⊎ IsTooLarge (csv_table name (as_they_are options)) parts
 unfolding IsOutput IsTooLarge
 records_of_values parts name options (output, lines) =
-    records_or_large parts name lines.table lines.has options
+    records_or_large false parts name lines.table lines.has options
 
 pub values_by_records : (parts : List Part) (name : List ℕ) (options : CsvOptions)
-    → HasOutput (csv_table name options) parts → HasOutput (table name) parts
+    → HasOutput (csv_table name (as_they_are options)) parts → HasOutput (table name) parts
 unfolding IsOutput
 values_by_records parts name options (output, rows) = values_of_table parts name rows.table rows.has
 
 pub values_by_area : (parts : List Part) (name : List ℕ) (options : CsvOptions)
-    → IsTooLarge (csv_table name options) parts → HasOutput (table name) parts
+    → IsTooLarge (csv_table name (as_they_are options)) parts → HasOutput (table name) parts
 unfolding IsOutput IsTooLarge
 values_by_area parts name options large = values_of_table parts name large.table large.has
 
@@ -201,6 +208,7 @@ pub record AreNever : Type 0 where
   pub areas : AreasNever
   pub pivots : PivotsNever
   pub caches : CachesNever
+  pub formulas : FormulasNever
 
 -- a line for each command
 workbook_never :
@@ -234,21 +242,21 @@ workbook_never never (csv name asked) parts output error prints cause =
     let (values, formulas, styles, reads) =
     read_by_row_values asked.shown parts name prints.values prints.reads in
     never.sheets parts name values formulas styles error reads cause
-workbook_never never (csv_table name options) parts output error prints cause =
-    table_never parts name prints.table error never.openings never.tables never.areas prints.has
-    cause
+workbook_never never (csv_table name asked) parts output error prints cause =
+    table_never asked.shown parts name prints.table error never.openings never.tables never.areas
+    prints.has cause
 workbook_never never (json_rows name asked) parts output error prints cause =
     let (values, formulas, styles, reads) =
     read_by_json_rows asked.header parts name asked output prints in
     never.sheets parts name values formulas styles error reads cause
 workbook_never never (table_objects name options) parts output error prints cause =
-    table_never parts name prints.table error never.openings never.tables never.areas prints.has
-    cause
+    table_never false parts name prints.table error never.openings never.tables never.areas
+    prints.has cause
 workbook_never never (tables form) parts output error prints cause =
     tables_never parts prints.tables error never.openings never.tables prints.has cause
 workbook_never never (table name) parts output error prints cause =
-    table_never parts name prints.table error never.openings never.tables never.areas prints.has
-    cause
+    table_never false parts name prints.table error never.openings never.tables never.areas
+    prints.has cause
 workbook_never never (pivots form) parts output error prints cause =
     pivots_never parts prints.pivots error never.openings never.pivots prints.has cause
 workbook_never never (pivot sheet name) parts output error prints cause =
@@ -258,6 +266,12 @@ workbook_never never (precedents name) parts output error prints cause =
     never.sheets parts name prints.values prints.formulas prints.styles error prints.reads cause
 workbook_never never (dependents name position) parts output error prints cause =
     never.sheets parts name prints.values prints.formulas prints.styles error prints.reads cause
+workbook_never never (all_dependents name position) parts output error prints cause =
+    dependents_never never.openings never.tables never.formulas parts prints.book prints.formulas
+    prints.has error name prints.sheet prints.called cause
+workbook_never never (workbook_graph list) parts output error prints cause =
+    graph_never never.openings never.tables never.formulas parts prints.book prints.formulas
+    prints.has error cause
 workbook_never never (check name) parts output error prints cause =
     never.sheets parts name prints.values prints.formulas prints.styles error prints.reads cause
 workbook_never never (part name) parts output error prints cause =
@@ -279,13 +293,24 @@ large_never :
 unfolding IsOutput IsTooLarge
 large_never never (csv name asked) parts output prints large =
     rows_never parts name asked output (never.alike parts name) prints large
-large_never never (csv_table name options) parts output prints large =
-    records_never parts name options output prints large
+large_never never (csv_table name asked) parts output prints large =
+    records_never parts name asked output prints large
 large_never never (json_rows name asked) parts output prints large =
     json_rows_never asked.header parts name asked output (never.alike parts name) prints large
 large_never never (table_objects name options) parts output prints large =
     objects_never parts name options output prints large
 large_never never _ parts output prints large = absurd large
+
+-- formulas for which there is room aren't too large
+large_graph_never :
+    AreNever → (command : Command) (parts : List Part) (output : List ℕ)
+    → IsOutput command parts output → HasLargeGraph command parts → ⊥
+unfolding IsOutput HasLargeGraph
+large_graph_never never (all_dependents name position) parts output prints large =
+    fits_never parts prints.book prints.formulas prints.has prints.fits large.large
+large_graph_never never (workbook_graph list) parts output prints large =
+    fits_never parts prints.book prints.formulas prints.has prints.fits large
+large_graph_never never _ parts output prints large = absurd large
 
 -- rows under keys have them
 keyless_never :
@@ -327,6 +352,8 @@ never_both never command parts output (Workbook error) prints cause =
     workbook_never never command parts output error prints cause
 never_both never command parts output BoxTooLarge prints cause =
     large_never never command parts output prints cause
+never_both never command parts output GraphTooLarge prints cause =
+    large_graph_never never command parts output prints cause
 never_both never command parts output Unwritable prints cause =
     unwritable_never never command parts output prints cause
 never_both never command parts output NoHeader prints cause =

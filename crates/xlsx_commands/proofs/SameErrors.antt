@@ -8,7 +8,7 @@ use Rattle.xlsx_commands.specs.Status.{SeenError, error_seen, of_book, usage, re
 use Rattle.xlsx_commands.specs.Status.{input_too_large, not_a_package, write_fault, out_of_memory}
 use Rattle.xlsx_commands.specs.Status.{file_too_large, not_a_workbook_file}
 use Rattle.xlsx_commands.specs.Status.{box_too_large, unwritable, not_chosen, no_header}
-use Rattle.xlsx_commands.specs.Status.{two_columns}
+use Rattle.xlsx_commands.specs.Status.{two_columns, graph_too_large}
 use Rattle.xlsx_commands.specs.contracts.error.ToolErrorPartialEq.TheImpl as error
 use Rattle.xlsx_commands.specs.contracts.sheet_choice.SheetFaultPartialEq.TheImpl as choice
 use Rattle.xlsx_commands.specs.declared.error.ToolError.{ToolError}
@@ -60,6 +60,7 @@ same_from is.BoxTooLarge is.BoxTooLarge same = refl
 same_from is.Unwritable is.Unwritable same = refl
 same_from (is.NotChosen a) (is.NotChosen b) same = ap not_chosen (same_choice a b same)
 same_from is.NoHeader is.NoHeader same = refl
+same_from is.GraphTooLarge is.GraphTooLarge same = refl
 same_from (is.TwoColumns a) (is.TwoColumns b) same =
     ap two_columns ((of_text (string_bytes a) (string_bytes b)).0 same)
 same_from (is.Workbook e) (is.Workbook f) same = ap of_book ((refusal_law e f).0 same)
@@ -81,6 +82,7 @@ kind_of unwritable = 10
 kind_of (not_chosen fault) = 11
 kind_of no_header = 12
 kind_of (two_columns key) = 13
+kind_of graph_too_large = 14
 
 -- errors of two kinds differ
 kinds_differ : (v w : SeenError) → nat_eq (kind_of v) (kind_of w) ≡ false → v ≡ w → ⊥
@@ -104,6 +106,7 @@ same_to (is.NotChosen a) (is.NotChosen b) same =
     let one : a ≡ b = cc in
     subst (λ (c : SheetFault). choice.ghosts.eq a c ≡ true) one (choice_itself a)
 same_to is.NoHeader is.NoHeader same = refl
+same_to is.GraphTooLarge is.GraphTooLarge same = refl
 same_to (is.TwoColumns a) (is.TwoColumns b) same =
     (of_text (string_bytes a) (string_bytes b)).1 (cc)
 same_to (is.Workbook e) (is.Workbook f) same = (refusal_law e f).1 (cc)

@@ -1,6 +1,6 @@
 -- The first table of a name with its data, and why these aren't had.
 use Rattle.std.proofs.Common.{◌≡◌, ◌∙◌, ◌⊎◌, inl, inr, ap, sym, subst, refl, ℕ, List, Option, Some}
-use Rattle.std.proofs.Common.{None}
+use Rattle.std.proofs.Common.{None, Bool, true, false}
 use Rattle.std.specs.Prelude.{IsSome, IsSomeAnd}
 use Rattle.cell_data.specs.Table.{table_data}
 use Rattle.cell_data.specs.declared.range.Range.{Range}
@@ -13,11 +13,14 @@ use Rattle.input_package.specs.Told.{Told}
 use Rattle.part_events.specs.Package.{Part, PackageState}
 use Rattle.xlsx_error.specs.declared.error.XlsxError.{XlsxError}
 use Rattle.xlsx_error.specs.declared.error.XlsxError.TheVariants as workbook
-use Rattle.xlsx_cells.specs.CellsReader.{values_alone}
+use Rattle.xlsx_cells.specs.CellsReader.{values_alone, values_and_styles}
 use Rattle.xlsx_values.specs.Value.{Grounds}
 use Rattle.xlsx_tables.specs.Tables.{SheetTable, tables_of, TablesCause}
 use Rattle.xlsx_workbook.specs.Sheets.{PlacedSheet}
+use Rattle.xlsx_open.specs.Opening.{Opening}
+use Rattle.xlsx_open.specs.SharedParts.{SharedSaid, shared_said}
 use Rattle.xlsx_core.specs.SheetReading.{opened_grounds, path_named}
+use Rattle.xlsx_core.specs.ShownTable.{ShowsValuesIn}
 use Rattle.xlsx_core.specs.TableData.{first_named, table_of_book, AreaFails, TableDataFails}
 use Rattle.xlsx_core.specs.TableData.{IsOfTable, ReadsValuesIn}
 use Rattle.xlsx_core.specs.TableList.{loaded_tables}
@@ -29,7 +32,7 @@ use Rattle.xlsx_commands.specs.Outputs.{CallFails}
 use Rattle.xlsx_commands.specs.Status.{of_workbook}
 use Rattle.xlsx_commands.specs.TableLists.{HasTables, ListedTablesCause}
 use Rattle.xlsx_commands.specs.TableLists.{HasNamedTable, NamesNoTable, HasTableCause}
-use Rattle.xlsx_commands.specs.TableLists.{NamedTableCause, HasTable}
+use Rattle.xlsx_commands.specs.TableLists.{NamedTableCause, HasDataIn, HasTable, table_wants}
 use Rattle.xlsx_commands.specs.SheetsRefused.{ListingFails}
 use Rattle.xlsx_commands.specs.TablesOpened.{OpensWithTables}
 use Rattle.xlsx_commands.specs.declared.error.ToolError.{ToolError}
@@ -40,12 +43,13 @@ use Rattle.xlsx_commands.proofs.SheetsOpened.{same_sheets}
 use Rattle.xlsx_commands.proofs.TablesListed.{TablesNever, tables_never}
 
 -- a workbook that doesn't open with its tables has no table of a name
-pub loading_is_named : (parts : List Part) (name : List ℕ) (error : ToolError)
-    → ListingFails TablesCause parts error → CallFails (NamedTableCause parts name) error
-loading_is_named parts name (Workbook (workbook.TableNotFound asked)) fails = absurd fails
-loading_is_named parts name (Workbook (workbook.PivotTableNotFound asked)) fails = absurd fails
-loading_is_named parts name (Workbook error) fails = inl fails
-loading_is_named parts name error fails = fails
+pub loading_is_named : (shown : Bool) (parts : List Part) (name : List ℕ) (error : ToolError)
+    → ListingFails TablesCause parts error → CallFails (NamedTableCause shown parts name) error
+loading_is_named shown parts name (Workbook (workbook.TableNotFound asked)) fails = absurd fails
+loading_is_named shown parts name (Workbook (workbook.PivotTableNotFound asked)) fails =
+    absurd fails
+loading_is_named shown parts name (Workbook error) fails = inl fails
+loading_is_named shown parts name error fails = fails
 
 -- what is said twice of what is there
 both_of : {A : Type 0} (o : Option A) (one two : A → Type 0) → IsSomeAnd o one → IsSomeAnd o two
@@ -58,10 +62,32 @@ abbrev IsOther : XlsxError → Type 0
 IsOther (workbook.TableNotFound asked) = ⊥
 IsOther error = Unit {0}
 
-cause_is_named : (parts : List Part) (name : List ℕ) (error : XlsxError) → IsOther error
-    → HasTableCause parts name error → NamedTableCause parts name error
-cause_is_named parts name (workbook.TableNotFound asked) other has = absurd other
-cause_is_named parts name error other has = inr has
+cause_is_named : (shown : Bool) (parts : List Part) (name : List ℕ) (error : XlsxError)
+    → IsOther error → HasTableCause shown parts name error
+    → NamedTableCause shown parts name error
+cause_is_named shown parts name (workbook.TableNotFound asked) other has = absurd other
+cause_is_named shown parts name error other has = inr has
+
+-- what is shown by the same is shown alike
+shows_alike : (rests grounds : Grounds) (shares shared : SharedSaid) (counts is_1904 : Bool)
+    (over header : HeaderRow) (area : Option Dimensions) (at path : Option (List ℕ))
+    (held parts : List Part) (range : Range Data) → rests ≡ grounds → shares ≡ shared
+    → counts ≡ is_1904 → over ≡ header → at ≡ path → held ≡ parts
+    → ShowsValuesIn rests shares counts over area at held range
+    → ShowsValuesIn grounds shared is_1904 header area path parts range
+shows_alike rests grounds shares shared counts is_1904 over header area at path held parts range
+    resting sharing counting heading standing holding shows =
+    subst (λ (own : Grounds). ShowsValuesIn own shared is_1904 header area path parts range)
+    resting
+    (subst (λ (own : SharedSaid). ShowsValuesIn rests own is_1904 header area path parts range)
+    sharing
+    (subst (λ (own : Bool). ShowsValuesIn rests shares own header area path parts range) counting
+    (subst (λ (own : HeaderRow). ShowsValuesIn rests shares counts own area path parts range)
+    heading
+    (subst (λ (own : Option (List ℕ)). ShowsValuesIn rests shares counts over area own parts range)
+    standing
+    (subst (λ (own : List Part). ShowsValuesIn rests shares counts over area at own range) holding
+    shows)))))
 
 module _ (parts : List Part) (name : List ℕ) (xlsx : Xlsx Told)
     (opened : OpensWithTables parts xlsx) where
@@ -84,55 +110,55 @@ module _ (parts : List Part) (name : List ℕ) (xlsx : Xlsx Told)
       let placed = opens_placed name opened.opening opened.holds opened.opens in
       placed.rests ∙ same_grounds parts placed.opening opened.opening placed.opens opened.opens
 
-  own_cause : (own : SheetTable) (error : XlsxError) → table_of_book xlsx name ≡ Some own
-      → IsSome own.table.area
-      → RangeCause own.sheet values_alone (grounds_of_book xlsx) (path_of xlsx own.sheet)
-      xlsx.xml.source.parts error → HasTableCause parts name error
-  own_cause own error is area cause = record {
+  own_cause : (shown : Bool) (own : SheetTable) (error : XlsxError)
+      → table_of_book xlsx name ≡ Some own → IsSome own.table.area
+      → RangeCause own.sheet (table_wants shown) (grounds_of_book xlsx) (path_of xlsx own.sheet)
+      xlsx.xml.source.parts error → HasTableCause shown parts name error
+  own_cause shown own error is area cause = record {
     own = own;
     has = record { tables = loaded_tables xlsx; has = has_tables; named = is };
     area = area;
-    cause = subst (λ (grounds : Grounds). RangeCause own.sheet values_alone grounds
+    cause = subst (λ (grounds : Grounds). RangeCause own.sheet (table_wants shown) grounds
         (path_named own.sheet opened.opening.sheets) parts error) book_grounds
-        (subst (λ (path : Option (List ℕ)). RangeCause own.sheet values_alone
+        (subst (λ (path : Option (List ℕ)). RangeCause own.sheet (table_wants shown)
         (grounds_of_book xlsx) path parts error) (book_path own.sheet)
-        (subst (λ (held : List Part). RangeCause own.sheet values_alone (grounds_of_book xlsx)
-        (path_of xlsx own.sheet) held error) opened.same cause));
+        (subst (λ (held : List Part). RangeCause own.sheet (table_wants shown)
+        (grounds_of_book xlsx) (path_of xlsx own.sheet) held error) opened.same cause));
   }
 
-  area_fails : (own : SheetTable) (new : PackageState) (error : XlsxError)
+  area_fails : (shown : Bool) (own : SheetTable) (new : PackageState) (error : XlsxError)
       → IsInMemory new → table_of_book xlsx name ≡ Some own → IsOther error
-      → AreaFails xlsx own.sheet own.table.area xlsx.xml.source new error
-      → CallFails (NamedTableCause parts name) (of_workbook error)
-  area_fails own new workbook.OutOfMemory memory is other fails = tt
-  area_fails own new (workbook.NotAWorksheet kind) memory is other fails = absurd fails.1
-  area_fails own new error memory is other fails =
-      memory_fails (NamedTableCause parts name)
-      (RangeCause own.sheet values_alone (grounds_of_book xlsx) (path_of xlsx own.sheet)
+      → AreaFails (table_wants shown) xlsx own.sheet own.table.area xlsx.xml.source new error
+      → CallFails (NamedTableCause shown parts name) (of_workbook error)
+  area_fails shown own new workbook.OutOfMemory memory is other fails = tt
+  area_fails shown own new (workbook.NotAWorksheet kind) memory is other fails = absurd fails.1
+  area_fails shown own new error memory is other fails =
+      memory_fails (NamedTableCause shown parts name)
+      (RangeCause own.sheet (table_wants shown) (grounds_of_book xlsx) (path_of xlsx own.sheet)
       xlsx.xml.source.parts) xlsx.xml.source new error memory opened.told
-      (λ cause. cause_is_named parts name error other (own_cause own error is fails.0 cause))
-      fails.1
+      (λ cause. cause_is_named shown parts name error other
+      (own_cause shown own error is fails.0 cause)) fails.1
 
-  pub data_fails : (new : PackageState) (error : XlsxError) → IsInMemory new
-      → TableDataFails xlsx name xlsx.xml.source new error
-      → CallFails (NamedTableCause parts name) (of_workbook error)
-  data_fails new workbook.OutOfMemory memory fails = tt
-  data_fails new (workbook.TableNotFound asked) memory fails = (
+  pub data_fails : (shown : Bool) (new : PackageState) (error : XlsxError) → IsInMemory new
+      → TableDataFails (table_wants shown) xlsx name xlsx.xml.source new error
+      → CallFails (NamedTableCause shown parts name) (of_workbook error)
+  data_fails shown new workbook.OutOfMemory memory fails = tt
+  data_fails shown new (workbook.TableNotFound asked) memory fails = (
     fails.0,
     record { tables = loaded_tables xlsx; has = has_tables; none = fails.1 },
   )
-  data_fails new error memory fails =
+  data_fails shown new error memory fails =
       let (own, is, area, again) = both_of (table_of_book xlsx name)
-      (λ own. AreaFails xlsx own.sheet own.table.area xlsx.xml.source new error)
-      (λ own. AreaFails xlsx own.sheet own.table.area xlsx.xml.source new error)
+      (λ own. AreaFails (table_wants shown) xlsx own.sheet own.table.area xlsx.xml.source new error)
+      (λ own. AreaFails (table_wants shown) xlsx own.sheet own.table.area xlsx.xml.source new error)
       fails fails in
-      area_fails own new error memory is tt area
+      area_fails shown own new error memory is tt area
 
   pub has_table : (table : Table Data)
       → IsSomeAnd (table_of_book xlsx name) (λ own. IsOfTable own table)
       → IsSomeAnd (table_of_book xlsx name) (λ own. ReadsValuesIn (grounds_of_book xlsx)
       xlsx.header_row own.table.area (path_of xlsx own.sheet) xlsx.xml.source.parts
-      (table_data table)) → HasTable parts name table
+      (table_data table)) → HasTable false parts name table
   has_table table named reads =
       let (own, is, of_own, from) = both_of (table_of_book xlsx name)
       (λ own. IsOfTable own table)
@@ -154,23 +180,58 @@ module _ (parts : List Part) (name : List ℕ) (xlsx : Xlsx Told)
             (path_of xlsx own.sheet) held (table_data table)) opened.same from)));
       }
 
+  pub has_shown_table : (table : Table Data)
+      → IsSomeAnd (table_of_book xlsx name) (λ own. IsOfTable own table)
+      → IsSomeAnd (table_of_book xlsx name) (λ own. ShowsValuesIn (grounds_of_book xlsx)
+      (shared_said xlsx.shared) xlsx.is_1904 xlsx.header_row own.table.area
+      (path_of xlsx own.sheet) xlsx.xml.source.parts (table_data table))
+      → HasTable true parts name table
+  has_shown_table table named shows =
+      let opening = opened.opening in
+      let (own, is, of_own, from) = both_of (table_of_book xlsx name)
+      (λ own. IsOfTable own table)
+      (λ own. ShowsValuesIn (grounds_of_book xlsx) (shared_said xlsx.shared) xlsx.is_1904
+      xlsx.header_row own.table.area (path_of xlsx own.sheet) xlsx.xml.source.parts
+      (table_data table)) named shows in
+      record {
+        own = own;
+        has = record { tables = loaded_tables xlsx; has = has_tables; named = is };
+        is = of_own;
+        reads = shows_alike (grounds_of_book xlsx) (opened_grounds opening)
+            (shared_said xlsx.shared) opening.shared xlsx.is_1904 opening.is_1904
+            xlsx.header_row FirstNonEmptyRow own.table.area (path_of xlsx own.sheet)
+            (path_named own.sheet opening.sheets) xlsx.xml.source.parts parts (table_data table)
+            book_grounds opened.holds.shared opened.holds.epoch opened.header_row
+            (book_path own.sheet) opened.same from;
+      }
+
 -- ---- what is had isn't refused
 
--- what is read in an area isn't refused, as each is
-abbrev pub AreasNever : Type 0
-AreasNever =
-    (grounds : Grounds) (header : HeaderRow) (name : List ℕ) (area : Dimensions)
-    (path : Option (List ℕ)) (parts : List Part) (range : Range Data) (error : XlsxError)
-    → ReadsValuesIn grounds header (Some area) path parts range
-    → RangeCause name values_alone grounds path parts error → ⊥
+-- what is read in an area isn't refused, as each is, and so isn't what is shown
+pub record AreasNever : Type 0 where
+  pub values :
+      (grounds : Grounds) (header : HeaderRow) (name : List ℕ) (area : Dimensions)
+      (path : Option (List ℕ)) (parts : List Part) (range : Range Data) (error : XlsxError) →
+      ReadsValuesIn grounds header (Some area) path parts range →
+      RangeCause name values_alone grounds path parts error → ⊥
+  pub shown :
+      (grounds : Grounds) (shared : SharedSaid) (is_1904 : Bool) (header : HeaderRow)
+      (name : List ℕ) (area : Dimensions) (path : Option (List ℕ)) (parts : List Part)
+      (range : Range Data) (error : XlsxError) →
+      ShowsValuesIn grounds shared is_1904 header (Some area) path parts range →
+      RangeCause name values_and_styles grounds path parts error → ⊥
 
-area_never : AreasNever → (grounds : Grounds) (header : HeaderRow) (name : List ℕ)
+area_never : AreasNever → (shown : Bool) (opening : Opening) (name : List ℕ)
     (area : Option Dimensions) (path : Option (List ℕ)) (parts : List Part) (range : Range Data)
-    (error : XlsxError) → IsSome area → ReadsValuesIn grounds header area path parts range
-    → RangeCause name values_alone grounds path parts error → ⊥
-area_never areas grounds header name None path parts range error there reads cause = absurd (cc)
-area_never areas grounds header name (Some area) path parts range error there reads cause =
-    areas grounds header name area path parts range error reads cause
+    (error : XlsxError) → IsSome area → HasDataIn shown opening area path parts range
+    → RangeCause name (table_wants shown) (opened_grounds opening) path parts error → ⊥
+area_never areas shown opening name None path parts range error there reads cause = absurd (cc)
+area_never areas false opening name (Some area) path parts range error there reads cause =
+    areas.values (opened_grounds opening) FirstNonEmptyRow name area path parts range error reads
+    cause
+area_never areas true opening name (Some area) path parts range error there shows cause =
+    areas.shown (opened_grounds opening) opening.shared opening.is_1904 FirstNonEmptyRow name area
+    path parts range error shows cause
 
 -- the tables of a workbook are had once
 pub same_tables : (parts : List Part) (one two : List SheetTable) → HasTables parts one
@@ -196,38 +257,40 @@ lacks_never parts name own has lacks =
     ∙ lacks.none in
     absurd (cc)
 
-cause_never : (parts : List Part) (name : List ℕ) (table : Table Data) (error : XlsxError)
-    → AreasNever → HasTable parts name table → HasTableCause parts name error → ⊥
-cause_never parts name table error areas has cause =
+cause_never : (shown : Bool) (parts : List Part) (name : List ℕ) (table : Table Data)
+    (error : XlsxError) → AreasNever → HasTable shown parts name table
+    → HasTableCause shown parts name error → ⊥
+cause_never shown parts name table error areas has cause =
     let here = has.has.has in
     let there = cause.has.has in
-    let sheets = (are_alike parts here.opening there.opening here.opens there.opens).sheets in
-    let grounds = same_grounds parts here.opening there.opening here.opens there.opens in
-    let own = same_table parts name has.own cause.own has.has cause.has in
-    let area = cause.own.table.area in
-    let sheet = cause.own.sheet in
-    area_never areas (opened_grounds there.opening) FirstNonEmptyRow sheet area
-    (path_named sheet there.opening.sheets) parts (table_data table) error cause.area
-    (subst (λ (own : Grounds). ReadsValuesIn own FirstNonEmptyRow area
-    (path_named sheet there.opening.sheets) parts (table_data table)) grounds
-    (subst (λ (placed : List PlacedSheet). ReadsValuesIn (opened_grounds here.opening)
-    FirstNonEmptyRow area (path_named sheet placed) parts (table_data table)) sheets
-    (subst (λ (one : SheetTable). ReadsValuesIn (opened_grounds here.opening) FirstNonEmptyRow
-    one.table.area (path_named one.sheet here.opening.sheets) parts (table_data table)) own
-    has.reads))) cause.cause
+    let wants = table_wants shown in
+    let sheets = (are_alike parts there.opening here.opening there.opens here.opens).sheets in
+    let grounds = same_grounds parts there.opening here.opening there.opens here.opens in
+    let own = same_table parts name cause.own has.own cause.has has.has in
+    let sheet = has.own.sheet in
+    area_never areas shown here.opening sheet has.own.table.area
+    (path_named sheet here.opening.sheets) parts (table_data table) error
+    (subst (λ (one : SheetTable). IsSome one.table.area) own cause.area) has.reads
+    (subst (λ (rests : Grounds). RangeCause sheet wants rests
+    (path_named sheet here.opening.sheets) parts error) grounds
+    (subst (λ (placed : List PlacedSheet). RangeCause sheet wants (opened_grounds there.opening)
+    (path_named sheet placed) parts error) sheets
+    (subst (λ (one : SheetTable). RangeCause one.sheet wants (opened_grounds there.opening)
+    (path_named one.sheet there.opening.sheets) parts error) own cause.cause)))
 
-either_never : (parts : List Part) (name : List ℕ) (table : Table Data) (error : XlsxError)
-    → OpeningsNever → TablesNever → AreasNever → HasTable parts name table
-    → ListedTablesCause parts error ⊎ HasTableCause parts name error → ⊥
-either_never parts name table error opened taken areas has (inl cause) =
+either_never : (shown : Bool) (parts : List Part) (name : List ℕ) (table : Table Data)
+    (error : XlsxError) → OpeningsNever → TablesNever → AreasNever
+    → HasTable shown parts name table
+    → ListedTablesCause parts error ⊎ HasTableCause shown parts name error → ⊥
+either_never shown parts name table error opened taken areas has (inl cause) =
     tables_never parts has.has.tables error opened taken has.has.has cause
-either_never parts name table error opened taken areas has (inr cause) =
-    cause_never parts name table error areas has cause
+either_never shown parts name table error opened taken areas has (inr cause) =
+    cause_never shown parts name table error areas has cause
 
-pub table_never : (parts : List Part) (name : List ℕ) (table : Table Data) (error : XlsxError)
-    → OpeningsNever → TablesNever → AreasNever → HasTable parts name table
-    → NamedTableCause parts name error → ⊥
-table_never parts name table (workbook.TableNotFound asked) opened taken areas has cause =
+pub table_never : (shown : Bool) (parts : List Part) (name : List ℕ) (table : Table Data)
+    (error : XlsxError) → OpeningsNever → TablesNever → AreasNever
+    → HasTable shown parts name table → NamedTableCause shown parts name error → ⊥
+table_never shown parts name table (workbook.TableNotFound asked) opened taken areas has cause =
     lacks_never parts name has.own has.has cause.1
-table_never parts name table error opened taken areas has cause =
-    either_never parts name table error opened taken areas has cause
+table_never shown parts name table error opened taken areas has cause =
+    either_never shown parts name table error opened taken areas has cause

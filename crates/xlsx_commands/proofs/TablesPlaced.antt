@@ -1,7 +1,7 @@
 -- The records of a table: its header and the rows of its data, and when there are none.
 use Rattle.std.proofs.Common.{◌≡◌, ◌∙◌, ℕ, ◌+◌, ◌<◌, ◌≤◌, List, [], ◌∷◌, ◌++◌, length, map}
 use Rattle.std.proofs.Common.{refl, sym, ap, subst, arith, inl, inr, ◌⊎◌, Option, Some, None}
-use Rattle.std.proofs.Common.{String, Global, string_bytes}
+use Rattle.std.proofs.Common.{String, Global, string_bytes, Bool, true, false}
 use Rattle.std.specs.Prelude.{slice_get, IfSome, IsSomeAnd}
 use Rattle.std.specs.Option.{unwrap_or}
 use Rattle.std.proofs.lemmas.Bool.{cases_lt}
@@ -23,15 +23,21 @@ use Rattle.sheet_listing.specs.SheetListing.{value_lines}
 use Rattle.xlsx_values.specs.Value.{Grounds}
 use Rattle.cell_data.specs.Pairs.{value_pairs}
 use Rattle.xlsx_core.specs.SheetReading.{events_at, opened_grounds, path_named}
+use Rattle.xlsx_core.specs.ShownSheet.{shown_cells}
+use Rattle.xlsx_core.specs.ShownTable.{AnswersStyledValues}
 use Rattle.xlsx_core.specs.TableData.{IsRangeIn, ReadsValuesIn}
+use Rattle.xlsx_cells.specs.CellsReader.{values_and_styles}
 use Rattle.xlsx_cells.specs.Sheet.{with_texts}
+use Rattle.xlsx_open.specs.Opening.{Opening}
+use Rattle.xlsx_open.specs.SharedParts.{SharedSaid}
 use Rattle.xlsx_core.specs.Worksheets.{AnswersValues}
 use Rattle.xlsx_rows.specs.RowsText.{bom_text, header_text, rows_text}
 use Rattle.xlsx_rows.specs.declared.options.CsvOptions.{CsvOptions}
 use Rattle.xlsx_commands.specs.SheetRows.{rows_placed, area_count}
-use Rattle.xlsx_commands.specs.TableLists.{HasTable, AreTableValueLines}
+use Rattle.xlsx_commands.specs.TableLists.{HasDataIn, HasTable, AreTableValueLines}
 use Rattle.xlsx_commands.specs.TableRows.{fitted_names, header_over, table_records, AreTableRows}
 use Rattle.xlsx_commands.specs.TableRows.{HasLargeTable}
+use Rattle.xlsx_commands.specs.declared.asked_rows.AskedTable.{AskedTable}
 use Rattle.xlsx_tables.specs.Tables.{SheetTable}
 use Rattle.xlsx_commands.proofs.RowsPlaced.{rows_meant, not_both}
 use Rattle.xlsx_commands.proofs.TablesNamed.{same_table}
@@ -71,6 +77,16 @@ blank_of_used : (grounds : Grounds) (header : HeaderRow) (area : Dimensions)
 blank_of_used grounds header area None range reads = absurd reads
 blank_of_used grounds header area (Some events) range (values, answers, is) = is.blank
 
+blank_of_shown : (grounds : Grounds) (shared : SharedSaid) (is_1904 : Bool) (header : HeaderRow)
+    (area : Dimensions) (events : Option (List Event)) (range : Range Data)
+    → IsSomeAnd events (λ own. (found : List ((ℕ × ℕ) × (CellValue × ℕ)))
+    × AnswersStyledValues values_and_styles grounds own found
+    × IsRangeIn value_of_data header area (shown_cells shared is_1904 found) nothing range)
+    → value_of_data (blank_of range) ≡ nothing
+blank_of_shown grounds shared is_1904 header area None range shows = absurd shows
+blank_of_shown grounds shared is_1904 header area (Some events) range (found, answers, is) =
+    is.blank
+
 -- what is read in an area has no value where it has no cell
 pub blank_in : (grounds : Grounds) (header : HeaderRow) (area : Option Dimensions)
     (path : Option (List ℕ)) (parts : List Part) (range : Range Data)
@@ -79,8 +95,19 @@ blank_in grounds header None path parts range reads = reads.blank
 blank_in grounds header (Some area) path parts range reads =
     blank_of_used grounds header area (events_at path parts) range reads
 
-module _ (parts : List Part) (name : List ℕ) (table : Table Data)
-    (has : HasTable parts name table) where
+-- nor has what is shown
+pub blank_of_data : (shown : Bool) (opening : Opening) (area : Option Dimensions)
+    (path : Option (List ℕ)) (parts : List Part) (range : Range Data)
+    → HasDataIn shown opening area path parts range → value_of_data (blank_of range) ≡ nothing
+blank_of_data false opening area path parts range reads =
+    blank_in (opened_grounds opening) FirstNonEmptyRow area path parts range reads
+blank_of_data true opening None path parts range shows = shows.blank
+blank_of_data true opening (Some area) path parts range shows =
+    blank_of_shown (opened_grounds opening) opening.shared opening.is_1904 FirstNonEmptyRow area
+    (events_at path parts) range shows
+
+module _ (shown : Bool) (parts : List Part) (name : List ℕ) (table : Table Data)
+    (has : HasTable shown parts name table) where
   -- the range of its data has its area
   area_said : (range : Range Data) → range ≡ table_data table → bounds_of range ≡ has.own.table.area
   area_said range same = ap (λ (own : Range Data). bounds_of own) same ∙ has.is.area
@@ -100,11 +127,11 @@ module _ (parts : List Part) (name : List ℕ) (table : Table Data)
       ≡ header_over (bounds_of (table_data table)) (table_columns table)
       → (options : CsvOptions) → box_count range ≤ 16777216
       → rows ≡ rows_text options (Some (map string_bytes header)) range
-      → AreTableRows parts name options rows
+      → AreTableRows parts name (record { options = options; shown = shown }) rows
   records_of_data range header rows same fitted options fits is =
       let held = table_data table in
       let values = value_pairs held in
-      let blank = blank_in (opened_grounds has.has.has.opening) FirstNonEmptyRow has.own.table.area
+      let blank = blank_of_data shown has.has.has.opening has.own.table.area
       (path_named has.own.sheet has.has.has.opening.sheets) parts held has.reads in
       record {
         table = table;
@@ -122,7 +149,7 @@ module _ (parts : List Part) (name : List ℕ) (table : Table Data)
       }
 
   pub large_of_data : (range : Range Data) → range ≡ table_data table → 16777216 < box_count range
-      → HasLargeTable parts name
+      → HasLargeTable shown parts name
   large_of_data range same large = record {
     table = table;
     has = has;
@@ -134,7 +161,8 @@ module _ (parts : List Part) (name : List ℕ) (table : Table Data)
 
   -- a table with its data has records, or too large an area
   pub records_or_large : (options : CsvOptions)
-      → ((rows : List ℕ) × AreTableRows parts name options rows) ⊎ HasLargeTable parts name
+      → ((rows : List ℕ) × AreTableRows parts name (record { options = options; shown = shown })
+      rows) ⊎ HasLargeTable shown parts name
   records_or_large options =
       elim (cases_lt 16777216 (area_count has.own.table.area)) [
         | inl large ↦ inr (record { table = table; has = has; large = large })
@@ -145,16 +173,17 @@ module _ (parts : List Part) (name : List ℕ) (table : Table Data)
         )
       ]
 
-  pub values_of_table : (lines : List ℕ) × AreTableValueLines parts name lines
-  values_of_table = (
-    value_lines (value_pairs (table_data table)),
-    record { table = table; has = has; listed = refl },
-  )
+pub values_of_table : (parts : List Part) (name : List ℕ) (table : Table Data)
+    → HasTable false parts name table → (lines : List ℕ) × AreTableValueLines parts name lines
+values_of_table parts name table has = (
+  value_lines (value_pairs (table_data table)),
+  record { table = table; has = has; listed = refl },
+)
 
 -- and an area that is too large or isn't
-pub records_never : (parts : List Part) (name : List ℕ) (options : CsvOptions) (rows : List ℕ)
-    → AreTableRows parts name options rows → HasLargeTable parts name → ⊥
-records_never parts name options rows prints has =
+pub records_never : (parts : List Part) (name : List ℕ) (asked : AskedTable) (rows : List ℕ)
+    → AreTableRows parts name asked rows → HasLargeTable asked.shown parts name → ⊥
+records_never parts name asked rows prints has =
     not_both (area_count prints.has.own.table.area) (area_count has.has.own.table.area)
     (ap (λ (own : SheetTable). area_count own.table.area)
     (same_table parts name prints.has.own has.has.own prints.has.has has.has.has))

@@ -10,6 +10,7 @@ use Rattle.xlsx_rows.specs.declared.delimiter.Delimiter.{Delimiter}
 use Rattle.xlsx_rows.specs.declared.delimiter.Digits.{Digits}
 use Rattle.xlsx_rows.specs.declared.options.CsvOptions.{CsvOptions}
 use Rattle.xlsx_commands.specs.declared.asked_rows.AskedRows.{AskedRows}
+use Rattle.xlsx_commands.specs.declared.asked_rows.AskedTable.{AskedTable}
 
 -- nothing is asked
 abbrev pub plain_rows : AskedRows
@@ -144,12 +145,23 @@ of_csv asked = if asked.header then None else Some asked
 abbrev pub csv_asked : List (List ℕ) → Option AskedRows
 csv_asked words = option_and_then of_csv (options_asked plain_rows words)
 
--- what is asked of a table's rows: their area has its own corner, their keys are its columns, and
--- values are not shown
+-- what is asked of a table's rows as objects: their area has its own corner, their keys are its
+-- columns, and values are not shown
 abbrev pub of_table : AskedRows → Option CsvOptions
 of_table asked =
     if asked.from_a1 || asked.shown || asked.header then None else Some asked.options
 
--- what words ask of the rows of a table
-abbrev pub table_rows_asked : List (List ℕ) → Option CsvOptions
-table_rows_asked words = option_and_then of_table (options_asked plain_rows words)
+-- a table's rows that are written so, of values as they are
+abbrev pub as_they_are : CsvOptions → AskedTable
+as_they_are options = record { options = options; shown = false }
+
+-- what is asked of a table's rows as CSV: their area has its own corner, their header are its
+-- columns
+abbrev pub of_csv_table : AskedRows → Option AskedTable
+of_csv_table asked =
+    if asked.from_a1 || asked.header then None
+    else Some (record { options = asked.options; shown = asked.shown })
+
+-- what words ask of the rows of a table as CSV
+abbrev pub table_rows_asked : List (List ℕ) → Option AskedTable
+table_rows_asked words = option_and_then of_csv_table (options_asked plain_rows words)

@@ -12,11 +12,14 @@ use Rattle.part_events.specs.Package.{Part}
 use Rattle.xlsx_sample.specs.Sample.{sample_parts}
 use Rattle.xlsx_sections.specs.NumberText.{number_text}
 use Rattle.xlsx_rows.specs.declared.options.CsvOptions.{CsvOptions}
-use Rattle.xlsx_commands.specs.AskedRows.{plain_rows, csv_asked, table_rows_asked}
+use Rattle.xlsx_commands.specs.AskedRows.{plain_rows, as_they_are, csv_asked, table_rows_asked}
 use Rattle.xlsx_commands.specs.AskedArrays.{arrays_asked, objects_asked}
 use Rattle.xlsx_commands.specs.declared.asked_rows.AskedRows.{AskedRows}
+use Rattle.xlsx_commands.specs.declared.asked_rows.AskedTable.{AskedTable}
 use Rattle.xlsx_commands.specs.declared.command.Command.{Command as Asked}
 use Rattle.xlsx_commands.specs.declared.command.Command.TheVariants as asked
+use Rattle.xlsx_commands.specs.declared.command.GraphList.{GraphList}
+use Rattle.xlsx_commands.specs.declared.command.GraphList.TheVariants.{Graph, Order, Cycles}
 
 -- the words as texts
 abbrev pub texts : List (String Global) → List (List ℕ)
@@ -32,7 +35,7 @@ pub data Command : Type 0 where
   comments : LineForm → List ℕ → Command
   props : LineForm → Command
   csv : List ℕ → AskedRows → Command
-  csv_table : List ℕ → CsvOptions → Command
+  csv_table : List ℕ → AskedTable → Command
   json_rows : List ℕ → AskedRows → Command
   table_objects : List ℕ → CsvOptions → Command
   tables : LineForm → Command
@@ -41,6 +44,8 @@ pub data Command : Type 0 where
   pivot : List ℕ → List ℕ → Command
   precedents : List ℕ → Command
   dependents : List ℕ → ℕ × ℕ → Command
+  all_dependents : List ℕ → ℕ × ℕ → Command
+  workbook_graph : GraphList → Command
   check : List ℕ → Command
   part : List ℕ → Command
   upgrade : Command
@@ -58,7 +63,7 @@ command_meant (asked.Links form name) = links form name.now
 command_meant (asked.Comments form name) = comments form name.now
 command_meant (asked.Props form) = props form
 command_meant (asked.Csv name rows) = csv name.now rows
-command_meant (asked.CsvTable name options) = csv_table name.now options
+command_meant (asked.CsvTable name own) = csv_table name.now own
 command_meant (asked.Rows name own) = json_rows name.now own
 command_meant (asked.RowsTable name options) = table_objects name.now options
 command_meant (asked.Tables form) = tables form
@@ -67,6 +72,8 @@ command_meant (asked.Pivots form) = pivots form
 command_meant (asked.Pivot sheet name) = pivot sheet.now name.now
 command_meant (asked.Precedents name) = precedents name.now
 command_meant (asked.Dependents name position) = dependents name.now position
+command_meant (asked.AllDependents name position) = all_dependents name.now position
+command_meant (asked.WorkbookGraph list) = workbook_graph list
 command_meant (asked.Check name) = check name.now
 command_meant (asked.Part name) = part name.now
 command_meant asked.Upgrade = upgrade
@@ -115,7 +122,11 @@ if_json option command = if bytes_eq option (codes "--json") then command else N
 -- a command of one word
 abbrev pub bare_command : List ℕ → Option Command
 bare_command word =
-    if bytes_eq word (codes "upgrade") then Some upgrade else book_list Text word
+    if bytes_eq word (codes "upgrade") then Some upgrade
+    else (if bytes_eq word (codes "graph") then Some (workbook_graph Graph)
+    else (if bytes_eq word (codes "order") then Some (workbook_graph Order)
+    else (if bytes_eq word (codes "cycles") then Some (workbook_graph Cycles)
+    else book_list Text word)))
 
 -- this command, or else the other
 abbrev pub or_command : Option Command → Option Command → Option Command
@@ -131,7 +142,7 @@ listed_command word name =
 abbrev pub named_command : List ℕ → List ℕ → Option Command
 named_command word name =
     if bytes_eq word (codes "csv") then Some (csv name plain_rows)
-    else (if bytes_eq word (codes "csv-table") then Some (csv_table name plain_rows.options)
+    else (if bytes_eq word (codes "csv-table") then Some (csv_table name (as_they_are plain_rows.options))
     else (if bytes_eq word (codes "table") then Some (table name)
     else (if bytes_eq word (codes "precedents") then Some (precedents name)
     else (if bytes_eq word (codes "check") then Some (check name)
@@ -153,11 +164,23 @@ placed_command word sheet name =
     else (if bytes_eq word (codes "resave") then resave_asked sheet name
     else if_json name (sheet_list Json word sheet)))
 
--- a command of three, by the word behind its name
-abbrev pub three_words : List ℕ → List ℕ → List (List ℕ) → Option Command
-three_words word name [] = None
-three_words word name (further ∷ []) = placed_command word name further
-three_words word name (further ∷ next ∷ words) = None
+-- the dependents of a cell in all sheets, where the words behind the sheet ask for these
+abbrev pub all_asked : List ℕ → List ℕ → List ℕ → Option Command
+all_asked sheet name option =
+    if bytes_eq option (codes "--all") then option_map (all_dependents sheet) (position_asked name)
+    else None
+
+-- a command of four
+abbrev pub option_command : List ℕ → List ℕ → List ℕ → List ℕ → Option Command
+option_command word sheet name option =
+    if bytes_eq word (codes "dependents") then all_asked sheet name option else None
+
+-- a command of three or four, by the words behind its name
+abbrev pub further_command : List ℕ → List ℕ → List (List ℕ) → Option Command
+further_command word name [] = None
+further_command word name (further ∷ []) = placed_command word name further
+further_command word name (further ∷ option ∷ []) = option_command word name further option
+further_command word name (further ∷ option ∷ next ∷ words) = None
 
 -- a command with words behind its name: what is asked of rows, or a name in a sheet
 abbrev pub asked_command : List ℕ → List ℕ → List (List ℕ) → Option Command
@@ -168,7 +191,7 @@ asked_command word name words =
     else (if bytes_eq word (codes "rows") then option_map (json_rows name) (arrays_asked words)
     else (if bytes_eq word (codes "rows-table")
     then option_map (table_objects name) (objects_asked words)
-    else three_words word name words)))
+    else further_command word name words)))
 
 -- a command of a word and a name, with the words behind them
 abbrev pub command_on : List ℕ → List ℕ → List (List ℕ) → Option Command
@@ -191,7 +214,7 @@ own_parts (links form name) = None
 own_parts (comments form name) = None
 own_parts (props form) = None
 own_parts (csv name rows) = None
-own_parts (csv_table name options) = None
+own_parts (csv_table name asked) = None
 own_parts (json_rows name asked) = None
 own_parts (table_objects name options) = None
 own_parts (tables form) = None
@@ -200,6 +223,8 @@ own_parts (pivots form) = None
 own_parts (pivot sheet name) = None
 own_parts (precedents name) = None
 own_parts (dependents name position) = None
+own_parts (all_dependents name position) = None
+own_parts (workbook_graph list) = None
 own_parts (check name) = None
 own_parts (part name) = None
 own_parts upgrade = None

@@ -5,6 +5,7 @@ pub mod CacheRows
 pub mod ChosenSheets
 pub mod Command
 pub mod FormulaLists
+pub mod GraphLists
 pub mod Outputs
 pub mod PartNames
 pub mod PivotLists

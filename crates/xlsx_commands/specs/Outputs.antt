@@ -1,5 +1,5 @@
 -- What each command prints of a package, and why it can't: a row for each command.
-use Rattle.std.specs.Prelude.{◌≡◌, ℕ, List, [], ◌∷◌, ◌++◌, string_bytes}
+use Rattle.std.specs.Prelude.{◌≡◌, ℕ, false, List, [], ◌∷◌, ◌++◌, string_bytes}
 use Rattle.part_events.specs.Package.{Part}
 use Rattle.xlsx_error.specs.declared.error.XlsxError.{XlsxError}
 use Rattle.cell_data.specs.CellValue.{CellValue}
@@ -18,8 +18,12 @@ use Rattle.xlsx_commands.specs.Command.{Command, cells, sheets, names, merges, l
 use Rattle.xlsx_commands.specs.CacheRows.{ArePivotRows, NamedPivotCause}
 use Rattle.xlsx_commands.specs.Command.{csv_table, tables, table, pivots, pivot, precedents}
 use Rattle.xlsx_commands.specs.Command.{dependents, check, part, upgrade, resave, sample, comments}
-use Rattle.xlsx_commands.specs.Command.{resave_file, json_rows, table_objects}
+use Rattle.xlsx_commands.specs.Command.{resave_file, json_rows, table_objects, all_dependents}
+use Rattle.xlsx_commands.specs.Command.{workbook_graph}
 use Rattle.xlsx_commands.specs.FormulaLists.{ArePrecedentLines, AreDependentLines, AreCheckLines}
+use Rattle.xlsx_commands.specs.GraphLists.{AreGraphLines, ListedGraphCause, HasLargeBook}
+use Rattle.xlsx_commands.specs.GraphLists.{AreAllDependents, NamedDependentsCause}
+use Rattle.xlsx_commands.specs.GraphLists.{HasLargeDependents}
 use Rattle.xlsx_commands.specs.PartNames.{IsPartLine, NamedPartCause}
 use Rattle.xlsx_commands.specs.PivotLists.{ArePivotLines, ListedPivotsCause}
 use Rattle.xlsx_commands.specs.ResavedFile.{IsResavedFile, HasNoFile}
@@ -37,6 +41,7 @@ use Rattle.xlsx_commands.specs.declared.error.ToolError.{ToolError}
 use Rattle.xlsx_commands.specs.declared.error.ToolError.TheVariants.{Workbook, OutOfMemory}
 use Rattle.xlsx_commands.specs.declared.error.ToolError.TheVariants.{BoxTooLarge, Unwritable}
 use Rattle.xlsx_commands.specs.declared.error.ToolError.TheVariants.{NoHeader, TwoColumns}
+use Rattle.xlsx_commands.specs.declared.error.ToolError.TheVariants.{GraphTooLarge}
 
 -- these are the lines of the sheet of this name, as it is read from these parts
 pub record AreLinesOf (parts : List Part) (name lines : List ℕ) : Type 0 where
@@ -84,7 +89,7 @@ IsOutput (links form name) parts output = AreLinkLines form parts name output
 IsOutput (comments form name) parts output = AreCommentLines form parts name output
 IsOutput (props form) parts output = ArePropertyLines form parts output
 IsOutput (csv name asked) parts output = AreRowsOf parts name asked output
-IsOutput (csv_table name options) parts output = AreTableRows parts name options output
+IsOutput (csv_table name asked) parts output = AreTableRows parts name asked output
 IsOutput (json_rows name asked) parts output = AreJsonRows asked.header parts name asked output
 IsOutput (table_objects name options) parts output = AreTableObjects parts name options output
 IsOutput (tables form) parts output = AreTableLines form parts output
@@ -93,6 +98,8 @@ IsOutput (pivots form) parts output = ArePivotLines form parts output
 IsOutput (pivot sheet name) parts output = ArePivotRows parts sheet name output
 IsOutput (precedents name) parts output = ArePrecedentLines parts name output
 IsOutput (dependents name position) parts output = AreDependentLines parts name position output
+IsOutput (all_dependents name position) parts output = AreAllDependents parts name position output
+IsOutput (workbook_graph list) parts output = AreGraphLines list parts output
 IsOutput (check name) parts output = AreCheckLines parts name output
 IsOutput (part name) parts output = IsPartLine parts name output
 IsOutput upgrade parts output = IsUpgrade parts output
@@ -110,15 +117,20 @@ RefusedWorkbookCause (links form name) parts error = NamedLinksCause parts name 
 RefusedWorkbookCause (comments form name) parts error = NamedCommentsCause parts name error
 RefusedWorkbookCause (props form) parts error = ListedPropertiesCause parts error
 RefusedWorkbookCause (csv name asked) parts error = SheetCause parts name error
-RefusedWorkbookCause (csv_table name options) parts error = NamedTableCause parts name error
+RefusedWorkbookCause (csv_table name asked) parts error =
+    NamedTableCause asked.shown parts name error
 RefusedWorkbookCause (json_rows name asked) parts error = SheetCause parts name error
-RefusedWorkbookCause (table_objects name options) parts error = NamedTableCause parts name error
+RefusedWorkbookCause (table_objects name options) parts error =
+    NamedTableCause false parts name error
 RefusedWorkbookCause (tables form) parts error = ListedTablesCause parts error
-RefusedWorkbookCause (table name) parts error = NamedTableCause parts name error
+RefusedWorkbookCause (table name) parts error = NamedTableCause false parts name error
 RefusedWorkbookCause (pivots form) parts error = ListedPivotsCause parts error
 RefusedWorkbookCause (pivot sheet name) parts error = NamedPivotCause parts sheet name error
 RefusedWorkbookCause (precedents name) parts error = SheetCause parts name error
 RefusedWorkbookCause (dependents name position) parts error = SheetCause parts name error
+RefusedWorkbookCause (all_dependents name position) parts error =
+    NamedDependentsCause parts name error
+RefusedWorkbookCause (workbook_graph list) parts error = ListedGraphCause parts error
 RefusedWorkbookCause (check name) parts error = SheetCause parts name error
 RefusedWorkbookCause (part name) parts error = NamedPartCause parts name error
 RefusedWorkbookCause upgrade parts error = ⊥
@@ -129,10 +141,16 @@ RefusedWorkbookCause (sample rows) parts error = SheetCause parts sample_name er
 -- why it is refused because an area has too many cells
 unfoldable pub IsTooLarge : Command → List Part → Type 0
 IsTooLarge (csv name asked) parts = HasLargeArea parts name asked
-IsTooLarge (csv_table name options) parts = HasLargeTable parts name
+IsTooLarge (csv_table name asked) parts = HasLargeTable asked.shown parts name
 IsTooLarge (json_rows name asked) parts = HasLargeArea parts name asked
-IsTooLarge (table_objects name options) parts = HasLargeTable parts name
+IsTooLarge (table_objects name options) parts = HasLargeTable false parts name
 IsTooLarge _ parts = ⊥
+
+-- why it is refused because formulas name more than there is room for
+unfoldable pub HasLargeGraph : Command → List Part → Type 0
+HasLargeGraph (all_dependents name position) parts = HasLargeDependents parts name
+HasLargeGraph (workbook_graph list) parts = HasLargeBook parts
+HasLargeGraph _ parts = ⊥
 
 -- why it is refused because no workbook file can hold what is read
 unfoldable pub IsUnwritable : Command → List Part → Type 0
@@ -160,6 +178,7 @@ HasOutput command parts = (output : List ℕ) × IsOutput command parts output
 abbrev pub OutputCause : Command → List Part → ToolError → Type 0
 OutputCause command parts (Workbook error) = RefusedWorkbookCause command parts error
 OutputCause command parts BoxTooLarge = IsTooLarge command parts
+OutputCause command parts GraphTooLarge = HasLargeGraph command parts
 OutputCause command parts Unwritable = IsUnwritable command parts
 OutputCause command parts NoHeader = HasNoKeys command parts
 OutputCause command parts (TwoColumns key) = HasTwoColumns command parts (string_bytes key)
@@ -190,6 +209,12 @@ ObjectsFail cause large none twice BoxTooLarge = large
 ObjectsFail cause large none twice NoHeader = none
 ObjectsFail cause large none twice (TwoColumns key) = twice (string_bytes key)
 ObjectsFail cause large none twice error = CallFails cause error
+
+-- when a call is refused that has these causes, or whose formulas by this name more than there is
+-- room for
+abbrev pub GraphFails : (XlsxError → Type 0) → Type 0 → ToolError → Type 0
+GraphFails cause large GraphTooLarge = large
+GraphFails cause large error = CallFails cause error
 
 -- when a call is refused that has these causes, or for which this says that no file can be written
 abbrev pub FileFails : (XlsxError → Type 0) → Type 0 → ToolError → Type 0

@@ -6,7 +6,7 @@ use Rattle.part_events.specs.Package.{Part}
 use Rattle.xlsx_commands.specs.ChosenSheets.{choice_of, Chooses, ChoiceCause}
 use Rattle.xlsx_commands.specs.Command.{Command, cells, merges, links, comments, csv, json_rows}
 use Rattle.xlsx_commands.specs.Command.{pivot, precedents, dependents, check, part, resave}
-use Rattle.xlsx_commands.specs.Command.{resave_file}
+use Rattle.xlsx_commands.specs.Command.{resave_file, all_dependents}
 use Rattle.xlsx_commands.specs.Command.{command_meant, command_of, command_on}
 use Rattle.xlsx_commands.specs.Command.{own_parts}
 use Rattle.xlsx_commands.specs.Outputs.{IsOutput, OutputCause}
@@ -37,6 +37,7 @@ is_of_sheet (json_rows name asked) = true
 is_of_sheet (pivot sheet name) = true
 is_of_sheet (precedents name) = true
 is_of_sheet (dependents name position) = true
+is_of_sheet (all_dependents name position) = true
 is_of_sheet (check name) = true
 is_of_sheet (part name) = true
 is_of_sheet (resave name) = true
@@ -54,6 +55,7 @@ on_sheet name (json_rows other asked) = json_rows name asked
 on_sheet name (pivot other own) = pivot name own
 on_sheet name (precedents other) = precedents name
 on_sheet name (dependents other position) = dependents name position
+on_sheet name (all_dependents other position) = all_dependents name position
 on_sheet name (check other) = check name
 on_sheet name (part other) = part name
 on_sheet name (resave other) = resave name

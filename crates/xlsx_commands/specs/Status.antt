@@ -12,10 +12,12 @@ use Rattle.xlsx_commands.specs.declared.error.ToolError.TheVariants.{NotAWorkboo
 use Rattle.xlsx_commands.specs.declared.error.ToolError.TheVariants.{WriteFault, OutOfMemory}
 use Rattle.xlsx_commands.specs.declared.error.ToolError.TheVariants.{BoxTooLarge, Unwritable}
 use Rattle.xlsx_commands.specs.declared.error.ToolError.TheVariants.{NotChosen, NoHeader}
-use Rattle.xlsx_commands.specs.declared.error.ToolError.TheVariants.{TwoColumns}
+use Rattle.xlsx_commands.specs.declared.error.ToolError.TheVariants.{TwoColumns, GraphTooLarge}
 use Rattle.xlsx_commands.specs.declared.sheet_choice.SheetFault.{SheetFault}
 use Rattle.xlsx_commands.specs.declared.sheet_choice.SheetFault.TheVariants.{NoSheet, NamedBefore}
 use Rattle.xlsx_commands.specs.declared.sheet_choice.SheetFault.TheVariants.{NoWorksheet}
+use Rattle.graph_reading.specs.declared.error.GraphError.{GraphError}
+use Rattle.graph_reading.specs.declared.error.GraphError.TheVariants as graph
 use Rattle.json_rows.specs.declared.error.ObjectsError.{ObjectsError}
 use Rattle.json_rows.specs.declared.error.ObjectsError.TheVariants as objects
 use Rattle.xlsx_rows.specs.declared.error.CsvError.{CsvError}
@@ -45,6 +47,7 @@ status_of Unwritable = 15
 status_of (NotChosen fault) = 6
 status_of NoHeader = 16
 status_of (TwoColumns key) = 16
+status_of GraphTooLarge = 17
 
 -- why the input is no workbook file. The byte is counted from 0
 abbrev pub fault_text : ArchiveFault → List ℕ
@@ -77,6 +80,7 @@ error_text Unwritable = codes "no workbook file can hold it"
 error_text (NotChosen fault) = choice_text fault
 error_text NoHeader = codes "no header row"
 error_text (TwoColumns key) = codes "two columns '" ++ (string_bytes key ++ codes "'")
+error_text GraphTooLarge = codes "graph too large"
 
 -- what the refusal of a workbook becomes
 abbrev pub of_workbook : XlsxError → ToolError
@@ -95,6 +99,12 @@ of_objects objects.NoHeader = NoHeader
 of_objects (objects.TwoColumns key) = TwoColumns key
 of_objects objects.OutOfMemory = OutOfMemory
 
+-- what the refusal of a workbook's graph becomes
+abbrev pub of_graph : GraphError → ToolError
+of_graph (graph.Workbook error) = of_workbook error
+of_graph graph.TooLarge = GraphTooLarge
+of_graph graph.OutOfMemory = OutOfMemory
+
 -- an error of the program as it is seen: which one, and the refusal of a workbook by its texts
 pub data SeenError : Type 0 where
   usage : SeenError
@@ -111,6 +121,7 @@ pub data SeenError : Type 0 where
   not_chosen : SheetFault → SeenError
   no_header : SeenError
   two_columns : List ℕ → SeenError
+  graph_too_large : SeenError
 
 -- what is seen of an error
 abbrev pub error_seen : ToolError → SeenError
@@ -128,3 +139,4 @@ error_seen Unwritable = unwritable
 error_seen (NotChosen fault) = not_chosen fault
 error_seen NoHeader = no_header
 error_seen (TwoColumns key) = two_columns (string_bytes key)
+error_seen GraphTooLarge = graph_too_large

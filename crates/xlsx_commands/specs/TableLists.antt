@@ -1,21 +1,26 @@
 -- What `tables` and `table` print of a workbook, and why they can't.
-use Rattle.std.specs.Prelude.{◌≡◌, ◌⊎◌, ℕ, List, None, Some, IsSome, string_bytes}
+use Rattle.std.specs.Prelude.{◌≡◌, ◌⊎◌, ℕ, Bool, true, false, List, Option, None, Some, IsSome}
+use Rattle.std.specs.Prelude.{string_bytes}
 use Rattle.std.specs.List.{flat_map}
 use Rattle.cell_data.specs.Table.{table_data}
+use Rattle.cell_data.specs.declared.range.Range.{Range}
 use Rattle.cell_data.specs.declared.table.Table.{Table}
 use Rattle.cell_data.specs.declared.value.Data.{Data}
 use Rattle.cell_data.specs.declared.value.HeaderRow.TheVariants.{FirstNonEmptyRow}
+use Rattle.cell_refs.specs.declared.dimensions.Dimensions.{Dimensions}
 use Rattle.list_lines.specs.Lines.{table_line}
 use Rattle.list_lines.specs.declared.content.LineForm.{LineForm}
 use Rattle.part_events.specs.Package.{Part}
 use Rattle.sheet_listing.specs.SheetListing.{value_lines}
-use Rattle.xlsx_cells.specs.CellsReader.{values_alone}
+use Rattle.xlsx_cells.specs.CellsReader.{values_alone, values_and_styles}
+use Rattle.xlsx_cells.specs.declared.children.Wants.{Wants}
 use Rattle.xlsx_error.specs.declared.error.XlsxError.{XlsxError}
 use Rattle.xlsx_error.specs.declared.error.XlsxError.TheVariants.{TableNotFound}
 use Rattle.xlsx_tables.specs.Tables.{SheetTable, tables_of, TablesCause}
 use Rattle.xlsx_open.specs.Opening.{Opening, OpensAs}
 use Rattle.cell_data.specs.Pairs.{value_pairs}
 use Rattle.xlsx_core.specs.SheetReading.{opened_grounds, path_named}
+use Rattle.xlsx_core.specs.ShownTable.{ShowsValuesIn}
 use Rattle.xlsx_core.specs.TableData.{first_named, IsOfTable, ReadsValuesIn}
 use Rattle.xlsx_core.specs.Worksheets.{RangeCause}
 use Rattle.xlsx_commands.specs.SheetsOpened.{sheets_opened, ListedCause}
@@ -61,32 +66,51 @@ pub record NamesNoTable (parts : List Part) (name : List ℕ) : Type 0 where
   pub has : HasTables parts tables
   pub none : first_named name tables ≡ None
 
--- what stands in the area of the first table of a name can't be read
-pub record HasTableCause (parts : List Part) (name : List ℕ) (error : XlsxError) : Type 0 where
+-- what is wanted of the cells of a table's sheet: their values, and the style ids by which these are
+-- shown
+abbrev pub table_wants : Bool → Wants
+table_wants false = values_alone
+table_wants true = values_and_styles
+
+-- what stands in the area of the first table of a name can't be read, or can't be shown
+pub record HasTableCause
+    (shown : Bool) (parts : List Part) (name : List ℕ) (error : XlsxError) : Type 0 where
   pub own : SheetTable
   pub has : HasNamedTable parts name own
   pub area : IsSome own.table.area
   pub cause :
-      RangeCause own.sheet values_alone (opened_grounds has.has.opening)
+      RangeCause own.sheet (table_wants shown) (opened_grounds has.has.opening)
       (path_named own.sheet has.has.opening.sheets) parts error
 
 -- why its data aren't had
-abbrev pub NamedTableCause : List Part → List ℕ → XlsxError → Type 0
-NamedTableCause parts name (TableNotFound asked) =
+abbrev pub NamedTableCause : Bool → List Part → List ℕ → XlsxError → Type 0
+NamedTableCause shown parts name (TableNotFound asked) =
     (string_bytes asked ≡ name) × NamesNoTable parts name
-NamedTableCause parts name error = ListedTablesCause parts error ⊎ HasTableCause parts name error
+NamedTableCause shown parts name error =
+    ListedTablesCause parts error ⊎ HasTableCause shown parts name error
+
+-- the values that the sheet whose part is at a path has in an area: as they are, or each as it is
+-- shown
+abbrev pub HasDataIn :
+    Bool → Opening → Option Dimensions → Option (List ℕ) → List Part → Range Data → Type 0
+HasDataIn false opening area path parts range =
+    ReadsValuesIn (opened_grounds opening) FirstNonEmptyRow area path parts range
+HasDataIn true opening area path parts range =
+    ShowsValuesIn (opened_grounds opening) opening.shared opening.is_1904 FirstNonEmptyRow area
+    path parts range
 
 -- the first table of a name with its data: the values that its sheet has in its area
-pub record HasTable (parts : List Part) (name : List ℕ) (table : Table Data) : Type 0 where
+pub record HasTable
+    (shown : Bool) (parts : List Part) (name : List ℕ) (table : Table Data) : Type 0 where
   pub own : SheetTable
   pub has : HasNamedTable parts name own
   pub is : IsOfTable own table
   pub reads :
-      ReadsValuesIn (opened_grounds has.has.opening) FirstNonEmptyRow own.table.area
+      HasDataIn shown has.has.opening own.table.area
       (path_named own.sheet has.has.opening.sheets) parts (table_data table)
 
 -- these are the lines of the values of that table
 pub record AreTableValueLines (parts : List Part) (name lines : List ℕ) : Type 0 where
   pub table : Table Data
-  pub has : HasTable parts name table
+  pub has : HasTable false parts name table
   pub listed : lines ≡ value_lines (value_pairs (table_data table))

@@ -1,7 +1,6 @@
 -- What `rows-table` prints of a table, and why it can't: an object of JSON for each row of its
--- data,
--- under the names of its columns.
-use Rattle.std.specs.Prelude.{◌≡◌, ◌≤◌, ℕ, List, Some, None}
+-- data, under the names of its columns.
+use Rattle.std.specs.Prelude.{◌≡◌, ◌≤◌, ℕ, List, Some, None, false}
 use Rattle.cell_data.specs.Pairs.{value_pairs}
 use Rattle.cell_data.specs.Table.{table_data}
 use Rattle.cell_data.specs.declared.table.Table.{Table}
@@ -24,7 +23,7 @@ table_keys own = header_over own.table.area own.table.columns
 pub record AreTableObjects
     (parts : List Part) (name : List ℕ) (options : CsvOptions) (rows : List ℕ) : Type 0 where
   pub table : Table Data
-  pub has : HasTable parts name table
+  pub has : HasTable false parts name table
   pub fits : area_count has.own.table.area ≤ 16777216
   pub apart : first_double (table_keys has.own) ≡ None
   pub listed :
@@ -35,6 +34,6 @@ pub record AreTableObjects
 -- its data are had, and two of its columns have this name
 pub record HasDoubleName (parts : List Part) (name key : List ℕ) : Type 0 where
   pub table : Table Data
-  pub has : HasTable parts name table
+  pub has : HasTable false parts name table
   pub fits : area_count has.own.table.area ≤ 16777216
   pub twice : first_double (table_keys has.own) ≡ Some key

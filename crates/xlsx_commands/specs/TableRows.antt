@@ -1,6 +1,6 @@
 -- What `csv-table` prints of a table, and when its area has too many cells for it.
 use Rattle.std.specs.Prelude.{◌≡◌, ◌≤◌, ◌<◌, ◌++◌, ℕ, List, [], map, length}
-use Rattle.std.specs.Prelude.{Option, Some, None, slice_get}
+use Rattle.std.specs.Prelude.{Bool, Option, Some, None, slice_get}
 use Rattle.std.specs.List.{range_with_len}
 use Rattle.std.specs.Option.{unwrap_or}
 use Rattle.cell_data.specs.CellValue.{CellValue}
@@ -15,6 +15,7 @@ use Rattle.xlsx_rows.specs.RowsText.{bom_text, header_text}
 use Rattle.xlsx_rows.specs.declared.options.CsvOptions.{CsvOptions}
 use Rattle.xlsx_commands.specs.SheetRows.{rows_placed, area_count}
 use Rattle.xlsx_commands.specs.TableLists.{HasTable}
+use Rattle.xlsx_commands.specs.declared.asked_rows.AskedTable.{AskedTable}
 
 -- as many fields as an area is wide, or as there are names where it has no cell
 abbrev pub header_width : Option Dimensions → List (List ℕ) → ℕ
@@ -37,19 +38,20 @@ table_records options area names values =
     (bom_text options.bom ++ header_text options (Some (header_over area names)))
     ++ rows_placed options values area
 
--- these are the records of the first table of this name, in the area of its data
+-- these are the records of the first table of this name, in the area of its data, of its values as
+-- they are or each as it is shown
 pub record AreTableRows
-    (parts : List Part) (name : List ℕ) (options : CsvOptions) (rows : List ℕ) : Type 0 where
+    (parts : List Part) (name : List ℕ) (asked : AskedTable) (rows : List ℕ) : Type 0 where
   pub table : Table Data
-  pub has : HasTable parts name table
+  pub has : HasTable asked.shown parts name table
   pub fits : area_count has.own.table.area ≤ 16777216
   pub listed :
       rows
-      ≡ table_records options has.own.table.area has.own.table.columns
+      ≡ table_records asked.options has.own.table.area has.own.table.columns
       (value_pairs (table_data table))
 
 -- its data are had, and their area has more cells than are written
-pub record HasLargeTable (parts : List Part) (name : List ℕ) : Type 0 where
+pub record HasLargeTable (shown : Bool) (parts : List Part) (name : List ℕ) : Type 0 where
   pub table : Table Data
-  pub has : HasTable parts name table
+  pub has : HasTable shown parts name table
   pub large : 16777216 < area_count has.own.table.area

@@ -6,7 +6,7 @@ ghost use Rattle.xlsx_commands.specs.AskedRows.{digits_asked, unless, delimiter_
 ghost use Rattle.xlsx_commands.specs.AskedRows.{digits_given, setting_asked, option_asked};
 ghost use Rattle.xlsx_commands.specs.AskedRows.{written_asked};
 ghost use Rattle.xlsx_commands.specs.AskedRows.{options_asked, plain_rows, table_rows_asked};
-ghost use Rattle.xlsx_commands.specs.AskedRows.{csv_asked, of_table};
+ghost use Rattle.xlsx_commands.specs.AskedRows.{csv_asked, of_table, of_csv_table};
 
 use xlsx_rows::{CsvOptions, Delimiter, Digits};
 
@@ -29,6 +29,22 @@ impl AskedRows {
         from_a1: false,
         shown: false,
         header: false,
+    };
+}
+
+/// How the rows of a table are written.
+#[derive(Clone, Copy)]
+pub struct AskedTable {
+    pub options: CsvOptions,
+    /// Each value as a spreadsheet program shows it.
+    pub shown: bool,
+}
+
+impl AskedTable {
+    /// Nothing is asked.
+    pub const PLAIN: AskedTable = AskedTable {
+        options: CsvOptions::PLAIN,
+        shown: false,
     };
 }
 
@@ -209,8 +225,8 @@ pub fn csv_asked(words: &[String]) -> Option<AskedRows>
     if asked.header { None } else { Some(asked) }
 }
 
-/// What is asked of the rows of a table, whose area has its own corner, whose keys are its columns,
-/// and whose values are not shown.
+/// What is asked of the rows of a table as objects of JSON, whose area has its own corner, whose
+/// keys are its columns, and whose values are not shown.
 pub fn of_table(asked: AskedRows) -> Option<CsvOptions>
     ensures { result ≡ of_table asked }
 {
@@ -220,9 +236,23 @@ pub fn of_table(asked: AskedRows) -> Option<CsvOptions>
     Some(asked.options)
 }
 
+/// What is asked of the rows of a table as CSV, whose area has its own corner, and whose header are
+/// its columns.
+fn of_csv_table(asked: AskedRows) -> Option<AskedTable>
+    ensures { result ≡ of_csv_table asked }
+{
+    if asked.from_a1 || asked.header {
+        return None;
+    }
+    Some(AskedTable {
+        options: asked.options,
+        shown: asked.shown,
+    })
+}
+
 /// What words ask of the rows of a table as CSV.
-pub fn table_rows_asked(words: &[String]) -> Option<CsvOptions>
+pub fn table_rows_asked(words: &[String]) -> Option<AskedTable>
     ensures { result ≡ table_rows_asked (map string_bytes words.now) }
 {
-    of_table(rows_asked_by(words)?)
+    of_csv_table(rows_asked_by(words)?)
 }

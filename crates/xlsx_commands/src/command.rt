@@ -3,14 +3,17 @@ ghost use Rattle.xlsx_commands.specs.Command.{texts, command_meant, bare_command
 ghost use Rattle.xlsx_commands.specs.Command.{rows_asked, sample, placed_command, command_of};
 ghost use Rattle.xlsx_commands.specs.AskedRows.{csv_asked, table_rows_asked};
 ghost use Rattle.xlsx_commands.specs.Command.{position_asked, dependents, csv, csv_table};
-ghost use Rattle.xlsx_commands.specs.Command.{three_words, asked_command, resave_asked};
+ghost use Rattle.xlsx_commands.specs.Command.{further_command, asked_command, resave_asked};
+ghost use Rattle.xlsx_commands.specs.Command.{all_dependents, all_asked, option_command};
 ghost use Rattle.xlsx_commands.specs.Command.{book_list, sheet_list, if_json, listed_command};
 ghost use Rattle.xlsx_commands.specs.AskedArrays.{of_json, arrays_asked, objects_asked};
 ghost use Rattle.xlsx_commands.specs.Command.{json_rows, table_objects};
 ghost use Rattle.list_lines.specs.declared.content.LineForm.TheVariants as json;
 ghost use Rattle.xlsx_commands.specs.Command.{command_on};
 
-use crate::asked_rows::{AskedRows, csv_asked, of_table, rows_asked_by, table_rows_asked};
+use crate::asked_rows::{
+    AskedRows, AskedTable, csv_asked, of_table, rows_asked_by, table_rows_asked,
+};
 use cell_refs::get_row_column;
 use list_lines::LineForm;
 use xlsx_rows::CsvOptions;
@@ -18,6 +21,17 @@ use xlsx_sections::number_text;
 
 /// The most rows of a sample.
 const MOST_ROWS: u64 = 20_000;
+
+/// A list of all formulas of a workbook.
+#[derive(Clone, Copy)]
+pub enum GraphList {
+    /// What each names.
+    Graph,
+    /// The order in which they can be computed.
+    Order,
+    /// Their cycles.
+    Cycles,
+}
 
 /// What the words ask for. A list has the form of its lines.
 #[derive(Clone, Copy)]
@@ -39,7 +53,7 @@ pub enum Command<'a> {
     /// The rows of the values of the worksheet of this name, as CSV, and what is asked of them.
     Csv(&'a str, AskedRows),
     /// The columns and the rows of the table of this name, as CSV, and how they are written.
-    CsvTable(&'a str, CsvOptions),
+    CsvTable(&'a str, AskedTable),
     /// The rows of the values of the worksheet of this name, as arrays or as objects of JSON, and
     /// what is asked of them.
     Rows(&'a str, AskedRows),
@@ -58,6 +72,11 @@ pub enum Command<'a> {
     /// The cells of the worksheet of this name whose formulas name the cell at a position, a row
     /// and a column counted from 0.
     Dependents(&'a str, (u32, u32)),
+    /// The formulas of the workbook that need the cell at a position of the sheet of this name,
+    /// themselves or through others; a row and a column counted from 0.
+    AllDependents(&'a str, (u32, u32)),
+    /// A list of the formulas of all worksheets.
+    WorkbookGraph(GraphList),
     /// The formulas of the worksheet of this name, with what each comes to beside its cell's value.
     Check(&'a str),
     /// The part that the worksheet of this name is read from.
@@ -116,6 +135,9 @@ fn bare_command(word: &str) -> Option<Command<'_>>
 {
     match word {
         "upgrade" => Some(Command::Upgrade),
+        "graph" => Some(Command::WorkbookGraph(GraphList::Graph)),
+        "order" => Some(Command::WorkbookGraph(GraphList::Order)),
+        "cycles" => Some(Command::WorkbookGraph(GraphList::Cycles)),
         _ => book_list(LineForm::Text, word),
     }
 }
@@ -185,7 +207,7 @@ fn named_command<'a>(word: &str, name: &'a str) -> Option<Command<'a>>
 {
     match word {
         "csv" => Some(Command::Csv(name, AskedRows::PLAIN)),
-        "csv-table" => Some(Command::CsvTable(name, CsvOptions::PLAIN)),
+        "csv-table" => Some(Command::CsvTable(name, AskedTable::PLAIN)),
         "table" => Some(Command::Table(name)),
         "precedents" => Some(Command::Precedents(name)),
         "check" => Some(Command::Check(name)),
@@ -231,8 +253,8 @@ fn csv_table_command<'a>(name: &'a str, words: &[String]) -> Option<Command<'a>>
     ensures { option_map (λ command. command_meant command) result
         ≡ option_map (csv_table name.now) (table_rows_asked (texts words.now)) }
 {
-    let options = table_rows_asked(words)?;
-    Some(Command::CsvTable(name, options))
+    let asked = table_rows_asked(words)?;
+    Some(Command::CsvTable(name, asked))
 }
 
 /// What is asked, where it says nothing of the bytes of CSV.
@@ -284,12 +306,37 @@ fn rows_table_command<'a>(name: &'a str, words: &[String]) -> Option<Command<'a>
     Some(Command::RowsTable(name, options))
 }
 
-fn three_words<'a>(word: &str, name: &'a str, words: &'a [String]) -> Option<Command<'a>>
+/// The formulas of the workbook that need a cell, where the words behind its sheet ask for these.
+fn all_command<'a>(sheet: &'a str, name: &str, option: &str) -> Option<Command<'a>>
     ensures { option_map (λ command. command_meant command) result
-        ≡ three_words word.now name.now (texts words.now) }
+        ≡ all_asked sheet.now name.now option.now }
+{
+    match option {
+        "--all" => {
+            let position = position_asked(name)?;
+            Some(Command::AllDependents(sheet, position))
+        }
+        _ => None,
+    }
+}
+
+fn option_command<'a>(word: &str, sheet: &'a str, name: &str, option: &str) -> Option<Command<'a>>
+    ensures { option_map (λ command. command_meant command) result
+        ≡ option_command word.now sheet.now name.now option.now }
+{
+    match word {
+        "dependents" => all_command(sheet, name, option),
+        _ => None,
+    }
+}
+
+fn further_command<'a>(word: &str, name: &'a str, words: &'a [String]) -> Option<Command<'a>>
+    ensures { option_map (λ command. command_meant command) result
+        ≡ further_command word.now name.now (texts words.now) }
 {
     match words {
         [further] => placed_command(word, name, further.as_str()),
+        [further, option] => option_command(word, name, further.as_str(), option.as_str()),
         _ => None,
     }
 }
@@ -304,7 +351,7 @@ fn asked_command<'a>(word: &str, name: &'a str, words: &'a [String]) -> Option<C
         "csv-table" => csv_table_command(name, words),
         "rows" => rows_command(name, words),
         "rows-table" => rows_table_command(name, words),
-        _ => three_words(word, name, words),
+        _ => further_command(word, name, words),
     }
 }
 

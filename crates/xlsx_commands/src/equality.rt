@@ -3,7 +3,7 @@ ghost use Rattle.equalities.specs.Equality.{IsEquality, IsEqualityBy, CopiesItse
 ghost use Rattle.xlsx_commands.specs.Status.{error_seen};
 
 use crate::asked_rows::AskedRows;
-use crate::command::Command;
+use crate::command::{Command, GraphList};
 use crate::error::ToolError;
 use crate::request::Request;
 use crate::sheet_choice::{SheetChoice, SheetFault};
@@ -15,7 +15,7 @@ pub fn equality_is_by_all_fields()
 {}
 
 /// A copy of a command is that command, and so is one of what is asked for, of a choice of a sheet,
-/// and of what is asked of rows.
+/// of a list of formulas, and of what is asked of rows.
 pub fn copies_are_the_same<'a>()
     ensures request { CopiesItself ⟦<Request<'a> as Clone>⟧.is_clone
         ⟦<Request<'a> as Clone>⟧.is_infallible }
@@ -25,6 +25,8 @@ pub fn copies_are_the_same<'a>()
         ⟦<SheetFault as Clone>⟧.is_infallible }
     ensures command { CopiesItself ⟦<Command<'a> as Clone>⟧.is_clone
         ⟦<Command<'a> as Clone>⟧.is_infallible }
+    ensures list { CopiesItself ⟦<GraphList as Clone>⟧.is_clone
+        ⟦<GraphList as Clone>⟧.is_infallible }
     ensures rows { CopiesItself ⟦<AskedRows as Clone>⟧.is_clone
         ⟦<AskedRows as Clone>⟧.is_infallible }
 {}

@@ -2,6 +2,7 @@ ghost use Rattle.std.specs.Prelude.{◌≡◌};
 ghost use Rattle.xlsx_commands.specs.Status.{file_status, status_of};
 
 use crate::sheet_choice::SheetFault;
+use graph_reading::GraphError;
 use input_package::InputPackage;
 use json_rows::ObjectsError;
 use std::alloc::{AllocError, AllocFailed};
@@ -42,6 +43,8 @@ pub enum ToolError {
     NoHeader,
     /// Two columns have this key.
     TwoColumns(String),
+    /// The formulas of the workbook name more, or cover more cells, than there is room for.
+    GraphTooLarge,
 }
 
 /// The status that the program ends with where its input is no workbook file.
@@ -71,6 +74,7 @@ impl ToolError {
             ToolError::BoxTooLarge => 10,
             ToolError::Unwritable => 15,
             ToolError::NoHeader | ToolError::TwoColumns(_) => 16,
+            ToolError::GraphTooLarge => 17,
         }
     }
 }
@@ -108,6 +112,7 @@ impl fmt::Display for ToolError {
             ToolError::NotChosen(fault) => write!(f, "{fault}"),
             ToolError::NoHeader => f.write_str("no header row"),
             ToolError::TwoColumns(key) => write!(f, "two columns '{key}'"),
+            ToolError::GraphTooLarge => f.write_str("graph too large"),
         }
     }
 }
@@ -181,6 +186,20 @@ impl From<ObjectsError> for ToolError {
             ObjectsError::NoHeader => ToolError::NoHeader,
             ObjectsError::TwoColumns(key) => ToolError::TwoColumns(key),
             ObjectsError::OutOfMemory => ToolError::OutOfMemory,
+        }
+    }
+}
+
+impl From<GraphError> for ToolError {
+    ghost use Rattle.xlsx_commands.specs.Status.{of_graph};
+
+    ghost from_gives = { λ refusal e. e ≡ of_graph refusal };
+
+    fn from(refusal: GraphError) -> ToolError {
+        match refusal {
+            GraphError::Workbook(error) => ToolError::from(error),
+            GraphError::TooLarge => ToolError::GraphTooLarge,
+            GraphError::OutOfMemory => ToolError::OutOfMemory,
         }
     }
 }

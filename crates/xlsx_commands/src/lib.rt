@@ -4,19 +4,19 @@
 //! Rooms: `command` (the words that ask for a command), `asked_rows` (the words that ask more of
 //! rows), `cell_lines`, `book_lists`, `merge_lines`, `link_lines`, `comment_lines`,
 //! `property_lines`, `table_lines`, `pivot_lines`, `pivot_rows`, `sheet_rows`, `table_rows`,
-//! `row_arrays`, `row_objects`, `table_objects`, `formula_lines`, `part_line`, `upgraded_text`,
-//! `resaved_text`, `resaved_file` and `sample_lines` (what each command prints), `named_sheet`
-//! (what is asked of the first sheet of a name), `output` (each command's own package, where it has
-//! one, and its output), `request` and `sheet_choice` (what words ask for that choose a sheet and
-//! tell no name), `chosen_sheet` (the sheet that is chosen, and the answer), `laws`, `chosen_laws`,
-//! and `error` (`ToolError`).
+//! `row_arrays`, `row_objects`, `table_objects`, `formula_lines`, `graph_lines`, `part_line`,
+//! `upgraded_text`, `resaved_text`, `resaved_file` and `sample_lines` (what each command prints),
+//! `named_sheet` (what is asked of the first sheet of a name), `output` (each command's own
+//! package, where it has one, and its output), `request` and `sheet_choice` (what words ask for
+//! that choose a sheet and tell no name), `chosen_sheet` (the sheet that is chosen, and the
+//! answer), `laws`, `chosen_laws`, and `error` (`ToolError`).
 //!
 //! **A command is a row of a few tables**: of the words that ask for it (`command_of`), of the
 //! package that it works on where it reads no input (`own_parts`), of its output (`IsOutput`), of
 //! why its workbook refuses it (`RefusedWorkbookCause`), of why an area does that has too many
-//! cells (`IsTooLarge`), of why keys are missing or one is given twice (`HasNoKeys`,
-//! `HasTwoColumns`), of the law that an output and a cause exclude each other
-//! (`causes_leave_no_output`), and of the law that two outputs are one
+//! cells (`IsTooLarge`), or a graph that is too large (`HasLargeGraph`), of why keys are missing or
+//! one is given twice (`HasNoKeys`, `HasTwoColumns`), of the law that an output and a cause exclude
+//! each other (`causes_leave_no_output`), and of the law that two outputs are one
 //! (`commands_have_one_output`). The tables are closed to what stands above, so that a further
 //! command changes none of its clauses, definitions and proofs.
 //!
@@ -27,8 +27,8 @@
 //! and `LinksInside` say that areas lie in a worksheet, where their lines may be asked for, and
 //! `PropertiesListed` that an ordered map is a list by name. What is asked of all sheets has one
 //! relation of causes, too (`ListedCause`), and `SheetsOpened` its lemmas; `TablesListed`,
-//! `TablesNamed` and `PivotsListed` say what an open workbook has of tables and pivot tables, by
-//! the parts alone.
+//! `TablesNamed`, `PivotsListed` and `GraphsListed` say what an open workbook has of tables, pivot
+//! tables and formulas, by the parts alone.
 //!
 //! **Rows are said by values and an area** (`rows_placed`), and not by a range, so that a sheet
 //! that is read has one text of rows, or too many cells for it, whatever range its values were put
@@ -51,6 +51,7 @@ mod comment_lines;
 mod equality;
 mod error;
 mod formula_lines;
+mod graph_lines;
 mod laws;
 mod link_lines;
 mod merge_lines;
@@ -76,7 +77,7 @@ mod upgraded_text;
 pub use asked_rows::AskedRows;
 pub use chosen_laws::{causes_leave_no_answer, chosen_sheets_answer_by_their_names};
 pub use chosen_sheet::{answer_of, package_of_request};
-pub use command::{Command, command_of};
+pub use command::{Command, GraphList, command_of};
 pub use equality::{copies_are_the_same, equality_is_by_all_fields};
 pub use error::ToolError;
 pub use laws::{

@@ -8,6 +8,7 @@ use crate::command::Command;
 use crate::comment_lines::comment_lines;
 use crate::error::ToolError;
 use crate::formula_lines::{check_lines, dependent_lines, precedent_lines};
+use crate::graph_lines::{all_dependents, graph_lines};
 use crate::link_lines::link_lines;
 use crate::merge_lines::merge_lines;
 use crate::part_line::part_line;
@@ -51,6 +52,8 @@ pub fn own_package(alloc: Global, command: Command<'_>) -> Result<Option<InputPa
         Command::Pivot(_, _) => None,
         Command::Precedents(_) => None,
         Command::Dependents(_, _) => None,
+        Command::AllDependents(_, _) => None,
+        Command::WorkbookGraph(_) => None,
         Command::Check(_) => None,
         Command::Part(_) => None,
         Command::Upgrade => None,
@@ -62,7 +65,7 @@ pub fn own_package(alloc: Global, command: Command<'_>) -> Result<Option<InputPa
 }
 
 /// The output of a command on a package, whole.
-#[tactic(auto, unfolding(crate::specs::Outputs::IsOutput, crate::specs::Outputs::RefusedWorkbookCause, crate::specs::Outputs::IsTooLarge, crate::specs::Outputs::IsUnwritable, crate::specs::Outputs::HasNoKeys, crate::specs::Outputs::HasTwoColumns))]
+#[tactic(auto, unfolding(crate::specs::Outputs::IsOutput, crate::specs::Outputs::RefusedWorkbookCause, crate::specs::Outputs::IsTooLarge, crate::specs::Outputs::HasLargeGraph, crate::specs::Outputs::IsUnwritable, crate::specs::Outputs::HasNoKeys, crate::specs::Outputs::HasTwoColumns))]
 pub fn output_of(
     alloc: Global,
     command: Command<'_>,
@@ -81,7 +84,7 @@ pub fn output_of(
         Command::Comments(form, name) => comment_lines(alloc, package, form, name),
         Command::Props(form) => property_lines(alloc, package, form),
         Command::Csv(name, asked) => sheet_rows(alloc, package, name, asked),
-        Command::CsvTable(name, options) => table_rows(alloc, package, name, options),
+        Command::CsvTable(name, asked) => table_rows(alloc, package, name, asked),
         Command::Rows(name, asked) => json_rows(alloc, package, name, asked),
         Command::RowsTable(name, options) => table_objects(alloc, package, name, options),
         Command::Tables(form) => table_lines(alloc, package, form),
@@ -90,6 +93,8 @@ pub fn output_of(
         Command::Pivot(sheet, name) => pivot_rows(alloc, package, sheet, name),
         Command::Precedents(name) => precedent_lines(alloc, package, name),
         Command::Dependents(name, position) => dependent_lines(alloc, package, name, position),
+        Command::AllDependents(name, position) => all_dependents(alloc, package, name, position),
+        Command::WorkbookGraph(list) => graph_lines(alloc, package, list),
         Command::Check(name) => check_lines(alloc, package, name),
         Command::Part(name) => part_line(alloc, package, name),
         Command::Upgrade => upgraded_text(alloc, package),

@@ -1,5 +1,5 @@
 ghost use Rattle.std.specs.Prelude.{◌≡◌, ◌<◌, ◌++◌, length, slice_get, string_bytes, Some};
-ghost use Rattle.std.specs.Prelude.{IsSome, OnOk, IfOk, IfErr};
+ghost use Rattle.std.specs.Prelude.{IsSome, OnOk, IfOk, IfErr, true, false};
 ghost use Rattle.xlsx_tables.specs.Tables.{SheetTable, TablesCause};
 ghost use Rattle.xlsx_core.specs.TableList.{loaded_tables};
 ghost use Rattle.xlsx_commands.specs.Outputs.{CallFails};
@@ -84,13 +84,45 @@ pub fn table_lines(
 
 /// The first table of this name, with its data.
 pub fn table_of(alloc: Global, package: InputPackage, name: &str) -> Result<Table<Data>, ToolError>
-    ensures ok { IfOk result (HasTable «package».parts name.now) }
-    ensures err { IfErr result (CallFails (NamedTableCause «package».parts name.now)) }
+    ensures ok { IfOk result (HasTable false «package».parts name.now) }
+    ensures err { IfErr result (CallFails (NamedTableCause false «package».parts name.now)) }
 {
     let mut xlsx = with_tables(alloc, package)?;
     let table = xlsx.table_by_name(name);
     drop(xlsx.into_package());
     Ok(table?)
+}
+
+/// The first table of this name, with its data as they are shown.
+fn shown_table_of(
+    alloc: Global,
+    package: InputPackage,
+    name: &str,
+) -> Result<Table<Data>, ToolError>
+    ensures ok { IfOk result (HasTable true «package».parts name.now) }
+    ensures err { IfErr result (CallFails (NamedTableCause true «package».parts name.now)) }
+{
+    let mut xlsx = with_tables(alloc, package)?;
+    let table = xlsx.table_by_name_shown(name);
+    drop(xlsx.into_package());
+    Ok(table?)
+}
+
+/// The first table of this name, with its data as they are or as they are shown.
+pub(crate) fn table_asked(
+    alloc: Global,
+    package: InputPackage,
+    name: &str,
+    shown: bool,
+) -> Result<Table<Data>, ToolError>
+    ensures ok { IfOk result (HasTable shown «package».parts name.now) }
+    ensures err { IfErr result (CallFails (NamedTableCause shown «package».parts name.now)) }
+{
+    if shown {
+        shown_table_of(alloc, package, name)
+    } else {
+        table_of(alloc, package, name)
+    }
 }
 
 /// A line for each value in the first table of this name.
@@ -100,7 +132,7 @@ pub fn table_value_lines(
     name: &str,
 ) -> Result<Vec<u8>, ToolError>
     ensures ok { IfOk result (λ output. AreTableValueLines «package».parts name.now output.items) }
-    ensures err { IfErr result (CallFails (NamedTableCause «package».parts name.now)) }
+    ensures err { IfErr result (CallFails (NamedTableCause false «package».parts name.now)) }
 {
     let table = table_of(alloc, package, name)?;
     Ok(value_lines_of(alloc, table.data())?.into_bytes())

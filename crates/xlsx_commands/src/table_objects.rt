@@ -1,4 +1,4 @@
-ghost use Rattle.std.specs.Prelude.{IfOk, IfErr};
+ghost use Rattle.std.specs.Prelude.{IfOk, IfErr, false};
 ghost use Rattle.xlsx_commands.specs.Outputs.{ObjectsFail};
 ghost use Rattle.xlsx_commands.specs.TableLists.{NamedTableCause};
 ghost use Rattle.xlsx_commands.specs.TableObjects.{AreTableObjects, HasDoubleName};
@@ -22,8 +22,8 @@ pub fn table_objects(
 ) -> Result<Vec<u8>, ToolError>
     ensures ok { IfOk result (λ output.
         AreTableObjects «package».parts name.now options output.items) }
-    ensures err { IfErr result (ObjectsFail (NamedTableCause «package».parts name.now)
-        (HasLargeTable «package».parts name.now) ⊥
+    ensures err { IfErr result (ObjectsFail (NamedTableCause false «package».parts name.now)
+        (HasLargeTable false «package».parts name.now) ⊥
         (HasDoubleName «package».parts name.now)) }
 {
     let table = table_of(alloc, package, name)?;

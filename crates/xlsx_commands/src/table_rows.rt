@@ -7,12 +7,13 @@ ghost use Rattle.xlsx_commands.specs.TableLists.{NamedTableCause};
 ghost use Rattle.xlsx_commands.specs.TableRows.{AreTableRows, HasLargeTable};
 ghost use Rattle.xlsx_commands.specs.TableRows.{fitted_names, header_over};
 
+use crate::asked_rows::AskedTable;
 use crate::error::ToolError;
-use crate::table_lines::table_of;
+use crate::table_lines::table_asked;
 use cell_data::{Data, Table};
 use input_package::InputPackage;
 use std::alloc::{AllocError, Global};
-use xlsx_rows::{CsvOptions, rows_csv};
+use xlsx_rows::rows_csv;
 
 /// The name at this index, and no text where there is none.
 fn name_at(names: &[String], index: usize) -> &str
@@ -52,19 +53,19 @@ pub(crate) fn header_of(alloc: Global, table: &Table<Data>) -> Result<Vec<String
 }
 
 /// The records of the first table of this name, as CSV: the names of its columns, and the rows of
-/// its data.
+/// its data, as they are or as they are shown.
 pub fn table_rows(
     alloc: Global,
     package: InputPackage,
     name: &str,
-    options: CsvOptions,
+    asked: AskedTable,
 ) -> Result<Vec<u8>, ToolError>
     ensures ok { IfOk result
-        (λ output. AreTableRows «package».parts name.now options output.items) }
-    ensures err { IfErr result (RowsFail (NamedTableCause «package».parts name.now)
-        (HasLargeTable «package».parts name.now)) }
+        (λ output. AreTableRows «package».parts name.now asked output.items) }
+    ensures err { IfErr result (RowsFail (NamedTableCause asked.shown «package».parts name.now)
+        (HasLargeTable asked.shown «package».parts name.now)) }
 {
-    let table = table_of(alloc, package, name)?;
+    let table = table_asked(alloc, package, name, asked.shown)?;
     let header = header_of(alloc, &table)?;
-    Ok(rows_csv(alloc, Some(&header), table.data(), &options)?)
+    Ok(rows_csv(alloc, Some(&header), table.data(), &asked.options)?)
 }

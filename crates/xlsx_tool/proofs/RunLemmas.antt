@@ -27,7 +27,7 @@ use Rattle.xlsx_commands.specs.declared.error.ToolError.TheVariants.{NotAWorkboo
 use Rattle.xlsx_commands.specs.declared.error.ToolError.TheVariants.{WriteFault, OutOfMemory}
 use Rattle.xlsx_commands.specs.declared.error.ToolError.TheVariants.{BoxTooLarge, Unwritable}
 use Rattle.xlsx_commands.specs.declared.error.ToolError.TheVariants.{NotChosen, NoHeader}
-use Rattle.xlsx_commands.specs.declared.error.ToolError.TheVariants.{TwoColumns}
+use Rattle.xlsx_commands.specs.declared.error.ToolError.TheVariants.{TwoColumns, GraphTooLarge}
 
 -- ---- the output of a command on what a source spells
 
@@ -63,6 +63,14 @@ from_output request parts old new (Workbook error) feeds fails = (
 )
 from_output request parts old new OutOfMemory feeds fails = feeds.faults
 from_output request parts old new BoxTooLarge feeds fails = (
+  feeds.faults,
+  record {
+    parts = parts;
+    cause = fails;
+    fed = λ tells. given_by (request_parts request) parts old new (feeds.fed tells);
+  },
+)
+from_output request parts old new GraphTooLarge feeds fails = (
   feeds.faults,
   record {
     parts = parts;
@@ -258,6 +266,9 @@ not_refused never words old new request parts output (Workbook error) is prints 
     refuses.asked refuses.cause.1
 not_refused never words old new request parts output BoxTooLarge is prints own refuses =
     no_cause never words old.source request refuses.request parts output BoxTooLarge is prints
+    refuses.asked refuses.cause.1
+not_refused never words old new request parts output GraphTooLarge is prints own refuses =
+    no_cause never words old.source request refuses.request parts output GraphTooLarge is prints
     refuses.asked refuses.cause.1
 not_refused never words old new request parts output Unwritable is prints own refuses =
     no_cause never words old.source request refuses.request parts output Unwritable is prints

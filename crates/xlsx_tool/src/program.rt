@@ -27,7 +27,7 @@ Usage: xlsx_tool cells NAME [--json] < INPUT
        xlsx_tool table NAME < INPUT
        xlsx_tool pivot SHEET NAME < INPUT
        xlsx_tool precedents NAME < INPUT
-       xlsx_tool dependents NAME REF < INPUT
+       xlsx_tool dependents NAME REF [--all] < INPUT
        xlsx_tool check NAME < INPUT
        xlsx_tool part NAME < INPUT
        xlsx_tool sheets [--json] < INPUT
@@ -35,6 +35,9 @@ Usage: xlsx_tool cells NAME [--json] < INPUT
        xlsx_tool tables [--json] < INPUT
        xlsx_tool pivots [--json] < INPUT
        xlsx_tool props [--json] < INPUT
+       xlsx_tool graph < INPUT
+       xlsx_tool order < INPUT
+       xlsx_tool cycles < INPUT
        xlsx_tool upgrade < INPUT
        xlsx_tool resave NAME [--xlsx] < INPUT
        xlsx_tool sample N
@@ -57,7 +60,8 @@ One line is printed, of the worksheet NAME or of the workbook, for each
   table      value in the table NAME: position, value
   pivot      row of the cache of the pivot table NAME on SHEET: its values
   precedents formula: its cell, the areas that it names
-  dependents cell whose formula names the cell REF, such as A7: its reference
+  dependents cell whose formula names the cell REF, such as A7: its reference;
+             by --all each of the workbook that needs it, also through others
   check      formula: its cell, how what it comes to stands to the cell's value
   part       worksheet: the name of the part that it is read from
   sheets     sheet: its name, type, state
@@ -65,6 +69,9 @@ One line is printed, of the worksheet NAME or of the workbook, for each
   tables     table: its name, its sheet, the area of its data, its columns
   pivots     pivot table: its sheet, its name
   props      property of the workbook: its name, its text
+  graph      formula of the workbook: its cell, areas that it names, open words
+  order      formula, in an order in which all can be computed: its cell
+  cycles     cycle of formulas: their cells
 
 The fields of a line have tabs between them, and those of CSV commas.
 By --json each line is an object of JSON, by the keys of docs/FORMAT.md.
@@ -76,8 +83,8 @@ OPTIONs of csv and csv-table, each at most once:
   --delimiter=C  this ASCII character between fields, or for tab a tab
   --crlf         CR and LF at the end of a record
   --bom          the bytes EF BB BF in front
-  --from-a1      of csv alone: records from row 1, and fields from column A
-  --shown        of csv and rows, without --dates and --digits: what cells show
+  --from-a1      of csv and rows: records from row 1, and fields from column A
+  --shown        without --dates and --digits: what cells show
 
 rows has --json first, and behind it --dates, --digits=N, --from-a1, --shown, or
 --header: the fields of the first row are the keys of objects. rows-table has

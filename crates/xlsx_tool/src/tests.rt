@@ -365,7 +365,7 @@ const STATUSES: &str =
     14 not a workbook file: a compound file, as of .xls or encrypted ones; \
     13 not a workbook file: no header in the directory at byte 32; 6 Relationship not found; \
     7 write fault; 8 out of memory; 10 box too large; 15 no workbook file can hold it; \
-    16 no header row; 16 two columns 'Amount'; ";
+    16 no header row; 16 two columns 'Amount'; 17 graph too large; ";
 
 #[test]
 fn refusals_have_statuses_and_texts(rt: HostRuntime) -> Result<(), Fail> {
@@ -387,6 +387,7 @@ fn refusals_have_statuses_and_texts(rt: HostRuntime) -> Result<(), Fail> {
         ToolError::Unwritable,
         ToolError::NoHeader,
         ToolError::TwoColumns(key),
+        ToolError::GraphTooLarge,
     ] {
         write!(told, "{} {error}; ", error.status())?;
     }

@@ -5,15 +5,15 @@ use Rattle.cell_data.specs.CellValue.{CellValue}
 use Rattle.list_lines.specs.declared.content.LineForm.TheVariants.{Text, Json}
 use Rattle.part_events.specs.Package.{Part}
 use Rattle.xlsx_error.specs.declared.error.XlsxError.{XlsxError}
-use Rattle.xlsx_error.specs.declared.error.XlsxError.TheVariants.{WorksheetNotFound}
 use Rattle.xlsx_core.proofs.Agreeing.{same_back, reads_over}
 use Rattle.xlsx_core.proofs.ShownLaws.{shown_over}
 use Rattle.xlsx_commands.specs.Command.{Command, cells, sheets, names, merges, links, props, csv}
 use Rattle.xlsx_commands.specs.Command.{csv_table, tables, table, pivots, pivot, precedents}
 use Rattle.xlsx_commands.specs.Command.{dependents, check, part, upgrade, resave, sample, comments}
-use Rattle.xlsx_commands.specs.Command.{resave_file, json_rows, table_objects}
+use Rattle.xlsx_commands.specs.Command.{resave_file, json_rows, table_objects, all_dependents}
+use Rattle.xlsx_commands.specs.Command.{workbook_graph}
 use Rattle.xlsx_commands.specs.Outputs.{IsOutput, RefusedWorkbookCause, IsTooLarge, OutputCause}
-use Rattle.xlsx_commands.specs.Outputs.{IsUnwritable, HasNoKeys, HasTwoColumns}
+use Rattle.xlsx_commands.specs.Outputs.{HasLargeGraph, IsUnwritable, HasNoKeys, HasTwoColumns}
 use Rattle.xlsx_commands.specs.Outputs.{IsUpgrade}
 use Rattle.xlsx_commands.specs.PartNames.{PartPathCause}
 use Rattle.xlsx_commands.specs.PropertyLists.{ListedPropertiesCause, text_of_name}
@@ -24,14 +24,18 @@ use Rattle.xlsx_commands.specs.declared.error.ToolError.{ToolError}
 use Rattle.xlsx_commands.specs.declared.error.ToolError.TheVariants.{Workbook, BoxTooLarge}
 use Rattle.xlsx_commands.specs.declared.asked_rows.AskedRows.{AskedRows}
 use Rattle.xlsx_commands.specs.declared.error.ToolError.TheVariants.{Unwritable, NoHeader}
-use Rattle.xlsx_commands.specs.declared.error.ToolError.TheVariants.{TwoColumns}
+use Rattle.xlsx_commands.specs.declared.error.ToolError.TheVariants.{TwoColumns, GraphTooLarge}
 use Rattle.cell_data.specs.Pairs.{value_pairs, formula_pairs}
 use Rattle.xlsx_ways.specs.Ways.{HaveSameWay, HaveSameOpening, HaveSameProperties, HaveSameCells}
 use Rattle.xlsx_ways.specs.Ways.{HaveSameRows}
 use Rattle.xlsx_ways.proofs.CommentsAlike.{comments_over, comments_cause_over, comments_back}
+use Rattle.xlsx_ways.proofs.GraphsAlike.{graph_over, graph_cause_over, graph_back}
+use Rattle.xlsx_ways.proofs.GraphsAlike.{dependents_cause_over, large_book_over}
+use Rattle.xlsx_ways.proofs.GraphsAlike.{large_dependents_over}
 use Rattle.xlsx_ways.proofs.ListsAlike.{properties_over, properties_cause_over, properties_back}
 use Rattle.xlsx_ways.proofs.ListsAlike.{tables_had_over, tables_listed_over, each_tables_back}
 use Rattle.xlsx_ways.proofs.ListsAlike.{table_over, table_cause_over, table_data_back}
+use Rattle.xlsx_ways.proofs.ListsAlike.{table_rows_over, table_rows_back, data_of_rows}
 use Rattle.xlsx_ways.proofs.ListsAlike.{pivots_had_over, pivots_listed_over, each_pivots_back}
 use Rattle.xlsx_ways.proofs.ListsAlike.{has_cache_over, pivot_cause_over, cache_back}
 use Rattle.xlsx_ways.proofs.OpeningsAlike.{opening_over, soundly_over, opens_at_over}
@@ -40,7 +44,7 @@ use Rattle.xlsx_ways.proofs.OpeningsAlike.{cells_back, cells_of_sheet}
 use Rattle.xlsx_ways.proofs.PivotsAlike.{cache_over}
 use Rattle.xlsx_ways.proofs.SheetsAlike.{cells_over, named_over, sheet_cause_over, merges_over}
 use Rattle.xlsx_ways.proofs.SheetsAlike.{merges_cause_over, links_over, links_cause_over}
-use Rattle.xlsx_ways.proofs.SheetsAlike.{links_back}
+use Rattle.xlsx_ways.proofs.SheetsAlike.{links_back, part_path_over}
 
 -- the values of rows, as they are or as they are shown
 rows_back : (shown : Bool) (one two : List Part) (name : List ℕ) → HaveSameRows shown one two name
@@ -114,7 +118,7 @@ way_back (props form) one two same = (opening_back one two same.0, properties_ba
 way_back (csv name asked) one two same = rows_back asked.shown one two name same
 way_back (json_rows name asked) one two same = rows_back asked.shown one two name same
 way_back (table_objects name options) one two same = table_data_back one two name same
-way_back (csv_table name options) one two same = table_data_back one two name same
+way_back (csv_table name asked) one two same = table_rows_back asked.shown one two name same
 way_back (tables form) one two same =
     (opening_back one two same.0, each_tables_back one two same.0 same.1)
 way_back (table name) one two same = table_data_back one two name same
@@ -123,6 +127,8 @@ way_back (pivots form) one two same =
 way_back (pivot sheet name) one two same = cache_back one two sheet name same
 way_back (precedents name) one two same = cells_back one two name same
 way_back (dependents name position) one two same = cells_back one two name same
+way_back (all_dependents name position) one two same = graph_back one two same
+way_back (workbook_graph list) one two same = graph_back one two same
 way_back (check name) one two same = cells_back one two name same
 way_back (part name) one two same = opening_back one two same
 way_back upgrade one two same = sym same
@@ -196,9 +202,9 @@ output_over (table_objects name options) one two output same prints = record {
   apart = prints.apart;
   listed = prints.listed;
 }
-output_over (csv_table name options) one two output same prints = record {
+output_over (csv_table name asked) one two output same prints = record {
   table = prints.table;
-  has = table_over one two name prints.table same prints.has;
+  has = table_rows_over asked.shown one two name prints.table same prints.has;
   fits = prints.fits;
   listed = prints.listed;
 }
@@ -249,6 +255,22 @@ output_over (dependents name position) one two output same prints =
       reads = reads;
       listed = prints.listed;
     }
+output_over (all_dependents name position) one two output same prints = record {
+  book = prints.book;
+  formulas = prints.formulas;
+  sheet = prints.sheet;
+  has = graph_over one two same prints.book prints.formulas prints.has;
+  called = prints.called;
+  fits = prints.fits;
+  listed = prints.listed;
+}
+output_over (workbook_graph list) one two output same prints = record {
+  book = prints.book;
+  formulas = prints.formulas;
+  has = graph_over one two same prints.book prints.formulas prints.has;
+  fits = prints.fits;
+  listed = prints.listed;
+}
 output_over (check name) one two output same prints =
     let (styles, reads) = cells_over one two name prints.values prints.formulas prints.styles same
     prints.reads in
@@ -306,11 +328,6 @@ listed_properties_over one two error same own (inl opening) =
 listed_properties_over one two error same own (inr has) =
     inr (soundly_over one two same has.0, properties_cause_over one two error own has.1)
 
-part_path_over : (name : List ℕ) (path : Option (List ℕ)) (one two : List Part) (error : XlsxError)
-    → PartPathCause name path one error → PartPathCause name path two error
-part_path_over name path one two (WorksheetNotFound asked) cause = cause
-part_path_over name path one two error cause = cause
-
 -- why its workbook refuses it
 pub cause_over : (command : Command) (one two : List Part) (error : XlsxError)
     → HaveSameWay command one two → RefusedWorkbookCause command one error
@@ -333,12 +350,14 @@ cause_over (csv name asked) one two error same cause =
 cause_over (json_rows name asked) one two error same cause =
     sheet_cause_over one two name error (cells_of_rows asked.shown one two name same) cause
 cause_over (table_objects name options) one two error same cause =
-    table_cause_over one two name error same cause
-cause_over (csv_table name options) one two error same cause =
-    table_cause_over one two name error same cause
+    table_cause_over false one two name error same cause
+cause_over (csv_table name asked) one two error same cause =
+    table_cause_over asked.shown one two name error (data_of_rows asked.shown one two name same)
+    cause
 cause_over (tables form) one two error same cause = tables_listed_over one two error same.0 same.1
     cause
-cause_over (table name) one two error same cause = table_cause_over one two name error same cause
+cause_over (table name) one two error same cause =
+    table_cause_over false one two name error same cause
 cause_over (pivots form) one two error same cause = pivots_listed_over one two error same.0 same.1
     cause
 cause_over (pivot sheet name) one two error same cause =
@@ -347,6 +366,10 @@ cause_over (precedents name) one two error same cause =
     sheet_cause_over one two name error same cause
 cause_over (dependents name position) one two error same cause =
     sheet_cause_over one two name error same cause
+cause_over (all_dependents name position) one two error same cause =
+    dependents_cause_over one two same name error cause
+cause_over (workbook_graph list) one two error same cause =
+    graph_cause_over one two same error cause
 cause_over (check name) one two error same cause = sheet_cause_over one two name error same cause
 cause_over (part name) one two error same cause =
     named_over (PartPathCause name) one two name error same
@@ -377,12 +400,21 @@ large_over (table_objects name options) one two same large = record {
   has = table_over one two name large.table same large.has;
   large = large.large;
 }
-large_over (csv_table name options) one two same large = record {
+large_over (csv_table name asked) one two same large = record {
   table = large.table;
-  has = table_over one two name large.table same large.has;
+  has = table_rows_over asked.shown one two name large.table same large.has;
   large = large.large;
 }
 large_over _ one two same large = absurd large
+
+-- and a graph that is too large
+large_graph_over : (command : Command) (one two : List Part) → HaveSameWay command one two
+    → HasLargeGraph command one → HasLargeGraph command two
+unfolding HaveSameWay HasLargeGraph
+large_graph_over (all_dependents name position) one two same large =
+    large_dependents_over one two same name large
+large_graph_over (workbook_graph list) one two same large = large_book_over one two same large
+large_graph_over _ one two same large = absurd large
 
 -- and rows without keys
 keyless_over : (command : Command) (one two : List Part) → HaveSameWay command one two
@@ -427,6 +459,8 @@ pub output_cause_over : (command : Command) (one two : List Part) (error : ToolE
 output_cause_over command one two (Workbook error) same cause =
     cause_over command one two error same cause
 output_cause_over command one two BoxTooLarge same large = large_over command one two same large
+output_cause_over command one two GraphTooLarge same large =
+    large_graph_over command one two same large
 output_cause_over command one two Unwritable same none = unwritable_over command one two same none
 output_cause_over command one two NoHeader same none = keyless_over command one two same none
 output_cause_over command one two (TwoColumns key) same twice =

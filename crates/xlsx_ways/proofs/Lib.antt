@@ -6,6 +6,7 @@ pub mod PivotsAlike
 pub mod OpeningsAlike
 pub mod SheetsAlike
 pub mod ListsAlike
+pub mod GraphsAlike
 pub mod CommandsAlike
 pub mod CommentsAlike
 pub mod PlacesAlike

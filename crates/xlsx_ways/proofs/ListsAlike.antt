@@ -1,5 +1,6 @@
 -- What is had of all sheets of packages that have the same parts where it is looked for.
 use Rattle.std.proofs.Common.{◌≡◌, ℕ, List, Option, Some, None, sym, ◌∙◌, ap, subst, inl, inr}
+use Rattle.std.proofs.Common.{Bool, true, false}
 use Rattle.std.specs.Prelude.{◌⊎◌, IsSomeAnd}
 use Rattle.part_events.specs.Event.{Event}
 use Rattle.part_events.specs.Package.{Part, part_of}
@@ -28,22 +29,27 @@ use Rattle.xlsx_tables.specs.Tables.{SheetTable, TablesCause}
 use Rattle.cell_data.specs.declared.table.Table.{Table}
 use Rattle.xlsx_pivots.specs.Pivots.{PivotSaid, PivotsCause}
 use Rattle.xlsx_values.specs.Value.{Grounds}
-use Rattle.xlsx_open.specs.Opening.{Opening, OpensAs}
-use Rattle.xlsx_cells.specs.CellsReader.{values_alone}
+use Rattle.xlsx_open.specs.Opening.{Opening, OpensAs, HasPath}
+use Rattle.xlsx_open.specs.SharedParts.{SharedSaid}
+use Rattle.xlsx_cells.specs.CellsReader.{values_and_styles}
 use Rattle.xlsx_cells.specs.Sheet.{with_texts}
-use Rattle.xlsx_core.specs.Agreement.{HaveSamePart}
+use Rattle.xlsx_core.specs.Agreement.{HaveSameBook, HaveSamePart}
 use Rattle.xlsx_core.specs.SheetReading.{PlacedCause, events_at, opened_grounds, path_named}
+use Rattle.xlsx_core.specs.ShownSheet.{shown_cells}
+use Rattle.xlsx_core.specs.ShownTable.{AnswersStyledValues, ShowsValuesIn}
 use Rattle.xlsx_core.specs.TableData.{ReadsValuesIn, IsRangeIn}
 use Rattle.xlsx_core.specs.Worksheets.{RangePartCause, AnswersValues}
-use Rattle.xlsx_core.proofs.Agreeing.{events_over}
+use Rattle.xlsx_core.proofs.Agreeing.{events_over, opens_over, path_over}
 use Rattle.xlsx_commands.specs.CacheRows.{HasCache, LacksPivot, HasCacheCause, NamedPivotCause}
 use Rattle.xlsx_commands.specs.PivotLists.{HasPivots}
 use Rattle.xlsx_commands.specs.SheetsOpened.{sheets_opened, ListedCause}
+use Rattle.xlsx_commands.specs.TableLists.{HasDataIn}
 use Rattle.xlsx_commands.specs.TableLists.{HasTables, HasNamedTable, NamesNoTable, HasTableCause}
-use Rattle.xlsx_commands.specs.TableLists.{NamedTableCause, HasTable}
+use Rattle.xlsx_commands.specs.TableLists.{NamedTableCause, HasTable, table_wants}
 use Rattle.xlsx_ways.specs.Ways.{OfEachSheet, HaveSameOpening, HaveSameProperties}
 use Rattle.xlsx_ways.specs.Ways.{HaveSameTables, HaveSamePivots}
-use Rattle.xlsx_ways.specs.Ways.{HaveSameTableData, HaveSameCache}
+use Rattle.xlsx_ways.specs.Ways.{HaveSameTableData, HaveSameTableRows, HaveSameTheme}
+use Rattle.xlsx_ways.specs.Ways.{HaveSameCache}
 use Rattle.xlsx_ways.proofs.OpeningsAlike.{opening_over, opening_cause_over, opening_back}
 use Rattle.xlsx_ways.proofs.OpeningsAlike.{grounds_over, other_opening}
 use Rattle.xlsx_ways.proofs.PartsAlike.{there_over}
@@ -54,7 +60,7 @@ use Rattle.xlsx_ways.proofs.SheetsAlike.{placed_over}
 use Rattle.xlsx_ways.proofs.TablesAlike.{all_tables_over, all_tables_cause_over, tables_back}
 
 -- what is the same of each sheet's path, the other way round
-sheets_back : (same back : List ℕ → Type 0) (one two : List Part) → HaveSameOpening one two
+pub sheets_back : (same back : List ℕ → Type 0) (one two : List Part) → HaveSameOpening one two
     → ((path : List ℕ) → same path → back path) → OfEachSheet same one → OfEachSheet back two
 sheets_back same back one two opening over each =
     λ (own : Opening) opens.
@@ -63,7 +69,7 @@ sheets_back same back one two opening over each =
     (each (other_opening two one own (opening_back one two opening) opens)
     (opening_over two one own (opening_back one two opening) opens))
 
-listed_over : (cause : List Part → List SheetPath → XlsxError → Type 0) (one two : List Part)
+pub listed_over : (cause : List Part → List SheetPath → XlsxError → Type 0) (one two : List Part)
     (error : XlsxError) → HaveSameOpening one two
     → ((opening : Opening) → OpensAs one opening → cause one (sheets_opened opening.sheets) error
     → cause two (sheets_opened opening.sheets) error)
@@ -187,9 +193,23 @@ used_over grounds header (Some area) path one two range same reads =
     × IsRangeIn value_of_data header area (with_texts grounds.strings values) nothing range))
     same reads
 
+pub shown_in_over : (grounds : Grounds) (shared : SharedSaid) (is_1904 : Bool)
+    (header : HeaderRow) (area : Option Dimensions) (path : Option (List ℕ))
+    (one two : List Part) (range : Range Data) → events_at path one ≡ events_at path two
+    → ShowsValuesIn grounds shared is_1904 header area path one range
+    → ShowsValuesIn grounds shared is_1904 header area path two range
+shown_in_over grounds shared is_1904 header None path one two range same shows = shows
+shown_in_over grounds shared is_1904 header (Some area) path one two range same shows =
+    subst (λ (events : Option (List Event)). IsSomeAnd events (λ own.
+    (found : List ((ℕ × ℕ) × (CellValue × ℕ)))
+    × AnswersStyledValues values_and_styles grounds own found
+    × IsRangeIn value_of_data header area (shown_cells shared is_1904 found) nothing range))
+    same shows
+
 -- the table and its data, by the same part of its sheet
 abbrev pub table_over : (one two : List Part) (name : List ℕ) (table : Table Data)
-    → HaveSameTableData one two name → HasTable one name table → HasTable two name table
+    → HaveSameTableData one two name → HasTable false one name table
+    → HasTable false two name table
 table_over one two name table same has = record {
   own = has.own;
   has = named_table_over one two name has.own same has.has;
@@ -202,6 +222,66 @@ table_over one two name table same has = record {
       (table_events one two name has.own same has.has) has.reads);
 }
 
+-- the workbook of a package that has the same theme, too
+pub same_books : (one two : List Part) → HaveSameOpening one two → HaveSameTheme one two
+    → (path : List ℕ) → HasPath one path → HaveSameBook one two path
+same_books one two same theme path found =
+    let there = same.book path found in
+    record {
+      relationships = there.relationships;
+      workbook = there.workbook;
+      strings = there.strings;
+      theme = theme path found;
+      styles = there.styles;
+    }
+
+-- the first table of the name, by the same part of the theme where values are shown
+abbrev pub named_rows_over : (shown : Bool) (one two : List Part) (name : List ℕ) (own : SheetTable)
+    → HaveSameTableRows shown one two name → HasNamedTable one name own
+    → HasNamedTable two name own
+named_rows_over false one two name own same has = named_table_over one two name own same has
+named_rows_over true one two name own same has = record {
+  tables = has.tables;
+  has = record {
+    opening = has.has.opening;
+    opens = opens_over one two has.has.opening same.0.opening.root
+        (same_books one two same.0.opening same.1) has.has.opens;
+    taken = sym (all_tables_over one two (sheets_opened has.has.opening.sheets)
+        (same.0.tables has.has.opening has.has.opens)) ∙ has.has.taken;
+  };
+  named = has.named;
+}
+
+pub data_rows_over : (shown : Bool) (one two : List Part) (name : List ℕ) (table : Table Data)
+    (same : HaveSameTableRows shown one two name) (has : HasTable shown one name table)
+    → HasDataIn shown (named_rows_over shown one two name has.own same has.has).has.opening
+    has.own.table.area (path_named has.own.sheet
+    (named_rows_over shown one two name has.own same has.has).has.opening.sheets) two
+    (table_data table)
+data_rows_over false one two name table same has =
+    (table_over one two name table same has).reads
+data_rows_over true one two name table same has =
+    let opening = has.has.has.opening in
+    shown_in_over (opened_grounds opening) opening.shared opening.is_1904
+    FirstNonEmptyRow has.own.table.area (path_named has.own.sheet opening.sheets) one two
+    (table_data table) (table_events one two name has.own same.0 has.has) has.reads
+
+-- its data, as they are or as they are shown
+abbrev pub table_rows_over : (shown : Bool) (one two : List Part) (name : List ℕ)
+    (table : Table Data) → HaveSameTableRows shown one two name → HasTable shown one name table
+    → HasTable shown two name table
+table_rows_over shown one two name table same has = record {
+  own = has.own;
+  has = named_rows_over shown one two name has.own same has.has;
+  is = has.is;
+  reads = data_rows_over shown one two name table same has;
+}
+
+pub data_of_rows : (shown : Bool) (one two : List Part) (name : List ℕ)
+    → HaveSameTableRows shown one two name → HaveSameTableData one two name
+data_of_rows false one two name same = same
+data_of_rows true one two name same = same.0
+
 no_table_over : (one two : List Part) (name : List ℕ) → HaveSameTableData one two name
     → NamesNoTable one name → NamesNoTable two name
 no_table_over one two name same lacks = record {
@@ -210,37 +290,38 @@ no_table_over one two name same lacks = record {
   none = lacks.none;
 }
 
-table_cause_of : (one two : List Part) (name : List ℕ) (error : XlsxError)
-    → HaveSameTableData one two name → HasTableCause one name error
-    → HasTableCause two name error
-table_cause_of one two name error same has = record {
+table_cause_of : (shown : Bool) (one two : List Part) (name : List ℕ) (error : XlsxError)
+    → HaveSameTableData one two name → HasTableCause shown one name error
+    → HasTableCause shown two name error
+table_cause_of shown one two name error same has = record {
   own = has.own;
   has = named_table_over one two name has.own same has.has;
   area = has.area;
   cause = subst (λ (own : Grounds). PlacedCause has.own.sheet
-      (path_named has.own.sheet has.has.has.opening.sheets) (RangePartCause values_alone own) two
-      error)
+      (path_named has.own.sheet has.has.has.opening.sheets)
+      (RangePartCause (table_wants shown) own) two error)
       (grounds_over one two has.has.has.opening same.opening has.has.has.opens)
       (placed_over has.own.sheet (path_named has.own.sheet has.has.has.opening.sheets)
-      (RangePartCause values_alone (opened_grounds has.has.has.opening)) one two error
+      (RangePartCause (table_wants shown) (opened_grounds has.has.has.opening)) one two error
       (table_events one two name has.own same has.has) has.cause);
 }
 
-either_table_over : (one two : List Part) (name : List ℕ) (error : XlsxError)
+either_table_over : (shown : Bool) (one two : List Part) (name : List ℕ) (error : XlsxError)
     → HaveSameTableData one two name
-    → ListedCause TablesCause one error ⊎ HasTableCause one name error
-    → ListedCause TablesCause two error ⊎ HasTableCause two name error
-either_table_over one two name error same (inl listed) =
+    → ListedCause TablesCause one error ⊎ HasTableCause shown one name error
+    → ListedCause TablesCause two error ⊎ HasTableCause shown two name error
+either_table_over shown one two name error same (inl listed) =
     inl (tables_listed_over one two error same.opening same.tables listed)
-either_table_over one two name error same (inr has) =
-    inr (table_cause_of one two name error same has)
+either_table_over shown one two name error same (inr has) =
+    inr (table_cause_of shown one two name error same has)
 
-pub table_cause_over : (one two : List Part) (name : List ℕ) (error : XlsxError)
-    → HaveSameTableData one two name → NamedTableCause one name error
-    → NamedTableCause two name error
-table_cause_over one two name (TableNotFound asked) same (is, lacks) =
+pub table_cause_over : (shown : Bool) (one two : List Part) (name : List ℕ) (error : XlsxError)
+    → HaveSameTableData one two name → NamedTableCause shown one name error
+    → NamedTableCause shown two name error
+table_cause_over shown one two name (TableNotFound asked) same (is, lacks) =
     (is, no_table_over one two name same lacks)
-table_cause_over one two name error same cause = either_table_over one two name error same cause
+table_cause_over shown one two name error same cause =
+    either_table_over shown one two name error same cause
 
 pub table_data_back : (one two : List Part) (name : List ℕ) → HaveSameTableData one two name
     → HaveSameTableData two one name
@@ -259,6 +340,15 @@ table_data_back one two name same =
           })
           (opening_over two one own_opening opening opens) named);
     }
+
+pub table_rows_back : (shown : Bool) (one two : List Part) (name : List ℕ)
+    → HaveSameTableRows shown one two name → HaveSameTableRows shown two one name
+table_rows_back false one two name same = table_data_back one two name same
+table_rows_back true one two name same = (
+  table_data_back one two name same.0,
+  λ (path : List ℕ) found.
+      sym (same.1 path (path_over two one path (sym same.0.opening.root) found)),
+)
 
 -- ---- pivot tables
 

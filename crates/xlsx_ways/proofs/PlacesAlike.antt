@@ -18,13 +18,13 @@ use Rattle.xlsx_core.proofs.Agreeing.{section_over, optional_over, path_over}
 use Rattle.xlsx_core.proofs.SheetLaws.{are_alike}
 use Rattle.xlsx_commands.specs.Command.{part}
 use Rattle.xlsx_commands.specs.Outputs.{IsOutput, RefusedWorkbookCause, IsTooLarge, OutputCause}
-use Rattle.xlsx_commands.specs.Outputs.{IsUnwritable, HasNoKeys, HasTwoColumns}
+use Rattle.xlsx_commands.specs.Outputs.{HasLargeGraph, IsUnwritable, HasNoKeys, HasTwoColumns}
 use Rattle.xlsx_commands.specs.PartNames.{PartPathCause}
 use Rattle.xlsx_commands.specs.SheetLists.{OpensAt, HasNamedCause, NamedCause}
 use Rattle.xlsx_commands.specs.declared.error.ToolError.{ToolError}
 use Rattle.xlsx_commands.specs.declared.error.ToolError.TheVariants.{Workbook, BoxTooLarge}
 use Rattle.xlsx_commands.specs.declared.error.ToolError.TheVariants.{Unwritable, NoHeader}
-use Rattle.xlsx_commands.specs.declared.error.ToolError.TheVariants.{TwoColumns}
+use Rattle.xlsx_commands.specs.declared.error.ToolError.TheVariants.{TwoColumns, GraphTooLarge}
 use Rattle.xlsx_commands.proofs.NamedSheets.{OpeningsNever}
 use Rattle.xlsx_ways.specs.Ways.{HaveSamePlaces}
 use Rattle.xlsx_ways.proofs.OpeningsAlike.{sharing, with_shared}
@@ -108,10 +108,11 @@ named_over one two name error never same opens others has =
 pub part_cause_over : OpeningsNever → (one two : List Part) (name : List ℕ) (error : ToolError)
     → HaveSamePlaces one two → OpensSoundly one → OpensSoundly two
     → OutputCause (part name) one error → OutputCause (part name) two error
-unfolding RefusedWorkbookCause IsTooLarge IsUnwritable HasNoKeys HasTwoColumns
+unfolding RefusedWorkbookCause IsTooLarge HasLargeGraph IsUnwritable HasNoKeys HasTwoColumns
 part_cause_over never one two name (Workbook error) same opens others cause =
     named_over one two name error never same opens others cause
 part_cause_over never one two name BoxTooLarge same opens others large = absurd large
+part_cause_over never one two name GraphTooLarge same opens others large = absurd large
 part_cause_over never one two name Unwritable same opens others none = absurd none
 part_cause_over never one two name NoHeader same opens others none = absurd none
 part_cause_over never one two name (TwoColumns key) same opens others twice = absurd twice

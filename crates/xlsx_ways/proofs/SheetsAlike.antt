@@ -29,6 +29,7 @@ use Rattle.xlsx_core.specs.Links.{PlacedLinksCause}
 use Rattle.xlsx_core.specs.SheetReading.{PlacedCause, SheetCause, HasPartCause, LacksSheet}
 use Rattle.xlsx_core.specs.SheetReading.{ReadsAs, all_wanted, events_at, path_named}
 use Rattle.xlsx_core.proofs.Agreeing.{events_over}
+use Rattle.xlsx_commands.specs.PartNames.{PartPathCause}
 use Rattle.xlsx_commands.specs.SheetLists.{OpensAt, PathCause, HasNamedCause, NamedCause, HasMerges}
 use Rattle.xlsx_commands.specs.SheetLists.{HasLinks, MergesPathCause}
 use Rattle.xlsx_ways.specs.Ways.{HaveSameCells, HaveSameOpening, HaveSameLinks}
@@ -80,6 +81,12 @@ named_over cause one two name (WorksheetNotFound asked) same over has =
     named_cause_over cause one two name (WorksheetNotFound asked) same over has
 named_over cause one two name error same over has =
     either_cause_over cause one two name error same over has
+
+-- why the path of its part isn't told
+pub part_path_over : (name : List ℕ) (path : Option (List ℕ)) (one two : List Part)
+    (error : XlsxError) → PartPathCause name path one error → PartPathCause name path two error
+part_path_over name path one two (WorksheetNotFound asked) cause = cause
+part_path_over name path one two error cause = cause
 
 -- ---- the cells
 

@@ -41,7 +41,7 @@ all_tables_over one two sheets same =
     (λ sheet own. ap (option_map (map (table_of_sheet sheet.name)))
     (tables_over one two sheet.path own)) same)
 
-tables_cause_over : (one two : List Part) (path : List ℕ) (error : XlsxError)
+pub tables_cause_over : (one two : List Part) (path : List ℕ) (error : XlsxError)
     → HaveSameTables one two path → TablesAtCause one path error → TablesAtCause two path error
 tables_cause_over one two path error same cause =
     each_cause_over IsTablesError table_ask (HaveSamePart one two) table_type path one two error

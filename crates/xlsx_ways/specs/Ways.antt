@@ -6,7 +6,7 @@ use Rattle.xlsx_properties.specs.Parts.{core_part, program_part, custom_part}
 use Rattle.xlsx_relationships.specs.Paths.{relationships_beside}
 use Rattle.xlsx_relationships.specs.RelatedParts.{related_parts}
 use Rattle.xlsx_workbook.specs.Paths.{workbook_part, relationships_part, strings_part}
-use Rattle.xlsx_workbook.specs.Paths.{styles_part}
+use Rattle.xlsx_workbook.specs.Paths.{styles_part, theme_part}
 use Rattle.xlsx_comments.specs.Comments.{comments_type}
 use Rattle.xlsx_tables.specs.Tables.{table_type}
 use Rattle.xlsx_pivots.specs.Pivots.{pivot_type}
@@ -18,7 +18,8 @@ use Rattle.xlsx_commands.specs.CacheRows.{HasCache}
 use Rattle.xlsx_commands.specs.Command.{Command, cells, sheets, names, merges, links, props, csv}
 use Rattle.xlsx_commands.specs.Command.{csv_table, tables, table, pivots, pivot, precedents}
 use Rattle.xlsx_commands.specs.Command.{dependents, check, part, upgrade, resave, sample, comments}
-use Rattle.xlsx_commands.specs.Command.{resave_file, json_rows, table_objects}
+use Rattle.xlsx_commands.specs.Command.{resave_file, json_rows, table_objects, all_dependents}
+use Rattle.xlsx_commands.specs.Command.{workbook_graph}
 use Rattle.xlsx_commands.specs.SampleLines.{sample_name}
 use Rattle.xlsx_commands.specs.SheetsOpened.{sheets_opened}
 use Rattle.xlsx_commands.specs.TableLists.{HasNamedTable}
@@ -111,6 +112,12 @@ OfEachSheet same parts =
     (opening : Opening) → OpensAs parts opening →
     Each (λ (sheet : SheetPath). same sheet.path) (sheets_opened opening.sheets)
 
+-- the same tables, and the same part of each sheet, whose formulas are so the same
+pub record HaveSameGraph (one two : List Part) : Type 0 where
+  pub opening : HaveSameOpening one two
+  pub tables : OfEachSheet (HaveSameTables one two) one
+  pub sheets : OfEachSheet (HaveSamePart one two) one
+
 -- the same part of the sheet on which the first table of this name stands
 abbrev pub HaveSameTableSheet : List Part → List Part → List ℕ → Type 0
 HaveSameTableSheet one two name =
@@ -123,6 +130,16 @@ pub record HaveSameTableData (one two : List Part) (name : List ℕ) : Type 0 wh
   pub opening : HaveSameOpening one two
   pub tables : OfEachSheet (HaveSameTables one two) one
   pub sheet : HaveSameTableSheet one two name
+
+-- the same themes of their workbooks, by which styles are told
+abbrev pub HaveSameTheme : List Part → List Part → Type 0
+HaveSameTheme one two =
+    (path : List ℕ) → HasPath one path → HaveSamePart one two (theme_part path)
+
+-- the same data of the first table of this name, as they are read or as they are shown
+abbrev pub HaveSameTableRows : Bool → List Part → List Part → List ℕ → Type 0
+HaveSameTableRows false one two name = HaveSameTableData one two name
+HaveSameTableRows true one two name = HaveSameTableData one two name × HaveSameTheme one two
 
 -- the same definitions and records of the first pivot table of this name on a sheet of that name
 pub record HaveSameCache (one two : List Part) (sheet name : List ℕ) : Type 0 where
@@ -148,7 +165,7 @@ HaveSameWay (links form name) one two = HaveSameCells one two name × HaveSameLi
 HaveSameWay (comments form name) one two = HaveSameOpening one two × HaveSameComments one two name
 HaveSameWay (props form) one two = HaveSameOpening one two × HaveSameProperties one two
 HaveSameWay (csv name asked) one two = HaveSameRows asked.shown one two name
-HaveSameWay (csv_table name options) one two = HaveSameTableData one two name
+HaveSameWay (csv_table name asked) one two = HaveSameTableRows asked.shown one two name
 HaveSameWay (json_rows name asked) one two = HaveSameRows asked.shown one two name
 HaveSameWay (table_objects name options) one two = HaveSameTableData one two name
 HaveSameWay (tables form) one two =
@@ -159,6 +176,8 @@ HaveSameWay (pivots form) one two =
 HaveSameWay (pivot sheet name) one two = HaveSameCache one two sheet name
 HaveSameWay (precedents name) one two = HaveSameCells one two name
 HaveSameWay (dependents name position) one two = HaveSameCells one two name
+HaveSameWay (all_dependents name position) one two = HaveSameGraph one two
+HaveSameWay (workbook_graph list) one two = HaveSameGraph one two
 HaveSameWay (check name) one two = HaveSameCells one two name
 HaveSameWay (part name) one two = HaveSameOpening one two
 HaveSameWay upgrade one two = one ≡ two

@@ -1,4 +1,4 @@
-use Rattle.std.proofs.Common.{◌∙◌, ap, map, string_bytes, arith}
+use Rattle.std.proofs.Common.{◌∙◌, ap, map, string_bytes, arith, false}
 use Rattle.std.proofs.lemmas.Result.{err_from_is_err_and}
 use Rattle.cell_data.specs.RangeItems.{box_count}
 use Rattle.xlsx_commands.specs.TableLists.{NamedTableCause}
@@ -17,13 +17,13 @@ returns-in_err-table-clause-err c =
     let parts = c.args.package.parts in
     let name = c.args.name.now in
     rw (handed.1, handed.2)
-    (refused_objects (NamedTableCause parts name) (HasLargeTable parts name) ⊥
+    (refused_objects (NamedTableCause false parts name) (HasLargeTable false parts name) ⊥
     (HasDoubleName parts name) c.in_err-table.field-0.0 c.in_err-table.ensures.err)
 
 pub keyed_rows_json-requires : goal.keyed_rows_json-requires
 keyed_rows_json-requires c = record {
   keys =
-      header_of_data c.args.package.parts c.args.name.now c.in_ok-table.table
+      header_of_data false c.args.package.parts c.args.name.now c.in_ok-table.table
       c.in_ok-table.ensures.ok c.data.result.now c.deref.result.now c.data.ensures
       (ap (map string_bytes) c.deref.ensures.value ∙ c.in_ok-keys.ensures);
 }
@@ -41,13 +41,13 @@ returns-in_err-keyed_rows_json-clause-err c =
     let keys = map string_bytes c.deref.result.now in
     let named = ap (map string_bytes) c.deref.ensures.value ∙ c.in_ok-keys.ensures in
     rw (handed.1, handed.2)
-    (keys_fail (NamedTableCause parts name) (HasLargeTable parts name) ⊥
+    (keys_fail (NamedTableCause false parts name) (HasLargeTable false parts name) ⊥
     (HasDoubleName parts name) (box_count range) 1 keys result
     c.in_err-keyed_rows_json.field-0.0 c.keyed_rows_json.ensures.large
     (never_empty 1 result (omega arith) c.keyed_rows_json.ensures.none)
     (err_at result _ _ c.in_err-keyed_rows_json.was c.keyed_rows_json.ensures.twice)
     c.in_err-keyed_rows_json.was
-    (large_of_data parts name table has range c.data.ensures)
+    (large_of_data false parts name table has range c.data.ensures)
     (λ none. omega (arith, none))
     (λ key fits some. double_of_data parts name table has range c.data.ensures keys named key fits))
 

@@ -13,13 +13,14 @@ returns-in_err-table-clause-err c =
     let parts = c.args.package.parts in
     let name = c.args.name.now in
     rw (handed.1, handed.2)
-    (refused_alike (NamedTableCause parts name) (HasLargeTable parts name) c.in_err-table.field-0.0
+    (refused_alike (NamedTableCause c.args.asked.shown parts name)
+    (HasLargeTable c.args.asked.shown parts name) c.in_err-table.field-0.0
     c.in_err-table.ensures.err)
 
 pub rows_csv-requires : goal.rows_csv-requires
 rows_csv-requires c = record {
   header =
-      header_of_data c.args.package.parts c.args.name.now c.in_ok-table.table
+      header_of_data c.args.asked.shown c.args.package.parts c.args.name.now c.in_ok-table.table
       c.in_ok-table.ensures.ok c.data.result.now c.deref.result.now c.data.ensures
       (ap (map string_bytes) c.deref.ensures.value ∙ c.in_ok-header.ensures);
 }
@@ -32,16 +33,18 @@ returns-in_err-rows_csv-clause-err c =
     let name = c.args.name.now in
     let range = c.data.result.now in
     rw (handed.1, handed.2)
-    (rows_fail (NamedTableCause parts name) (HasLargeTable parts name) (box_count range)
-    c.rows_csv.result c.in_err-rows_csv.field-0.0 c.rows_csv.ensures.large c.in_err-rows_csv.was
-    (large_of_data parts name c.in_ok-table.table c.in_ok-table.ensures.ok range c.data.ensures))
+    (rows_fail (NamedTableCause c.args.asked.shown parts name)
+    (HasLargeTable c.args.asked.shown parts name) (box_count range) c.rows_csv.result
+    c.in_err-rows_csv.field-0.0 c.rows_csv.ensures.large c.in_err-rows_csv.was
+    (large_of_data c.args.asked.shown parts name c.in_ok-table.table c.in_ok-table.ensures.ok range
+    c.data.ensures))
 
 pub returns-clause-ok : goal.returns-clause-ok
 returns-clause-ok c =
     let range = c.data.result.now in
     let rows = c.in_ok-rows_csv.field-0 in
-    records_of_data c.args.package.parts c.args.name.now c.in_ok-table.table
+    records_of_data c.args.asked.shown c.args.package.parts c.args.name.now c.in_ok-table.table
     c.in_ok-table.ensures.ok range c.deref.result.now rows.items c.data.ensures
-    (ap (map string_bytes) c.deref.ensures.value ∙ c.in_ok-header.ensures) c.args.options
+    (ap (map string_bytes) c.deref.ensures.value ∙ c.in_ok-header.ensures) c.args.asked.options
     (fits_by (box_count range) c.rows_csv.result rows c.rows_csv.ensures.large
     c.in_ok-rows_csv.was) c.in_ok-rows_csv.ensures.rows
