@@ -23,6 +23,10 @@ COMMANDS = [
     (["csv", "libreoffice"], "libreoffice", "libreoffice.csv"),
     (["precedents", "Sales"], "shared_formulas", "shared_formulas.precedents"),
     (["dependents", "Sales", "B4"], "shared_formulas", "shared_formulas.dependents"),
+    (["graph"], "graph", "graph.graph"),
+    (["order"], "graph", "graph.order"),
+    (["cycles"], "graph", "graph.cycles"),
+    (["dependents", "It's", "A1", "--all"], "graph", "graph.dependents"),
     (["check", "libreoffice"], "libreoffice", "libreoffice.check"),
     (["merges", "S"], "tables_links_and_merges", "tables_links_and_merges.merges"),
     (["links", "S"], "tables_links_and_merges", "tables_links_and_merges.links"),
@@ -31,6 +35,7 @@ COMMANDS = [
     (["tables"], "tables", "tables.tables"),
     (["table", "Sales"], "tables", "tables.table"),
     (["csv-table", "Sales"], "tables", "tables.csv_table"),
+    (["csv-table", "Sales", "--shown"], "tables", "tables.csv_table"),
     (["pivots"], "pivot_table", "pivot_table.pivots"),
     (["pivot", "Report", "Sold & paid"], "pivot_table", "pivot_table.pivot"),
 ]

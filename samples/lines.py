@@ -208,6 +208,32 @@ def comments():
     yield link("A7", None, "")
 
 
+def graph():
+    """Of each formula its cell, the areas that it names, and the words that are left open."""
+    for fields in (
+        ("'Plan'!A1", "'It''s'!A1:A1"),
+        ("'Plan'!B1", "'Plan'!B2:B2"),
+        ("'Plan'!C1", "~'Plan'!C1:C1", "?computed INDIRECT"),
+        ("'Plan'!D1",),
+        ("'Plan'!E1", "'Plan'!D2:D2", "?external [1]Old"),
+        ("'Plan'!A2", "'It''s'!A1:A2", "'Plan'!A1:A1"),
+        ("'Plan'!B2", "'Plan'!B1:B1", "'Plan'!A1:A1"),
+        ("'Plan'!A3", "'It''s'!C2:C3"),
+        ("'Plan'!A4", "'Plan':'It''s'!E1:E1"),
+        ("'It''s'!A2", "'Plan'!E1:E1"),
+    ):
+        yield "\t".join(fields) + "\n"
+
+
+def order():
+    """The same by rounds, of which a line here has one, and then those on a cycle."""
+    yield "'Plan'!A1\n'Plan'!C1\topen\n'Plan'!D1\n'Plan'!A3\n"
+    yield "'Plan'!E1\n"
+    yield "'Plan'!A4\n'It''s'!A2\n"
+    yield "'Plan'!A2\n"
+    yield "'Plan'!B1\tcycle\n'Plan'!B2\tcycle\n"
+
+
 def properties():
     made = MADE.strftime("%Y-%m-%dT%H:%M:%SZ")
     for name, text in (
@@ -331,6 +357,10 @@ LINES = {
     "shared_formulas.dependents": ["C4\n", "A8\n", "A9\n", "A10\n"],
     "comments": [line("B2", "n:3")],
     "comments.comments": comments(),
+    "graph.graph": graph(),
+    "graph.order": order(),
+    "graph.cycles": ["'Plan'!B1\t'Plan'!B2\n"],
+    "graph.dependents": ["'Plan'!A1\n", "'Plan'!B1\n", "'Plan'!A2\n", "'Plan'!B2\n"],
     "pivot_table.pivot": rows_of_pivot(),
     "pivot_table.pivots": ["Report\tSold & paid\n"],
     "tables.tables": tables(),

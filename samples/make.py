@@ -261,6 +261,44 @@ def comments():
     (HERE / "comments.xlsx").write_bytes(archive(COMMENTS))
 
 
+# Formulas over two sheets: of a defined name, a table, two sheets at once, another file and a
+# computed reference, an array over two cells, and two that need each other.
+GRAPH = {
+    **with_sheets(
+        ('name="Plan" sheetId="1"', "worksheet"),
+        ('name="It\'s" sheetId="2"', "worksheet"),
+        names='<definedName name="Rate">\'It\'\'s\'!$A$1</definedName>',
+    ),
+    "xl/worksheets/sheet1.xml": (
+        '<worksheet><sheetData><row r="1"><c r="A1"><f>Rate*2</f><v>3</v></c>'
+        '<c r="B1"><f>B2</f><v>0</v></c><c r="C1"><f>INDIRECT("A1")+ROWS(C$1:C1)</f><v>4</v></c>'
+        '<c r="D1"><f t="array" ref="D1:D2">{1;2}</f><v>1</v></c>'
+        '<c r="E1"><f>D2+[1]Old!A1</f><v>2</v></c></row>'
+        """<row r="2"><c r="A2"><f>SUM('It''s'!A1:A2)+A1</f><v>6.5</v></c>"""
+        '<c r="B2"><f>B1+A1</f><v>0</v></c><c r="D2"><v>2</v></c></row>'
+        '<row r="3"><c r="A3"><f>SUM(sums[qty])</f><v>7</v></c></row>'
+        """<row r="4"><c r="A4"><f>SUM('Plan:It''s'!E1)</f><v>2</v></c></row>"""
+        "</sheetData></worksheet>"
+    ),
+    "xl/worksheets/sheet2.xml": (
+        '<worksheet><sheetData><row r="1"><c r="A1"><v>1.5</v></c>'
+        '<c r="C1" t="str"><v>Qty</v></c></row><row r="2"><c r="A2"><f>Plan!E1</f><v>2</v></c>'
+        '<c r="C2"><v>3</v></c></row><row r="3"><c r="C3"><v>4</v></c></row></sheetData>'
+        '<tableParts count="1"><tablePart r:id="rId1"/></tableParts></worksheet>'
+    ),
+    "xl/worksheets/_rels/sheet2.xml.rels": relationships(("table", "../tables/table1.xml")),
+    "xl/tables/table1.xml": (
+        '<table id="1" name="Sums" displayName="Sums" ref="C1:C3"><tableColumns count="1">'
+        '<tableColumn id="1" name="Qty"/></tableColumns></table>'
+    ),
+}
+
+
+def graph():
+    """Formulas that name cells of two sheets."""
+    (HERE / "graph.xlsx").write_bytes(archive(GRAPH))
+
+
 # Comma-separated values, as LibreOffice opens them.
 VALUES = '''\
 name,amount,date
@@ -292,6 +330,7 @@ def main():
     tables()
     pivot_table()
     comments()
+    graph()
     libreoffice()
 
 

@@ -10,13 +10,11 @@ and of answers are counted, all of them; of code, clauses, definitions and proof
 neither empty nor a comment, without tests and without what code imports for its clauses.
 """
 
-import pathlib
-import re
 import sys
 from collections import Counter
-from dataclasses import dataclass
 
-TOP = pathlib.Path(__file__).resolve().parent.parent
+from sources import TOP, crates, functions_of, in_clauses, is_of_tests
+
 # What is to be long at most: a function with its head, a file and a line.
 FUNCTION_LINES = 40
 FILE_LINES = 800
@@ -24,70 +22,7 @@ COLUMNS = 100
 # The first and the last of the crates that read parts.
 READERS = ("xlsx_sections", "xlsx_core")
 
-HEAD = re.compile(r"( *)(?:pub(?:\([^)]*\))? )?(?:const |unsafe )*fn (\w+)")
-CLAUSE = re.compile(r"\s*(?:ensures|requires)\b")
-QUOTED = re.compile(r'"(?:[^"\\]|\\.)*"|\'(?:[^\'\\]|\\.)\'')
 KINDS = ("code", "clauses", "specs", "proofs", "long")
-
-
-@dataclass
-class Function:
-    """A function that has a body, and the numbers of lines of its head and of its body."""
-
-    name: str
-    head: int
-    body: int
-
-
-def functions_of(code):
-    """The functions of a source that have a body. A brace around it that is alone is no line."""
-    lines = code.splitlines()
-    begun = opened = None
-    for number, line in enumerate(lines):
-        if begun is None and (found := HEAD.match(line)):
-            begun, opened, depth = number, None, 0
-            indent, name = found.groups()
-        if begun is None:
-            continue
-        own = line.startswith(indent) and not line.startswith(indent + " ")
-        depth += line.count("{") - line.count("}")
-        if opened is None and depth == 0 and line.endswith(";"):
-            begun = None
-        elif own and line.endswith("}"):
-            last = number if opened is None else opened
-            alone = lines[last].strip() in ("{", "{}")
-            yield Function(name, last - begun + (not alone), max(0, number - last - 1))
-            begun = None
-        elif own and line.endswith("{"):
-            opened = number
-
-
-def in_clauses(rows):
-    """The numbers of the rows of clauses, each of which goes on to where its braces are closed."""
-    found = set()
-    depth, inside, opened = 0, False, False
-    for number, row in enumerate(rows):
-        if CLAUSE.match(row):
-            depth, inside, opened = 0, True, False
-        elif not inside or not opened and row.strip() in ("{", "{}"):
-            inside = False
-            continue
-        found.add(number)
-        bare = QUOTED.sub("", row)
-        depth += bare.count("{") - bare.count("}")
-        opened = opened or "{" in bare
-        inside = depth > 0 if opened else not bare.rstrip().endswith(";")
-    return found
-
-
-def crates(top=TOP):
-    """The crates that are no tests, in the order of crates.txt, each with those it stands on."""
-    for line in (top / "crates.txt").read_text(encoding="utf-8").splitlines():
-        if line.startswith("# tests"):
-            return
-        name, colon, below = line.split("#")[0].partition(":")
-        if colon:
-            yield name.split()[0], below.split()
 
 
 def sources(folder, *ends):
@@ -95,10 +30,6 @@ def sources(folder, *ends):
     for path in sorted(folder.rglob("*")):
         if path.suffix in ends and path.relative_to(folder).parts[0] in ("src", "specs", "proofs"):
             yield path, path.read_text(encoding="utf-8")
-
-
-def is_of_tests(path):
-    return path.stem.endswith("tests")
 
 
 def lines_of(folder):
@@ -165,7 +96,8 @@ def printed(top=TOP):
     for name in names:
         for path, code in sources(top / "crates" / name, ".rt"):
             files.append(len(code.splitlines()))
-            functions += [] if is_of_tests(path) else functions_of(code)
+            if not is_of_tests(path):
+                functions += [own for own in functions_of(code) if own.body is not None]
     yield from of_heads(functions)
     over = sum(own.head + own.body > FUNCTION_LINES for own in functions)
     yield f"functions over {FUNCTION_LINES} lines with their heads: {over}"

@@ -13,7 +13,8 @@ import sys
 import textwrap
 from dataclasses import dataclass
 
-TOP = pathlib.Path(__file__).resolve().parent.parent
+from sources import TOP, comment_above, floors
+
 DEFINED = re.compile(r"^(?:abbrev |unfoldable )*pub (?!mod |use )(?:record |data )?([^\s:(]+)")
 WIDTH = 100
 
@@ -28,30 +29,15 @@ class Definition:
     comment: str
 
 
-def crates(top=TOP):
-    """The names of the crates, in the order of crates.txt."""
-    table = (top / "crates.txt").read_text(encoding="utf-8").splitlines()
-    lines = (line.split("#")[0].partition(":") for line in table)
-    return [name.split()[0] for name, colon, _ in lines if colon]
-
-
-def comment_above(rows, place):
-    """The comment whose last row stands before a place."""
-    first = place
-    while first > 0 and rows[first - 1].startswith("--"):
-        first -= 1
-    return " ".join(row.removeprefix("--").strip() for row in rows[first:place])
-
-
 def definitions(top=TOP):
     """The public definitions of all crates, lowest crate first, in the order of their files."""
-    for crate in crates(top):
+    for _, crate, _ in floors(top):
         for path in sorted((top / "crates" / crate / "specs").glob("**/*.antt")):
             rows = path.read_text(encoding="utf-8").split("\n")
             for place, row in enumerate(rows):
                 found = DEFINED.match(row)
                 if found:
-                    own = comment_above(rows, place)
+                    own = comment_above(rows, place, "--").replace("\n", " ")
                     yield Definition(crate, path.relative_to(top), found[1], own)
 
 

@@ -27,13 +27,14 @@ def calls_on(sheet):
         yield None, [(word, sheet)]
     for word in ["merges_at", "lenient_at", "links_at"]:
         yield None, [(word, 0)]
-    for word in ["worksheets", "properties", "pivots", "load_tables"]:
+    for word in ["worksheets", "formulas", "properties", "pivots", "load_tables"]:
         yield None, [(word,)]
     for word in STREAMS:
         yield None, [("cells", sheet, *[word] * MANY)]
     yield None, [("load_regions",), ("regions",)]
     yield ("load_tables",), [("table", "T1")]
     yield ("load_tables",), [("table_ref", "T1")]
+    yield ("load_tables",), [("table_shown", "T1")]
     yield ("pivots",), [("pivot_rows", sheet, "P1")]
 
 

@@ -342,6 +342,33 @@ class Tables(unittest.TestCase):
             )
 
     @checked
+    def test_data_of_tables_are_shown(self):
+        styles = (
+            "xl/styles.xml",
+            '<styleSheet><numFmts><numFmt numFmtId="164" formatCode="#,##0.00"/></numFmts>'
+            '<cellXfs><xf numFmtId="164"/><xf numFmtId="9"/></cellXfs></styleSheet>',
+        )
+        sheet = with_data(
+            '<c r="A2"><v>-1234.5</v></c><c r="B3" s="1"><v>0.285</v></c><c r="C3"><v>1</v></c>'
+        )
+        beside = BESIDE, related(("table", "../tables/table1.xml"))
+        own = package(*LEADING, styles, (SHEET_NAME, sheet), beside, (TABLE_NAME, TABLE))
+        for row, cells in (
+            ("first", "(1,0 s:-1,234.50)(2,1 s:29%)"),
+            ("2", "(2,1 s:29%)"),
+            ("7", ""),
+        ):
+            yield opened(
+                row,
+                own,
+                (("header", row), ""),
+                (("table_shown", "T1"), "not loaded"),
+                (("load_tables",), ""),
+                (("table_shown", "T1"), f"T1 S(1,0)-(2,1) Name Qty;{cells}"),
+                (("table_shown", "T2"), '!TableNotFound("T2")'),
+            )
+
+    @checked
     def test_tables_have_their_whole_areas_and_counts(self):
         for table, wanted in tables("tables")[4]:
             yield opened(
@@ -709,6 +736,48 @@ class Ranges(unittest.TestCase):
     def test_absent_sheets_are_told(self):
         for words in [("range", "S"), ("formula", "S"), ("cells", "S", *NINE_VALUES)]:
             yield opened(words[0], package(*LEADING), (words, not_found("S")))
+
+
+# Three sheets with parts of their own, of which the third has the name of the first.
+APART = [
+    ROOT,
+    sheet_ids("one", "two", "three"),
+    (WORKBOOK_NAME, book_of(("S", "one"), ("T", "two"), ("S", "three"))),
+]
+
+
+def with_formula(text):
+    """The part of a sheet with this formula in A1."""
+    return with_data(f'<c r="A1"><f>{text}</f></c>')
+
+
+class Formulas(unittest.TestCase):
+    @checked
+    def test_formulas_of_all_sheets_have_the_areas_that_they_cover(self):
+        for cells, wanted in tables("formulas")[0]:
+            calls = (("formulas",), wanted), (("sheets",), "1"), (("formulas",), wanted)
+            yield opened(cells, smallest((SHEET_NAME, with_data(cells))), *calls)
+
+    @checked
+    def test_sheets_of_one_name_have_their_own_formulas(self):
+        ends = ("xl/one.xml", with_formula(1)), ("xl/three.xml", with_formula(3))
+        for sheet, wanted in tables("formulas")[1]:
+            own = package(*APART, ("xl/two.xml", sheet), *ends)
+            yield opened(sheet, own, (("formulas",), wanted), (("faults",), "0"))
+
+    @checked
+    def test_a_sheet_without_a_part_has_no_formulas(self):
+        own = package(*APART, ("xl/three.xml", with_formula(3)))
+        yield opened("one part of three", own, (("formulas",), "2 (0,0) (0,0)-(0,0) =3;"))
+
+    @checked
+    def test_the_first_sheet_that_is_refused_refuses_the_formulas(self):
+        ends = ("xl/one.xml", with_formula(1)), ("xl/three.xml", with_data('<c r="A"/>'))
+        wanted = "!RangeWithoutRowComponent"
+        yield opened("the third", package(*APART, *ends), (("formulas",), wanted))
+        two = "xl/two.xml", with_data('<c r="1"/>')
+        wanted = "!RangeWithoutColumnComponent"
+        yield opened("two of three", package(*APART, two, *ends), (("formulas",), wanted))
 
 
 def sample_lines(rows):

@@ -1,27 +1,17 @@
 """Tries the documents against what they cite: names, clauses, edits, tests, files and sections."""
 
-import pathlib
 import re
 import unittest
 
+from clauses import edits
+from counts import COLUMNS
 from definitions import definitions
+from sources import TEST, TOP, WORD, functions_of, text
+from test_program import help_page
+from words import COMMANDS
 
-TOP = pathlib.Path(__file__).resolve().parent.parent
 DOCUMENTS = [TOP / "README.md", TOP / "CONTRIBUTING.md", *sorted((TOP / "docs").glob("*.md"))]
 PROMISES = [TOP / "docs" / "PROMISES.md", TOP / "docs" / "CLAUSES.md"]
-# Crates of tests, whose functions promise nothing.
-OF_TESTS = {
-    "test_packages",
-    "test_tables",
-    "worked_checks",
-    "worked_graph",
-    "worked_precedents",
-    "worked_shown",
-    "worked_styles",
-    "worked_values",
-    "worked_writing",
-}
-
 # The newest list that a part says, which is a command, too, and the newest kind of value, by its
 # name in code and in the definitions.
 NEWEST_LIST = "comments"
@@ -32,21 +22,8 @@ NEWEST_VALUE = ("DateTimeIso", "iso_time")
 OF_EACH = ("ARCHITECTURE", "CLAUSES", "FORMAT", "PROMISES", "USING")
 
 QUOTED = re.compile(r"`([^`\n]+)`")
-WORD = re.compile(r"[A-Za-z_][A-Za-z0-9_]*")
 NAME = re.compile(r"[A-Za-z_][A-Za-z0-9_]*(?:(?:::|\.)[A-Za-z_][A-Za-z0-9_]*)*(?:\(\))?")
-EXPORTED = re.compile(r"^pub use (?:\w+::)*(\{[^}]*\}|\w+);", re.M)
-# A function with its indentation, and the type of the block that it stands in.
-FUNCTION = re.compile(r"^( *)pub (?:const )?fn (\w+)", re.M)
-BLOCK = re.compile(r"^(?:impl\b.*|pub trait (\w+).*)\{$|^impl\b[^{;]*$", re.M)
-ANY_FUNCTION = re.compile(r"\bfn (\w+)")
-CLAUSE = re.compile(r"^\s*ensures\*?(?: (\w+))?\s*(?=\{|$)", re.M)
 RECORD = re.compile(r"^pub record (\w+)((?:.*\n)(?: .*\n|\n(?= ))*)", re.M)
-TEST = re.compile(r"#\[test\]\s*(?:#\[[^\]]*\]\s*)*fn (\w+)")
-
-
-def text(path):
-    return path.read_text(encoding="utf-8")
-
 
 def rows_of(document):
     """The rows of a document's tables, each as its cells."""
@@ -59,6 +36,21 @@ def names_behind(words, cell):
     """The quoted names of a cell that stand in a list behind one of these words."""
     for listed in re.findall(rf"\b(?:{words})((?:(?:,| and|, and)? ?`\w+`)+)", cell):
         yield from QUOTED.findall(listed)
+
+
+def commands_of(document):
+    """The rows of the table of commands of a document, each by its first two cells."""
+    rows = [cells for cells in rows_of(document) if len(cells) > 1]
+    begun = next(at for at, cells in enumerate(rows) if cells[0] in ("command", "words"))
+    for cells in rows[begun + 1 :]:
+        if QUOTED.match(cells[0]) is None or cells[0].startswith("`--"):
+            return
+        yield cells[0], cells[1]
+
+
+def bare(words):
+    """A command with what it takes, without its options."""
+    return re.sub(r" (?:\[.*|--.*)", "", words.strip("`"))
 
 
 def sources_in(folder):
@@ -77,7 +69,7 @@ class Documents(unittest.TestCase):
     def setUpClass(cls):
         cls.code = {path: text(path) for path in sources()}
         cls.crates = {path.name for path in (TOP / "crates").iterdir()}
-        cls.edits = {path.stem for path in (TOP / "crates").rglob("*.edit")}
+        cls.edits = {own.name for own in edits()}
         cls.tests = {name for one in cls.code.values() for name in TEST.findall(one)}
         cls.words = {word for one in cls.code.values() for word in WORD.findall(one)}
         cls.words |= cls.crates | cls.edits
@@ -101,9 +93,6 @@ class Documents(unittest.TestCase):
         """All that the promises quote."""
         return [quoted for document in PROMISES for quoted in QUOTED.findall(text(document))]
 
-    def test_every_edit_is_told_of_in_the_promises(self):
-        self.assertEqual(sorted(self.edits - set(self.promised())), [])
-
     def test_every_name_that_the_promises_cite_is_there(self):
         for quoted in self.promised():
             if NAME.fullmatch(quoted) and not quoted.endswith("NAME"):
@@ -112,6 +101,20 @@ class Documents(unittest.TestCase):
     def test_every_definition_says_what_it_is(self):
         bare = [f"{own.path}: {own.name}" for own in definitions() if not own.comment]
         self.assertEqual(bare, [])
+
+    def test_lines_of_documents_are_short(self):
+        for document in (*DOCUMENTS, TOP / "samples" / "README.md"):
+            for line in text(document).splitlines():
+                if not line.startswith("|"):
+                    self.assertLessEqual(len(line), COLUMNS, f"{document.name}: {line}")
+
+    def test_every_definition_that_the_page_of_formats_names_is_there(self):
+        defined = {own.name for own in definitions()} | {own.path.stem for own in definitions()}
+        page = text(TOP / "docs" / "FORMAT.md")
+        told = re.findall(r"Definitions?:((?:[^.]|\.(?! |\n|$))*)", page)
+        named = [name for sentence in told for name in QUOTED.findall(sentence)]
+        self.assertEqual([name for name in named if name not in defined], [])
+        self.assertGreater(len(named), 40)
 
     def test_every_file_that_a_document_names_is_there(self):
         for document in DOCUMENTS:
@@ -122,14 +125,13 @@ class Documents(unittest.TestCase):
                 self.assertTrue((document.parent / link).exists(), f"{document.name}: {link}")
 
     def clauses(self):
-        """For each name of a function, the labels of the clauses of all functions of that name."""
+        """For each name of a function, the labels of the clauses of all functions of that name, and
+        with them those of the laws of its `impl`."""
         found = {}
         for path, code in self.code.items():
-            begun = [*ANY_FUNCTION.finditer(code)] if path.suffix == ".rt" else []
-            ends = [one.start() for one in begun[1:]] + [len(code)]
-            for one, end in zip(begun, ends):
-                labels = (label or "ensures" for label in CLAUSE.findall(code, one.start(), end))
-                found.setdefault(one.group(1), set()).update(labels)
+            for own in functions_of(code) if path.suffix == ".rt" else ():
+                labels = {label or "ensures" for ensured, label, _ in own.clauses if ensured}
+                found.setdefault(own.name, set()).update(labels)
         return found
 
     def fields(self):
@@ -155,28 +157,21 @@ class Documents(unittest.TestCase):
             if of_calls and not re.search("the calls of|every call|^these", cell):
                 self.assertEqual(labels - of_calls - held, set(), cell)
 
-    def exported(self, crate):
-        """The names that a crate hands out."""
-        root = self.code.get(TOP / "crates" / crate / "src" / "lib.rt", "")
-        return {word for names in EXPORTED.findall(root) for word in WORD.findall(names)}
-
-    def public_functions(self, crate):
-        """The functions that a crate hands out, and the methods of its types."""
-        handed = self.exported(crate)
-        for path, code in self.code.items():
-            if path.parent != TOP / "crates" / crate / "src" or path.stem.endswith("tests"):
-                continue
-            for found in FUNCTION.finditer(code):
-                indent, name = found.groups()
-                block = [one.group(0) for one in BLOCK.finditer(code, 0, found.start())][-1:]
-                if name in handed if not indent else handed & set(WORD.findall("".join(block))):
-                    yield name
-
-    def test_every_public_function_is_in_the_promises(self):
-        told = set(WORD.findall(" ".join(self.promised())))
-        for crate in sorted(self.crates - OF_TESTS):
-            with self.subTest(crate=crate):
-                self.assertEqual(sorted(set(self.public_functions(crate)) - told), [])
+    def test_each_command_has_its_row_and_its_lines(self):
+        form, readme = (dict(commands_of(TOP / name)) for name in ("docs/FORMAT.md", "README.md"))
+        spelled = {" ".join((own.word, *own.parameters)) for own in COMMANDS.values()}
+        self.assertEqual({bare(words) for words in form}, spelled)
+        # README has some commands side by side, and some by what alone ./xlsx takes.
+        named = {words for row in readme for words in QUOTED.findall(row)}
+        self.assertEqual(spelled - {bare(words) for words in named}, set())
+        self.assertEqual({words.split()[0] for words in named} - set(COMMANDS), set())
+        page = help_page()
+        usage = re.findall(r"xlsx_tool (.*?)(?: < INPUT)?$", page, re.M)
+        self.assertEqual([f"`{words}`" for words in usage], list(form))
+        lines = " ".join(page.split())
+        for words, told in form.items():
+            word = words.strip("`").split()[0]
+            self.assertIn(f" {word} {told}", lines)
 
     def sought(self):
         """The files in which a command, a list, a kind of value and an escape have their places:

@@ -51,9 +51,11 @@ def section(title):
     return re.search(rf"^## {title}\n(.*?)(?=^## |\Z)", FORMAT, re.MULTILINE | re.DOTALL)[1]
 
 
-def page(words):
-    """What the page of formats says that these words print."""
-    return re.search(rf"`{words}` prints\n\n```\n(.*?)```\n", FORMAT, re.DOTALL)[1].encode()
+def help_page():
+    """The page of help, as the program's source has it: tools/test_documents.py compares that with
+    the page of formats."""
+    source = (TOP / "crates" / "xlsx_tool" / "src" / "program.rt").read_text(encoding="utf-8")
+    return re.search(r'^const HELP: &str = "\\\n(.*?)";$', source, re.MULTILINE | re.DOTALL)[1]
 
 
 # The first text of each status, but for those of a workbook that can't be opened, and all of them.
@@ -173,8 +175,9 @@ class Edge:
         self.assertEqual(self.run_on(PACKAGE), (0, LINES, b""))
 
     def test_pages(self):
-        self.assertEqual(self.run_on(b"", ["--help"]), (0, page("--help"), b""))
-        self.assertEqual(self.run_on(b"", ["--version"]), (0, page("--version"), b""))
+        self.assertEqual(self.run_on(b"", ["--help"]), (0, help_page().encode(), b""))
+        version = re.search(r"`--version` prints `([^`]+)`", FORMAT)[1]
+        self.assertEqual(self.run_on(b"", ["--version"]), (0, f"{version}\n".encode(), b""))
 
     def test_words_that_are_no_command(self):
         for words in ([], ["cells"], ["cells", "S", "S"], ["cell", "S"], ["Cells", "S"], [""]):

@@ -30,6 +30,10 @@ LINES = {
     "dates_1904": ["cells", "Dates"],
     "dates_1904.csv": ["csv", "Dates", "--digits=15", "--dates"],
     "dates_1904.csv_shown": ["csv", "Dates", "--shown"],
+    "graph.cycles": ["cycles"],
+    "graph.dependents": ["dependents", "It's", "A1", "--all"],
+    "graph.graph": ["graph"],
+    "graph.order": ["order"],
     "inline_strings": ["cells", "S"],
     "libreoffice": ["cells", "libreoffice"],
     "libreoffice.check": ["check", "libreoffice"],
@@ -170,7 +174,7 @@ class Samples(unittest.TestCase):
                     self.assertEqual(told_by_events(part["events"]), wanted, part["name"])
 
     def test_all_samples_fit(self):
-        self.assertEqual(len(WORKBOOKS), 13)
+        self.assertEqual(len(WORKBOOKS), 14)
         for path in WORKBOOKS:
             self.assertLess(len(package_text(path)), LIMIT)
 

@@ -12,13 +12,14 @@ from noted import SHEET_NAME, STRINGS_NAME, package_with, with_data
 from test_dates import DATED
 from test_program import BUILDS, OUT
 from test_rows import cell, texts
+from test_tables import RELATED, TABLE_NAME, table
 
 TABLE = pathlib.Path(__file__).resolve().parent.parent / "crates/worked_shown/src/text_tests.rt"
 
 # A workbook reads a number under a code of dates as a date, and this one shows the two otherwise.
 NUMBERS_ALONE = ["[$-407]d. mmmm yyyy"]
 
-# Words beside which what is shown isn't asked for, and one command that doesn't take it.
+# Words beside which what is shown isn't asked for, and commands that don't take it.
 REFUSED = [
     ["csv", "S", "--shown", "--shown"],
     ["csv", "S", "--shown", "--dates"],
@@ -27,7 +28,12 @@ REFUSED = [
     ["csv", "S", "--digits=3", "--bom", "--shown"],
     ["csv", "S", "--Shown"],
     ["csv", "S", "--shown=1"],
-    ["csv-table", "T", "--shown"],
+    ["csv-table", "T", "--shown", "--shown"],
+    ["csv-table", "T", "--shown", "--dates"],
+    ["csv-table", "T", "--digits=3", "--shown"],
+    ["csv-table", "T", "--shown", "--from-a1"],
+    ["rows-table", "T", "--json", "--shown"],
+    ["table", "T", "--shown"],
     ["cells", "S", "--shown"],
 ]
 
@@ -111,6 +117,55 @@ ROWS = [
 ]
 
 
+# What a case shows, the codes of the styles of a sheet, its data, and the records of its table T1,
+# whose columns are Name and Qty and whose data lie in A2:B3.
+OF_TABLES = [
+    (
+        "each value under the style of its own cell",
+        ["General", "#,##0.00", "0%"],
+        cell("A2", "1234.5", ' s="1"') + cell("B2", "0.285", ' s="2"') + cell("B3", "5"),
+        'Name,Qty\n"1,234.50",29%\n,5\n',
+    ),
+    (
+        "nothing of what stands beside it",
+        ["0.00"],
+        cell("A1", "1") + cell("C2", "2") + cell("B3", "2.675") + cell("A4", "3"),
+        "Name,Qty\n,\n,2.68\n",
+    ),
+    (
+        "the last value of a position, under its own style",
+        ["0", "0.0", "0%"],
+        cell("A2", "1", ' s="1"') + cell("A2", "2", ' s="2"') + '<c r="A2" s="0"/>',
+        "Name,Qty\n200%,\n,\n",
+    ),
+    (
+        "a style id that no style has",
+        ["0.00"],
+        cell("A2", "5", ' s="7"') + cell("B2", "12345678901.9", ' s="7"'),
+        "Name,Qty\n5,12345678902\n,\n",
+    ),
+    (
+        "texts, a truth value and an error",
+        ['"<"@">"'],
+        '<c r="A2" t="s"><v>1</v></c>' + cell("B2", "1", ' t="b"') + cell("A3", "#N/A", ' t="e"'),
+        "Name,Qty\n<bolt>,<TRUE>\n#N/A,\n",
+    ),
+    ("a text that is shown empty", ["0;;"], cell("A2", "-5"), "Name,Qty\n,\n,\n"),
+    (
+        "a date",
+        ["dd.mm.yyyy", "h:mm AM/PM"],
+        cell("A2", "45657") + cell("B2", "0.5451388888888889", ' s="1"'),
+        "Name,Qty\n31.12.2024,1:05 PM\n,\n",
+    ),
+    (
+        "a formula that csv refuses",
+        ["0.0"],
+        cell("A2", "1") + '<c r="C1"><f t="shared">A1</f></c>',
+        "Name,Qty\n1.0,\n,\n",
+    ),
+]
+
+
 class Shown(unittest.TestCase):
     def check(self, package, words, wanted, shown):
         for build in BUILDS:
@@ -166,6 +221,54 @@ class Shown(unittest.TestCase):
         wanted = b"\xef\xbb\xbf;\r\n;1,234.50\r\n"
         for options in (words, words[::-1]):
             self.check(package, ["csv", "S", *options], (0, wanted, b""), options)
+
+    def test_tables_are_shown(self):
+        for shown, codes, data, wanted in OF_TABLES:
+            package = package_with(
+                (SHEET_NAME, with_data(data)), STRINGS, styles_of(codes), RELATED,
+                (TABLE_NAME, table()),
+            )
+            self.check(package, ["csv-table", "T1", "--shown"], (0, wanted.encode(), b""), shown)
+
+    def test_options_of_tables_stand_beside_it(self):
+        data = cell("A2", "1234.5") + cell("B2", "1")
+        package = package_with(
+            (SHEET_NAME, with_data(data)), styles_of(["#,##0.00"]), RELATED, (TABLE_NAME, table())
+        )
+        words = ["--delimiter=;", "--shown", "--crlf", "--bom"]
+        wanted = b"\xef\xbb\xbfName;Qty\r\n1,234.50;1.00\r\n;\r\n"
+        for options in (words, words[::-1]):
+            self.check(package, ["csv-table", "T1", *options], (0, wanted, b""), options)
+
+    def test_tables_without_data_are_shown(self):
+        chart = (SHEET_NAME, "<chartsheet/>")
+        for part, sheet, wanted in (
+            (table(), chart, b"Name,Qty\n,\n,\n"),
+            (table(ref="A1:B2"), chart, b"Name,Qty\n"),
+        ):
+            package = package_with(RELATED, (TABLE_NAME, part), sheet)
+            self.check(package, ["csv-table", "T1", "--shown"], (0, wanted, b""), part)
+
+    def test_tables_are_refused_as_without_it(self):
+        refused = '<c r="A1" t="q"><v>1</v></c>'
+        styled = '<c r="A1" s="x"><v>1</v></c>'
+        for name, data, ends in (
+            ("T1", refused, (False, False)),
+            ("T2", "", (False, False)),
+            ("T1", styled, (True, False)),
+        ):
+            package = package_with((SHEET_NAME, with_data(data)), RELATED, (TABLE_NAME, table()))
+            for build in BUILDS:
+                runs = [
+                    subprocess.run(
+                        [OUT / build, "csv-table", name, *options],
+                        input=package, capture_output=True,
+                    )
+                    for options in ([], ["--shown"])
+                ]
+                self.assertEqual(tuple(ran.returncode == 0 for ran in runs), ends, data)
+                if ends == (False, False):
+                    self.assertEqual(runs[0].stderr, runs[1].stderr, data)
 
     def test_it_is_asked_for_alone(self):
         for words in REFUSED:

@@ -3,14 +3,11 @@ asked for by a number, and what bounds that, that each public type with `==` or 
 that functions and files are short enough to be read, and that each example in a doc comment is
 code."""
 
-import pathlib
 import re
 import unittest
 
-from counts import FILE_LINES, FUNCTION_LINES, functions_of
-
-TOP = pathlib.Path(__file__).resolve().parent.parent
-OF_TESTS = re.compile(r"(worked|test)_\w+")
+from counts import FILE_LINES, FUNCTION_LINES
+from sources import OF_TESTS, TOP, exported, functions_of, in_clauses, text
 
 # Where want of memory is told of beside the conversions from the kit's own, and why it can be
 # nothing else there: a file, its function and the lines that say so.
@@ -18,6 +15,7 @@ PASSED_ON = "a refusal of memory is passed on"
 OF_WRITER = "a writer into memory fails only where memory is wanting"
 TOLD = {
     ("attr_text/fault.rt", "fmt", 1): "its text",
+    ("graph_reading/error.rt", "from", 2): PASSED_ON,
     ("inflate/fault.rt", "fmt", 1): "its text",
     ("inflate/stream.rt", "error_of", 1): PASSED_ON,
     ("input_package/input.rt", "into_memory", 1): PASSED_ON,
@@ -31,7 +29,7 @@ TOLD = {
     ("workbook_file/workbook_file.rt", "open_part", 1): PASSED_ON,
     ("xlsx_areas/merged_parts.rt", "merges_or_none", 1): PASSED_ON,
     ("xlsx_commands/error.rt", "fmt", 1): "its text",
-    ("xlsx_commands/error.rt", "from", 3): PASSED_ON,
+    ("xlsx_commands/error.rt", "from", 4): PASSED_ON,
     ("xlsx_commands/error.rt", "status", 1): "its status",
     ("xlsx_commands/resaved_file.rt", "file_of", 1): PASSED_ON,
     ("xlsx_commands/upgraded_text.rt", "upgraded_text", 1): PASSED_ON,
@@ -77,7 +75,8 @@ RESERVED = {
     ("xlsx_graph/leaves.rt", "places", 1): OF_FORMULAS,
     ("xlsx_graph/workbook_graph.rt", "asking", 1): OF_FORMULAS,
     ("xlsx_precedents/index.rt", "gather", 1): OF_FORMULAS,
-    ("xlsx_precedents/numbers.rt", "no_numbers", 1): "the blocks of a worksheet, 1,024",
+    ("xlsx_precedents/spans.rt", "numbered", 1): "the areas of formulas that are held",
+    ("xlsx_precedents/spans.rt", "spans_of", 1): "the areas of formulas that are held",
     ("xlsx_tool/sink.rt", "new", 1): "the room of a sink of tests, which its caller names",
 }
 
@@ -88,17 +87,12 @@ CONVERSION = re.compile(
 )
 ENUM = re.compile(r"^pub enum \w+ \{$.*?^\}$", re.M | re.S)
 CLAUSE = re.compile(r"^\s*(?:ensures|requires|ghost)\b")
-EXPORTED = re.compile(r"^pub use (?:crate::)?(?:\w+::)*(\{[^}]*\}|\w+);", re.M)
 TYPE = re.compile(r"^((?:#\[.*\]\n)*)pub (?:struct|enum) (\w+)", re.M)
 WRITTEN = re.compile(r"^impl\b.*?\b(PartialEq|Clone) for (\w+)", re.M)
 LAW = re.compile(r"⟦<(\w+)(?:<[^⟧]*>)? as (PartialEq|Clone)>⟧")
 # What a line of a doc comment begins with, and the line before and behind an example.
 DOCS = ("///", "//!")
 FENCE = "/// ```"
-
-
-def text(path):
-    return path.read_text(encoding="utf-8")
 
 
 def crates():
@@ -113,21 +107,10 @@ def without(pattern, code):
 
 
 def without_clauses(code):
-    """The code without comments and contracts, each of which is closed by its own brace."""
-    kept = []
-    depth = 0
-    for line in code.splitlines():
-        line = re.sub(r"//.*", "", line)
-        if depth == 0 and not CLAUSE.match(line):
-            kept.append(line)
-            continue
-        if "{" not in line and depth == 0:
-            depth = 0 if line.rstrip().endswith(";") else 1
-            kept.append("")
-            continue
-        depth = max(0, depth) + line.count("{") - line.count("}")
-        kept.append("")
-    return "\n".join(kept)
+    """The code without comments and contracts, line for line."""
+    rows = [re.sub(r"//.*", "", line) for line in code.splitlines()]
+    left_out = in_clauses(rows, CLAUSE)
+    return "\n".join("" if number in left_out else row for number, row in enumerate(rows))
 
 
 def tells_of_memory(line):
@@ -173,14 +156,6 @@ def places(of):
             if not path.stem.endswith("tests"):
                 found |= of(f"{folder.name}/{path.name}", text(path))
     return found
-
-
-def exported(root):
-    return {
-        name
-        for listed in EXPORTED.findall(root)
-        for name in re.findall(r"\w+", listed)
-    }
 
 
 def bare_lines(path):
@@ -239,7 +214,8 @@ class Sources(unittest.TestCase):
                 name = f"{folder.name}/{path.name}"
                 self.assertLessEqual(len(code.splitlines()), FILE_LINES, name)
                 if not path.stem.endswith("tests"):
-                    found += [(name, own.name, own.head + own.body) for own in functions_of(code)]
+                    own_lines = [(own.name, own.head + (own.body or 0)) for own in functions_of(code)]
+                    found += [(name, *own) for own in own_lines]
         self.assertGreater(len(found), 1500)
         self.assertEqual([own for own in found if own[-1] > FUNCTION_LINES], [])
 

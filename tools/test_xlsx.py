@@ -338,6 +338,13 @@ class Wrapper(FrontCopy):
             (["book.xlsx", "pivot"], f"pivot takes {sheet}, and the name of a pivot table"),
             (["dependents", "S"], f"dependents takes {sheet}, {reference}, and not 'S'"),
             (["book.xlsx", "dependents"], f"dependents takes {sheet}, {reference}"),
+            (["book.xlsx", "graph", "S"], "graph takes no further words"),
+            (["book.xlsx", "order", "--json"], "order takes no option '--json'"),
+            (["book.xlsx", "cycles", "--all", "x"], "cycles takes no option '--all'"),
+            (
+                ["book.xlsx", "dependents", "A1", "--all", "--all"],
+                "--all stands twice behind dependents",
+            ),
             (["book.xlsx", "cells", "--dates"], "cells takes no option '--dates'"),
             (["book.xlsx", "--dates", "cells"], "cells takes no option '--dates'"),
             (["book.xlsx", "csv", "--date", "S"], "csv takes no option '--date'"),
@@ -347,7 +354,11 @@ class Wrapper(FrontCopy):
                 ["book.xlsx", "csv", "--digits=3", "--shown"],
                 "--shown goes by the formats of cells, and takes no --digits beside it",
             ),
-            (["book.xlsx", "csv-table", "T", "--shown"], "csv-table takes no option '--shown'"),
+            (
+                ["book.xlsx", "csv-table", "T", "--shown", "--dates"],
+                "--shown goes by the formats of cells, and takes no --dates beside it",
+            ),
+            (["book.xlsx", "table", "T", "--shown"], "table takes no option '--shown'"),
             (["book.xlsx", "csv", "S", "--header"], "csv takes no option '--header'"),
             (
                 ["book.xlsx", "rows", "S", "--header"],
@@ -446,6 +457,12 @@ class Wrapper(FrontCopy):
             (["csv", "--dates", "--sheet", "1"], ["csv", "--sheet", "1", "--dates"]),
             (["--sheet", "1", "cells"], ["cells", "--sheet", "1"]),
             (["dependents", "--sheet", "1", "A1"], ["dependents", "--sheet", "1", "A1"]),
+            (["dependents", "S", "--all", "A1"], ["dependents", "S", "A1", "--all"]),
+            (["dependents", "--all", "A1"], ["dependents", "--sheet", "first", "A1", "--all"]),
+            (
+                ["dependents", "A1", "--all", "--sheet", "1"],
+                ["dependents", "--sheet", "1", "A1", "--all"],
+            ),
             (["csv", "--crlf", "--", "--dates"], ["csv", "--dates", "--crlf"]),
             (["cells", "--", "--"], ["cells", "--"]),
             (["pivot", "--", "-a", "--b"], ["pivot", "-a", "--b"]),
@@ -723,6 +740,9 @@ class Wrapper(FrontCopy):
             ["pivot", "S", "x"],
             *(["dependents", "S", word] for word in REFERENCES),
             ["dependents", "S", "A1", "B1"],
+            ["dependents", "S", "A1", "--all"],
+            ["precedents", "S", "--all"],
+            ["graph", "--json"],
         ):
             with self.subTest(words=words):
                 ran = subprocess.run([PROGRAM, *words], stdin=subprocess.DEVNULL, capture_output=True)

@@ -97,7 +97,7 @@ COMMANDS = {
             A_TABLE,
             (
                 "prints the names of the columns and the rows of the table NAME as CSV.",
-                "It takes the options of csv, but for --from-a1 and --shown",
+                "It takes the options of csv, but for --from-a1",
             ),
         ),
         Command(
@@ -169,8 +169,35 @@ COMMANDS = {
             A_CELL,
             (
                 "prints one line for each cell of the worksheet NAME whose formula names",
-                "the cell REF, such as A7: its reference",
+                "the cell REF, such as A7: its reference. By --all it prints one for each",
+                "formula of the workbook that needs that cell, also through others",
             ),
+        ),
+        Command(
+            "graph",
+            (),
+            NOTHING,
+            (
+                "prints one line for each formula of the workbook: its cell, the areas that",
+                "it names on all sheets, and the words that are left open, as in",
+                "'Sheet1'!B2\t'Rates'!A1:A9\t?external [1]S",
+            ),
+        ),
+        Command(
+            "order",
+            (),
+            NOTHING,
+            (
+                "prints one line for each formula of the workbook, in an order in which",
+                "they can be computed: its cell. Behind them stand the others, marked cycle",
+                "or behind; open is one that may name more cells than are known",
+            ),
+        ),
+        Command(
+            "cycles",
+            (),
+            NOTHING,
+            ("prints one line for each cycle of formulas of the workbook: their cells",),
         ),
         Command(
             "check",
@@ -220,10 +247,13 @@ COMMANDS = {
 }
 
 # The command whose answer can be a workbook file, by its option; the option before the name of the
-# file that the answer is written to; that for a folder, of csv alone, and that for the number of a
+# file that the answer is written to; that for a folder, behind csv, and that for the number of a
 # sheet.
 SAVED, AS_FILE, TO = "resave", "--xlsx", "--to"
 ALL, NUMBER = "--all", "--sheet"
+
+# The command behind which that for a folder stands alone, and asks for all sheets.
+OF_CELL = "dependents"
 
 # What cells show is asked for by this option, which stands beside neither of these.
 SHOWN, SPELLED = "--shown", ("--dates", "--digits")
@@ -235,8 +265,9 @@ FIRST = "first"
 # with a value.
 FLAGS = {
     "csv": ("--dates", "--crlf", "--bom", "--from-a1", SHOWN),
-    "csv-table": ("--dates", "--crlf", "--bom"),
+    "csv-table": ("--dates", "--crlf", "--bom", SHOWN),
     SAVED: (AS_FILE,),
+    OF_CELL: (ALL,),
 }
 
 # A list has its lines as objects of JSON by this option.
@@ -293,7 +324,8 @@ usage: ./xlsx FILE.xlsx cells NAME       (or merges, links, comments, csv, csv-t
                                           rows-table, table, part, precedents, check or
                                           resave NAME, dependents NAME REF,
                                           pivot SHEET NAME, or sheets, names, tables,
-                                          pivots, props or upgrade)
+                                          pivots, props, graph, order, cycles or
+                                          upgrade)
        ./xlsx FILE.xlsx csv --all FOLDER
        ./xlsx FILE.xlsx resave NAME --to OUT.xlsx
        ./xlsx FILE.xlsx resave NAME --xlsx > OUT.xlsx
@@ -389,7 +421,7 @@ class Asked:
         for word in left:
             if word == END:
                 self.names += left
-            elif word in WITH_VALUES:
+            elif word in WITH_VALUES and not (word == ALL and self.names[:1] == [OF_CELL]):
                 if word in values:
                     raise Faulty(f"{word} stands twice")
                 values[word] = next(left, None)
