@@ -255,7 +255,7 @@ class Shown(unittest.TestCase):
         for name, data, ends in (
             ("T1", refused, (False, False)),
             ("T2", "", (False, False)),
-            ("T1", styled, (True, False)),
+            ("T1", styled, (True, True)),
         ):
             package = package_with((SHEET_NAME, with_data(data)), RELATED, (TABLE_NAME, table()))
             for build in BUILDS:
