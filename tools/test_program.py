@@ -176,7 +176,7 @@ class Edge:
 
     def test_pages(self):
         self.assertEqual(self.run_on(b"", ["--help"]), (0, help_page().encode(), b""))
-        version = re.search(r"`--version` prints `([^`]+)`", FORMAT)[1]
+        version = re.search(r"`--version` prints\s+`([^`]+)`", FORMAT)[1]
         self.assertEqual(self.run_on(b"", ["--version"]), (0, f"{version}\n".encode(), b""))
 
     def test_words_that_are_no_command(self):
