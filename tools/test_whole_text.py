@@ -268,6 +268,11 @@ def answers_on(data):
     return answer
 
 
+# Commands that read a worksheet, and those that read all worksheets.
+READING = ("cells", "csv", "links", "merges")
+OF_ALL_FORMULAS = (["graph"], ["order"], ["cycles"])
+
+
 class WholeText(unittest.TestCase):
     def asked_of(self, answer):
         """Words for each command, with each name that the workbook has, and one that it hasn't."""
@@ -343,11 +348,11 @@ class WholeText(unittest.TestCase):
         broken = answers_on(archive({**BASE, SHEET.format(2): "<"}))
         asked = [words for words in self.asked_of(whole) if "T" not in words and "T2" not in words]
         for words in asked:
-            if words != ["upgrade"]:
+            if words not in (["upgrade"], *OF_ALL_FORMULAS):
                 with self.subTest(words=words):
                     self.assertEqual(broken(words), whole(words))
-        for word in ("cells", "csv", "links", "merges"):
-            status, lines, said = broken([word, "T"])
+        for words in (*([word, "T"] for word in READING), *OF_ALL_FORMULAS):
+            status, lines, said = broken(words)
             self.assertEqual((status, lines), (6, b""))
             self.assertIn(b"malformed markup", said)
 
