@@ -1,12 +1,11 @@
 -- What an attribute text says: its items, and the value that a key has in it.
 use Rattle.std.specs.Prelude.{ℕ, zero, suc, ◌-◌, Bool, true, false, ◌||◌, ◌==◌, nat_lt, List, []}
 use Rattle.std.specs.Prelude.{◌∷◌, map, take, drop, length, if◌then◌else◌, Option, None, Some}
-use Rattle.std.specs.Prelude.{is_some, Result, Ok, Err}
+use Rattle.std.specs.Prelude.{is_some, Result, Ok, Err, nat_eq}
 use Rattle.std.specs.Char.{is_ascii_whitespace}
 use Rattle.std.specs.List.{prefix_len, suffix_len, position_or_len, before_first, after_first}
 use Rattle.std.specs.List.{after_last, ends_with, list_all}
 use Rattle.std.specs.Str.{bytes_eq}
-use Rattle.std.specs.Prelude.{nat_eq}
 use Rattle.attr_text.specs.declared.fault.AttrFault.{AttrFault}
 use Rattle.attr_text.specs.declared.fault.AttrFault.TheVariants.{ExpectedEq, UnquotedValue}
 
@@ -21,7 +20,7 @@ pub data Front : Type 0 where
   broken : AttrFault → Front
   attribute : List ℕ → List ℕ → List ℕ → Front
 
--- white space is space, tab, LF, FF and CR
+-- a text without the white space at its front: spaces, tabs, LF, FF and CR
 abbrev pub without_leading_space : List ℕ → List ℕ
 without_leading_space text = drop (prefix_len is_ascii_whitespace text) text
 
@@ -29,7 +28,7 @@ without_leading_space text = drop (prefix_len is_ascii_whitespace text) text
 abbrev pub without_trailing_space : List ℕ → List ℕ
 without_trailing_space text = take (length text - suffix_len is_ascii_whitespace text) text
 
--- `"` or `'`
+-- a byte is `"` or `'`
 abbrev pub is_quote : ℕ → Bool
 is_quote b = b == 34 || b == 39
 
@@ -38,7 +37,7 @@ abbrev pub begins_with_quote : List ℕ → Bool
 begins_with_quote [] = false
 begins_with_quote (b ∷ bs) = is_quote b
 
--- `=`
+-- a byte is `=`
 abbrev pub is_equals_sign : ℕ → Bool
 is_equals_sign b = b == 61
 
@@ -105,7 +104,7 @@ answer found has_all None = Ok found
 answer found true (Some fault) = Ok found
 answer found false (Some fault) = Err fault
 
--- the lookup of one key
+-- the lookup of one key in an attribute text
 unfoldable pub value_of : List ℕ → List ℕ → Result (Option (List ℕ)) AttrFault
 value_of key text =
     let value = first_value (bytes_eq key) (items text) in
@@ -133,7 +132,7 @@ abbrev pub all_values : {A : Type 0} → List (Result A AttrFault) → Result (L
 all_values [] = Ok []
 all_values (first ∷ others) = with_values first (all_values others)
 
--- the key is the local name, or ends in `:` and the local name
+-- a key is the local name, or ends in `:` and the local name
 abbrev pub has_local_name : List ℕ → List ℕ → Bool
 has_local_name local key = bytes_eq key local || ends_with nat_eq key (58 ∷ local)
 

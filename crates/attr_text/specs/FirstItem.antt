@@ -6,13 +6,13 @@ use Rattle.attr_text.specs.Attributes.{Front, nothing, broken, attribute}
 use Rattle.attr_text.specs.declared.items.FirstItem.{FirstItem}
 use Rattle.attr_text.specs.declared.items.FirstItem.TheVariants.{Nothing, Broken, Attribute}
 
--- what was found, by its bytes
+-- what was found first in a text, by its bytes
 abbrev pub front_read : FirstItem → Front
 front_read Nothing = nothing
 front_read (Broken fault) = broken fault
 front_read (Attribute key value rest) = attribute key.now value.now rest.now
 
--- the same, where nothing is `None` and an attribute is its three parts
+-- what was found first in a text, where nothing is `None` and an attribute is its three parts
 abbrev pub front_of_parts : Option (Result (Bor (List ℕ) × Bor (List ℕ) × Bor (List ℕ)) AttrFault) →
     Front
 front_of_parts None = nothing

@@ -6,3 +6,4 @@ pub mod Wanted
 pub mod Escapes
 pub mod TextFaults
 pub mod Lines
+pub mod Words

@@ -28,7 +28,7 @@ referenced_character [] = None
 referenced_character (b ∷ bs) =
     if b == 120 then character_of_digits 16 bs else character_of_digits 10 (b ∷ bs)
 
--- a name that is none of the five
+-- the character of a name that is none of the five: that of its number behind `#`
 abbrev pub unnamed_character : List ℕ → Option ℕ
 unnamed_character [] = None
 unnamed_character (b ∷ bs) = if b == 35 then referenced_character bs else None
@@ -48,7 +48,7 @@ abbrev pub onto_text : List ℕ → Result (List ℕ) ℕ → Result (List ℕ) 
 onto_text front (Ok text) = Ok (front ++ text)
 onto_text front (Err at) = Err at
 
--- `;`
+-- a byte is `;`
 abbrev pub is_semicolon : ℕ → Bool
 is_semicolon b = b == 59
 

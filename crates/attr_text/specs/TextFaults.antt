@@ -17,17 +17,17 @@ abbrev pub EntityFails : List ℕ → TextFault → Type 0
 EntityFails name (Entity at) = (entity_character name ≡ None) × (at ≡ 0)
 EntityFails name OutOfMemory = IsSome (entity_character name)
 
--- the text of a fault
+-- the text that tells why a text can't be decoded
 abbrev pub fault_text : TextFault → List ℕ
 fault_text (Entity at) = codes "unknown entity at " ++ decimal at
 fault_text OutOfMemory = codes "out of memory"
 
--- what is wrong with the attributes, in words
+-- what is wrong with an attribute text, in words
 abbrev pub attribute_description : AttrFault → List ℕ
 attribute_description (ExpectedEq at) = codes "expected '='"
 attribute_description (UnquotedValue at) = codes "unquoted value"
 
--- the byte at which it is wrong
+-- the byte at which an attribute text is wrong
 abbrev pub attribute_place : AttrFault → ℕ
 attribute_place (ExpectedEq at) = at
 attribute_place (UnquotedValue at) = at

@@ -1,7 +1,7 @@
 -- What is kept of names, and names in which an apostrophe keeps the byte behind it.
 use Rattle.std.proofs.Common.{◌≡◌, ℕ, ◌+◌, ◌<◌, List, [], ◌∷◌, ◌++◌, length, get_or, drop, Bool}
-use Rattle.std.proofs.Common.{true, false, cond, eqb, Option, Some, refl, sym, ap, ◌∙◌, subst}
-use Rattle.std.proofs.Common.{◌≢◌, ◌≤◌, ◌-◌, append_assoc, arith}
+use Rattle.std.proofs.Common.{true, false, cond, eqb, Option, Some, refl, sym, ap, ◌∙◌, subst, ◌≢◌}
+use Rattle.std.proofs.Common.{◌≤◌, ◌-◌, append_assoc, arith}
 use denote.Ref.{Bor}
 use Rattle.std.specs.Char.{to_ascii_lowercase}
 use Rattle.std.proofs.lemmas.Bool.Decides.{nat_tests}
@@ -18,7 +18,7 @@ use Rattle.std.specs.Map.{KeepsOthers, IsKeyTest, AreApart, lookup}
 use Rattle.std.specs.declared.alloc.Global.{Global}
 use Rattle.formula_tokens.specs.Items.{kept_bytes}
 use Rattle.book_names.specs.Book.{lowered}
-use Rattle.book_names.specs.Numbers.{kept_number, FindsFirst}
+use Rattle.book_names.specs.Numbers.{kept_number, FindsFirstNumbers}
 
 -- ---- a name that is put
 
@@ -98,10 +98,11 @@ taken out rest b =
 -- ---- the names in front of those that are kept
 
 pub found_before : (numbers : BTreeMap (Vec ℕ Global) ℕ) (number : ℕ) (name : List ℕ)
-    (names : List (List ℕ)) (old : BTreeMap (Vec ℕ Global) ℕ) → FindsFirst old (number + 1) names →
+    (names : List (List ℕ)) (old : BTreeMap (Vec ℕ Global) ℕ)
+    → FindsFirstNumbers old (number + 1) names →
     ((key : List ℕ) → kept_number numbers key
     ≡ (if bytes_eq (lowered name) key then Some number else kept_number old key)) →
-    FindsFirst numbers number (name ∷ names)
+    FindsFirstNumbers numbers number (name ∷ names)
 found_before numbers number name names old found puts =
     λ key. puts key
     ∙ ap (λ (o : Option ℕ). if bytes_eq (lowered name) key then Some number else o) (found key)
@@ -109,20 +110,20 @@ found_before numbers number name names old found puts =
 -- the names from one place on, where those behind it are kept and it is put before them
 pub found_step : (new old : BTreeMap (Vec ℕ Global) ℕ) (names : List (Bor (List ℕ))) (number : ℕ)
     (none : Bor (List ℕ)) → 0 < number → number ≤ length names →
-    FindsFirst old number (map (λ n. n.now) (drop number names)) →
+    FindsFirstNumbers old number (map (λ n. n.now) (drop number names)) →
     ((key : List ℕ) → kept_number new key
     ≡ (if bytes_eq (lowered (get_or names (number - 1) none).now) key then Some (number - 1)
     else kept_number old key)) →
-    FindsFirst new (number - 1) (map (λ n. n.now) (drop (number - 1) names))
+    FindsFirstNumbers new (number - 1) (map (λ n. n.now) (drop (number - 1) names))
 found_step new old names number none some within found puts =
     let last = number - 1 in
     let name = get_or names last none in
     let next : last + 1 ≡ number = omega arith in
     let starts : drop last names ≡ name ∷ drop number names =
     drop_more names last none (omega arith) ∙ ap (λ k. name ∷ drop k names) next in
-    let found' : FindsFirst old (last + 1) (map (λ n. n.now) (drop number names)) =
-    subst (λ k. FindsFirst old k (map (λ n. n.now) (drop number names))) (sym next) found in
-    subst (λ l. FindsFirst new last (map (λ n. n.now) l)) (sym starts)
+    let found' : FindsFirstNumbers old (last + 1) (map (λ n. n.now) (drop number names)) =
+    subst (λ k. FindsFirstNumbers old k (map (λ n. n.now) (drop number names))) (sym next) found in
+    subst (λ l. FindsFirstNumbers new last (map (λ n. n.now) l)) (sym starts)
     (found_before new last name.now (map (λ n. n.now) (drop number names)) old found' puts)
 
 pub ruleset kept_steps = (kept_plain, kept_behind)

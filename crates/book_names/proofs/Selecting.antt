@@ -5,8 +5,9 @@ use Rattle.std.specs.Prelude.{Option, None, Some}
 use Rattle.std.proofs.lemmas.List.{length-drop}
 use Rattle.book_names.specs.declared.rows.RowSpan.{RowSpan}
 use Rattle.book_names.specs.Book.{BookTable}
-use Rattle.book_names.specs.Structured.{Part, Selection, selected_within, first_part, begins_with}
-use Rattle.book_names.specs.Structured.{behind_rows, rows_and, rows_with, rows_of, columns_from}
+use Rattle.book_names.specs.Structured.{BracketPart, Selection, selected_within, first_part}
+use Rattle.book_names.specs.Structured.{begins_with_byte, behind_rows, rows_and, rows_with, rows_of}
+use Rattle.book_names.specs.Structured.{columns_from}
 
 -- behind rows that are selected the rest of the parts selects what the whole does
 pub record Selects (t : BookTable) (row : ℕ) (rows : RowSpan) (rest : List ℕ)
@@ -16,9 +17,9 @@ pub record Selects (t : BookTable) (row : ℕ) (rows : RowSpan) (rest : List ℕ
   pub same : selected_within t row turns rows (first_part rest) ≡ whole
 
 -- what a part selects, with those behind it
-abbrev by_part : BookTable → ℕ → ℕ → RowSpan → Part → Option Selection
+abbrev by_part : BookTable → ℕ → ℕ → RowSpan → BracketPart → Option Selection
 by_part t row turns rows part =
-    cond (begins_with 35 part.text)
+    cond (begins_with_byte 35 part.text)
     (behind_rows (selected_within t row turns) part.behind
     (rows_with t row rows (rows_of part.text))) (columns_from rows part)
 
@@ -29,7 +30,7 @@ unfolding selected_within
 turn_none t row zero rows = refl
 turn_none t row (suc turns) rows = refl
 
-turn_part : (t : BookTable) (row turns : ℕ) (rows : RowSpan) (part : Part) →
+turn_part : (t : BookTable) (row turns : ℕ) (rows : RowSpan) (part : BracketPart) →
     selected_within t row (suc turns) rows (Some part) ≡ by_part t row turns rows part
 unfolding selected_within
 turn_part t row turns rows part = refl
@@ -56,27 +57,27 @@ module _ (t : BookTable) (row : ℕ) (rows : RowSpan) (rest : List ℕ) (whole :
     by_turns zero is enough = absurd (omega (arith, enough))
     by_turns (suc less) is enough = (less, is, omega (arith, enough))
 
-  module _ (part : Part) (is : first_part rest ≡ Some part) where
+  module _ (part : BracketPart) (is : first_part rest ≡ Some part) where
     turned : by_part t row left.0 rows part ≡ whole
     turned = sym (turn_part t row left.0 rows part)
         ∙ (λ i. selected_within t row (sym left.1 i) rows (sym is i)) ∙ selects.same
 
-    pub by_columns : begins_with 35 part.text ≡ false → columns_from rows part ≡ whole
+    pub by_columns : begins_with_byte 35 part.text ≡ false → columns_from rows part ≡ whole
     by_columns none = ap (λ b. cond b (behind_rows (selected_within t row left.0) part.behind
         (rows_with t row rows (rows_of part.text))) (columns_from rows part)) (sym none) ∙ turned
 
-    by_rows : begins_with 35 part.text ≡ true →
+    by_rows : begins_with_byte 35 part.text ≡ true →
         behind_rows (selected_within t row left.0) part.behind
         (rows_with t row rows (rows_of part.text)) ≡ whole
     by_rows some = ap (λ b. cond b (behind_rows (selected_within t row left.0) part.behind
         (rows_with t row rows (rows_of part.text))) (columns_from rows part)) (sym some) ∙ turned
 
-    pub no_rows : begins_with 35 part.text ≡ true →
+    pub no_rows : begins_with_byte 35 part.text ≡ true →
         rows_with t row rows (rows_of part.text) ≡ None → None ≡ whole
     no_rows some none =
         ap (behind_rows (selected_within t row left.0) part.behind) (sym none) ∙ by_rows some
 
-    module _ (some : begins_with 35 part.text ≡ true) (more : RowSpan)
+    module _ (some : begins_with_byte 35 part.text ≡ true) (more : RowSpan)
         (with : rows_with t row rows (rows_of part.text) ≡ Some more) where
       behind : rows_and (selected_within t row left.0) more part.behind ≡ whole
       behind =
@@ -85,19 +86,19 @@ module _ (t : BookTable) (row : ℕ) (rows : RowSpan) (rest : List ℕ) (whole :
       pub rows_end : (length part.behind == 0) ≡ true →
           Some (record { rows = more; columns = [] }) ≡ whole
       rows_end end = ap (λ b. cond b (Some (record { rows = more; columns = [] }))
-          (cond (begins_with 44 part.behind)
+          (cond (begins_with_byte 44 part.behind)
           (selected_within t row left.0 more (first_part (drop 1 part.behind))) None)) (sym end)
           ∙ behind
 
       go_on : (length part.behind == 0) ≡ false →
-          cond (begins_with 44 part.behind)
+          cond (begins_with_byte 44 part.behind)
           (selected_within t row left.0 more (first_part (drop 1 part.behind))) None ≡ whole
       go_on on = ap (λ b. cond b (Some (record { rows = more; columns = [] }))
-          (cond (begins_with 44 part.behind)
+          (cond (begins_with_byte 44 part.behind)
           (selected_within t row left.0 more (first_part (drop 1 part.behind))) None)) (sym on)
           ∙ behind
 
-      pub no_comma : (length part.behind == 0) ≡ false → begins_with 44 part.behind ≡ false →
+      pub no_comma : (length part.behind == 0) ≡ false → begins_with_byte 44 part.behind ≡ false →
           None ≡ whole
       no_comma on none = ap (λ b. cond b
           (selected_within t row left.0 more (first_part (drop 1 part.behind))) None) (sym none)
@@ -105,7 +106,7 @@ module _ (t : BookTable) (row : ℕ) (rows : RowSpan) (rest : List ℕ) (whole :
 
       pub next_part : (rest' : List ℕ) → rest' ≡ drop 1 part.behind →
           length part.behind < length rest →
-          (length part.behind == 0) ≡ false → begins_with 44 part.behind ≡ true →
+          (length part.behind == 0) ≡ false → begins_with_byte 44 part.behind ≡ true →
           Selects t row more rest' whole
       next_part rest' rest_is shorter on comma =
           subst (λ r. Selects t row more r whole) (sym rest_is) (record {

@@ -1,7 +1,6 @@
 -- What the words of formulas are looked up in: the sheets, defined names and tables of a workbook.
 -- A text is a list of bytes; sheets, names, tables and columns are counted from 0.
-use Rattle.std.specs.Prelude.{ℕ, ◌+◌, ◌==◌, ◌&&◌, Bool}
-use Rattle.std.specs.Prelude.{List, Option, None, Some, map}
+use Rattle.std.specs.Prelude.{ℕ, ◌+◌, ◌==◌, ◌&&◌, Bool, List, Option, None, Some, map}
 use Rattle.std.specs.List.{position_from}
 use Rattle.std.specs.Char.{to_ascii_lowercase}
 use Rattle.cell_refs.specs.declared.dimensions.Dimensions.{Dimensions}
@@ -42,7 +41,7 @@ abbrev pub scope_place : Option ℕ → ℕ
 scope_place None = 0
 scope_place (Some sheet) = sheet + 1
 
--- two scopes are one
+-- two scopes of defined names are one
 abbrev pub is_scope : Option ℕ → Option ℕ → Bool
 is_scope a b = scope_place a == scope_place b
 

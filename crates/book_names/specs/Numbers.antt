@@ -18,8 +18,8 @@ abbrev pub first_from : ℕ → List (List ℕ) → List ℕ → Option ℕ
 first_from number names key = position_from (λ n. bytes_eq (lowered n) key) number names
 
 -- each name has the number of the first that is looked up as it is
-abbrev pub FindsFirst : BTreeMap (Vec ℕ Global) ℕ → ℕ → List (List ℕ) → Type 0
-FindsFirst numbers number names =
+abbrev pub FindsFirstNumbers : BTreeMap (Vec ℕ Global) ℕ → ℕ → List (List ℕ) → Type 0
+FindsFirstNumbers numbers number names =
     (key : List ℕ) → kept_number numbers key ≡ first_from number names key
 
 -- the number that is kept in a map, if there is one
@@ -46,11 +46,11 @@ FindsAt scopes number names =
 
 -- numbers of a table's columns, where there are both
 abbrev pub FindsColumnsOf : Option (BTreeMap (Vec ℕ Global) ℕ) → Option BookTable → Type 0
-FindsColumnsOf (Some numbers) (Some t) = FindsFirst numbers 0 t.columns
+FindsColumnsOf (Some numbers) (Some t) = FindsFirstNumbers numbers 0 t.columns
 FindsColumnsOf (Some numbers) None = Unit {0}
 FindsColumnsOf None t = Unit {0}
 
--- for each table the numbers of its columns
+-- the columns of each table are found by their names, each by the number of the first of its name
 pub record FindsColumns (found : List (BTreeMap (Vec ℕ Global) ℕ)) (tables : List BookTable)
     : Type 0 where
   pub size : length found ≡ length tables
@@ -60,8 +60,8 @@ pub record FindsColumns (found : List (BTreeMap (Vec ℕ Global) ℕ)) (tables :
 -- them, defined names by the first of their scopes
 pub record IsIndexed (book : Book) (sheets tables : BTreeMap (Vec ℕ Global) ℕ)
     (names columns : List (BTreeMap (Vec ℕ Global) ℕ)) : Type 0 where
-  pub sheets_found : FindsFirst sheets 0 book.sheets
+  pub sheets_found : FindsFirstNumbers sheets 0 book.sheets
   pub scopes : length names ≡ length book.sheets + 1
   pub names_found : FindsAt names 0 book.names
-  pub tables_found : FindsFirst tables 0 (map (λ t. t.called) book.tables)
+  pub tables_found : FindsFirstNumbers tables 0 (map (λ t. t.called) book.tables)
   pub columns_found : FindsColumns columns book.tables

@@ -68,12 +68,12 @@ part_end (b ∷ c ∷ bs) =
     else option_map (λ n. n + 1) (part_end (c ∷ bs)))
 
 -- a part in brackets, without the blanks in it, and what stands behind it and the blanks there
-pub record Part : Type 0 where
+pub record BracketPart : Type 0 where
   pub text : List ℕ
   pub behind : List ℕ
 
 -- a part that is closed at a place
-abbrev pub part_closed : List ℕ → Option ℕ → Option Part
+abbrev pub part_closed : List ℕ → Option ℕ → Option BracketPart
 part_closed bs None = None
 part_closed bs (Some n) = Some (record {
   text = without_blanks (take n bs);
@@ -81,41 +81,41 @@ part_closed bs (Some n) = Some (record {
 })
 
 -- the part that a text begins with behind its blanks
-abbrev pub part_begun : List ℕ → Option Part
+abbrev pub part_begun : List ℕ → Option BracketPart
 part_begun [] = None
 part_begun (b ∷ bs) = if b == 91 then part_closed bs (part_end bs) else None
 
 -- the first part of a text
-abbrev pub first_part : List ℕ → Option Part
+abbrev pub first_part : List ℕ → Option BracketPart
 first_part text = part_begun (behind_blanks text)
 
 -- a text begins with a byte
-abbrev pub begins_with : ℕ → List ℕ → Bool
-begins_with a [] = false
-begins_with a (b ∷ bs) = a == b
+abbrev pub begins_with_byte : ℕ → List ℕ → Bool
+begins_with_byte a [] = false
+begins_with_byte a (b ∷ bs) = a == b
 
 -- columns from one to that of the last part, which nothing follows
-abbrev pub columns_to : RowSpan → List ℕ → Option Part → Option Selection
+abbrev pub columns_to : RowSpan → List ℕ → Option BracketPart → Option Selection
 columns_to rows first None = None
 columns_to rows first (Some part) =
-    if begins_with 35 part.text then None
+    if begins_with_byte 35 part.text then None
     else (if length part.behind == 0
     then Some (record { rows = rows; columns = first ∷ part.text ∷ [] }) else None)
 
--- a column, or more of them behind a colon
-abbrev pub columns_from : RowSpan → Part → Option Selection
+-- the selection of a column, or of more of them up to the one behind a colon
+abbrev pub columns_from : RowSpan → BracketPart → Option Selection
 columns_from rows part =
     if length part.behind == 0
     then Some (record { rows = rows; columns = part.text ∷ [] })
-    else (if begins_with 58 part.behind
+    else (if begins_with_byte 58 part.behind
     then columns_to rows part.text (first_part (drop 1 part.behind)) else None)
 
 -- rows, or what the parts behind a comma select with them, as `next` reads these
-abbrev pub rows_and : (RowSpan → Option Part → Option Selection) → RowSpan → List ℕ →
+abbrev pub rows_and : (RowSpan → Option BracketPart → Option Selection) → RowSpan → List ℕ →
     Option Selection
 rows_and next rows behind =
     if length behind == 0 then Some (record { rows = rows; columns = [] })
-    else (if begins_with 44 behind then next rows (first_part (drop 1 behind)) else None)
+    else (if begins_with_byte 44 behind then next rows (first_part (drop 1 behind)) else None)
 
 -- rows of a name with those that were selected before them, if it is one of rows
 abbrev pub rows_with : BookTable → ℕ → RowSpan → Option TableRows → Option RowSpan
@@ -123,22 +123,23 @@ rows_with t row rows None = None
 rows_with t row rows (Some more) = Some (joined_rows rows (rows_placed t row more))
 
 -- what stands behind a part of rows, if it is one
-abbrev pub behind_rows : (RowSpan → Option Part → Option Selection) → List ℕ → Option RowSpan →
+abbrev pub behind_rows : (RowSpan → Option BracketPart → Option Selection) → List ℕ
+    → Option RowSpan →
     Option Selection
 behind_rows next behind None = None
 behind_rows next behind (Some rows) = rows_and next rows behind
 
 -- what parts select behind rows; `turns` is at least their number
-unfoldable pub selected_within : BookTable → ℕ → ℕ → RowSpan → Option Part → Option Selection
+unfoldable pub selected_within : BookTable → ℕ → ℕ → RowSpan → Option BracketPart → Option Selection
 selected_within t row zero rows part = None
 selected_within t row (suc turns) rows None = None
 selected_within t row (suc turns) rows (Some part) =
-    if begins_with 35 part.text
+    if begins_with_byte 35 part.text
     then behind_rows (selected_within t row turns) part.behind
     (rows_with t row rows (rows_of part.text))
     else columns_from rows part
 
--- rows alone
+-- the selection of rows alone, in all columns of the table, if there are rows
 abbrev pub rows_alone : Option RowSpan → Option Selection
 rows_alone None = None
 rows_alone (Some rows) = Some (record { rows = rows; columns = [] })
@@ -160,7 +161,7 @@ in_row t row Unsaid columns =
 in_row t row (Rows a b) columns = None
 in_row t row Missing columns = None
 
--- the same of a selection, if there is one
+-- what a selection, if there is one, selects in the row of the formula, where it has no other rows
 abbrev pub on_this_row : BookTable → ℕ → Option Selection → Option Selection
 on_this_row t row None = None
 on_this_row t row (Some s) = in_row t row s.rows s.columns
@@ -168,7 +169,7 @@ on_this_row t row (Some s) = in_row t row s.rows s.columns
 -- what stands in brackets behind a table's name; `@` selects the formula's row
 abbrev pub selection_of : BookTable → ℕ → List ℕ → Option Selection
 selection_of t row text =
-    if begins_with 64 (without_blanks text)
+    if begins_with_byte 64 (without_blanks text)
     then on_this_row t row (plain_selection t row (without_blanks (drop 1 (without_blanks text))))
     else plain_selection t row (without_blanks text)
 
@@ -208,16 +209,16 @@ columns_area first last text other None b = no_column text
 columns_area first last text other (Some a) None = no_column other
 columns_area first last text other (Some a) (Some b) = area_at first last a b
 
--- the area of rows and columns
-abbrev pub area_of : BookTable → ℕ → ℕ → List (List ℕ) → AreaText
-area_of t first last [] = area_at first last t.whole.start.1 t.whole.end.1
-area_of t first last (text ∷ []) = column_area first last text (column_placed t text)
-area_of t first last (text ∷ other ∷ more) =
+-- the area of rows and columns of a table
+abbrev pub crossed_area : BookTable → ℕ → ℕ → List (List ℕ) → AreaText
+crossed_area t first last [] = area_at first last t.whole.start.1 t.whole.end.1
+crossed_area t first last (text ∷ []) = column_area first last text (column_placed t text)
+crossed_area t first last (text ∷ other ∷ more) =
     columns_area first last text other (column_placed t text) (column_placed t other)
 
--- the same, where the table has the rows
+-- the area of rows and columns of a table, where the table has the rows
 abbrev pub area_in : BookTable → RowSpan → List (List ℕ) → AreaText
-area_in t (Rows first last) columns = area_of t first last columns
+area_in t (Rows first last) columns = crossed_area t first last columns
 area_in t Missing columns = no_rows
 area_in t Unsaid columns = no_rows
 

@@ -9,8 +9,8 @@ use Rattle.book_names.specs.declared.selection.Columns.{Columns}
 use Rattle.book_names.specs.declared.selection.Columns.TheVariants as columns
 use Rattle.book_names.specs.declared.selection.Selection.{Selection as CodeSelection}
 use Rattle.book_names.specs.Book.{BookName, BookTable}
-use Rattle.book_names.specs.Structured.{AreaText, found, no_column, no_rows, not_read}
-use Rattle.book_names.specs.Structured.{Part, Selection}
+use Rattle.book_names.specs.Structured.{AreaText, found, no_column, no_rows, not_read, BracketPart}
+use Rattle.book_names.specs.Structured.{Selection}
 
 -- a defined name that is kept
 abbrev pub name_told : DefinedName → BookName
@@ -31,21 +31,21 @@ table_told table = record {
   columns = map string_bytes table.columns.items;
 }
 
--- a part that the code cuts
-abbrev pub part_told : CodePart → Part
+-- a part in brackets that the code cuts, as definitions see it
+abbrev pub part_told : CodePart → BracketPart
 part_told part = record { text = part.text.now; behind = part.behind.now }
 
--- columns that the code selects
+-- the columns that the code selects, as definitions see them
 abbrev pub columns_told : Columns → List (List ℕ)
 columns_told columns.All = []
 columns_told (columns.One column) = column.now ∷ []
 columns_told (columns.Between first last) = first.now ∷ last.now ∷ []
 
--- what the code selects
+-- what the code tells that brackets select, as definitions see it
 abbrev pub selection_told : CodeSelection → Selection
 selection_told s = record { rows = s.rows; columns = columns_told s.columns }
 
--- the area that the code finds
+-- the area of a table that the code finds, as definitions see it
 abbrev pub area_told : TableArea → AreaText
 area_told (area.Found dimensions) = found dimensions
 area_told (area.NoColumn text) = no_column text.now

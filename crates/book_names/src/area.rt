@@ -1,8 +1,8 @@
 //! The area of a table that brackets name.
 ghost use Rattle.std.specs.Prelude.{◌≡◌, IfOk, map, string_bytes, option_map};
 ghost use Rattle.formula_tokens.specs.Items.{kept_bytes};
-ghost use Rattle.book_names.specs.Numbers.{FindsFirst};
-ghost use Rattle.book_names.specs.Structured.{column_inside, column_placed, area_at, area_of};
+ghost use Rattle.book_names.specs.Numbers.{FindsFirstNumbers};
+ghost use Rattle.book_names.specs.Structured.{column_inside, column_placed, area_at, crossed_area};
 ghost use Rattle.book_names.specs.Structured.{rows_or_data, area_selected, table_area};
 ghost use Rattle.book_names.specs.Structured.{columns_area, column_area, area_in};
 ghost use Rattle.book_names.specs.Told.{area_told, table_told, selection_told, columns_told};
@@ -47,7 +47,7 @@ fn column_placed(
     text: &str,
     key: &mut NameKey,
 ) -> Result<Option<u32>, AllocError>
-    requires { FindsFirst numbers.now 0 (map string_bytes table.now.columns.items) }
+    requires { FindsFirstNumbers numbers.now 0 (map string_bytes table.now.columns.items) }
     ensures { IfOk result (λ column. column ≡ column_placed (table_told table.now) text.now) }
 {
     key.set(Name::Quoted(text))?;
@@ -72,9 +72,9 @@ fn area_of<'a>(
     columns: Columns<'a>,
     key: &mut NameKey,
 ) -> Result<TableArea<'a>, AllocError>
-    requires { FindsFirst numbers.now 0 (map string_bytes table.now.columns.items) }
+    requires { FindsFirstNumbers numbers.now 0 (map string_bytes table.now.columns.items) }
     ensures { IfOk result (λ area. area_told area
-        ≡ area_of (table_told table.now) rows.0 rows.1 (columns_told columns.entry)) }
+        ≡ crossed_area (table_told table.now) rows.0 rows.1 (columns_told columns.entry)) }
 {
     let (first, last) = match columns {
         Columns::All => {
@@ -113,7 +113,7 @@ pub(crate) fn table_area<'a>(
     inside: &'a str,
     key: &mut NameKey,
 ) -> Result<TableArea<'a>, AllocError>
-    requires { FindsFirst numbers.now 0 (map string_bytes table.now.columns.items) }
+    requires { FindsFirstNumbers numbers.now 0 (map string_bytes table.now.columns.items) }
     ensures { IfOk result (λ area. area_told area
         ≡ table_area (table_told table.now) row inside.now) }
 {

@@ -1,6 +1,6 @@
 //! Names of sheets, of tables and of their columns, with their numbers.
 ghost use Rattle.std.specs.Prelude.{◌≡◌, IfOk, map, string_bytes};
-ghost use Rattle.book_names.specs.Numbers.{FindsFirst, FindsColumns};
+ghost use Rattle.book_names.specs.Numbers.{FindsFirstNumbers, FindsColumns};
 ghost use Rattle.book_names.specs.Told.{table_told};
 
 use crate::book::TableShape;
@@ -33,7 +33,7 @@ fn names_of<'a>(alloc: Global, tables: &'a [TableShape]) -> Result<Vec<&'a str>,
 
 /// The numbers of strings.
 pub(crate) fn numbers_of_strings(alloc: Global, strings: &[String]) -> Result<Numbers, AllocError>
-    ensures { IfOk result (λ numbers. FindsFirst numbers 0 (map string_bytes strings.now)) }
+    ensures { IfOk result (λ numbers. FindsFirstNumbers numbers 0 (map string_bytes strings.now)) }
 {
     let texts = texts_of(alloc, strings)?;
     numbers_of(alloc, &texts)
@@ -42,7 +42,7 @@ pub(crate) fn numbers_of_strings(alloc: Global, strings: &[String]) -> Result<Nu
 /// The numbers of tables.
 pub(crate) fn numbers_of_tables(alloc: Global, tables: &[TableShape]) -> Result<Numbers, AllocError>
     ensures { IfOk result
-        (λ numbers. FindsFirst numbers 0 (map (λ t. string_bytes t.name) tables.now)) }
+        (λ numbers. FindsFirstNumbers numbers 0 (map (λ t. string_bytes t.name) tables.now)) }
 {
     let texts = names_of(alloc, tables)?;
     numbers_of(alloc, &texts)

@@ -1,9 +1,10 @@
 //! For names the number of the first of each.
 ghost use Rattle.std.specs.Prelude.{◌≡◌, ◌<◌, ℕ, List, IfOk, OnOk, map, drop, length};
-ghost use Rattle.book_names.specs.Numbers.{kept_number, first_from, FindsFirst, kept_at, FindsAt};
+ghost use Rattle.std.specs.Prelude.{if◌then◌else◌, Some, [], ◌==◌, ◌&&◌, vec_len};
+ghost use Rattle.book_names.specs.Numbers.{kept_number, first_from, FindsFirstNumbers, kept_at};
+ghost use Rattle.book_names.specs.Numbers.{FindsAt};
 ghost use Rattle.book_names.specs.Book.{lowered, scope_place};
 ghost use Rattle.book_names.specs.Told.{name_told};
-ghost use Rattle.std.specs.Prelude.{if◌then◌else◌, Some, [], ◌==◌, ◌&&◌, vec_len};
 ghost use Rattle.std.specs.Str.{bytes_eq};
 
 use crate::book::DefinedName;
@@ -38,7 +39,7 @@ pub(crate) fn put_name(
 
 /// The numbers of names.
 pub(crate) fn numbers_of(alloc: Global, names: &[&str]) -> Result<Numbers, AllocError>
-    ensures { IfOk result (λ numbers. FindsFirst numbers 0 (map (λ n. n.now) names.now)) }
+    ensures { IfOk result (λ numbers. FindsFirstNumbers numbers 0 (map (λ n. n.now) names.now)) }
 {
     let mut numbers = BTreeMap::new(alloc);
     let mut number = names.len();

@@ -3,8 +3,8 @@ ghost use Rattle.std.specs.Prelude.{◌≡◌, ◌-◌, ◌<◌, ◌≤◌, leng
 ghost use Rattle.std.specs.Prelude.{option_map, MatchOption, None};
 ghost use Rattle.std.specs.List.{suffix_len};
 ghost use Rattle.formula_tokens.specs.Tokens.{is_blank_byte};
-ghost use Rattle.book_names.specs.Structured.{without_blanks, part_end};
-ghost use Rattle.book_names.specs.Structured.{first_part, begins_with};
+ghost use Rattle.book_names.specs.Structured.{without_blanks, part_end, first_part};
+ghost use Rattle.book_names.specs.Structured.{begins_with_byte};
 ghost use Rattle.book_names.specs.Told.{part_told};
 
 use formula_tokens::{behind_blanks, is_blank_byte};
@@ -37,7 +37,7 @@ pub(crate) fn without_blanks(text: &str) -> &str
 
 /// Whether the text begins with the byte.
 pub(crate) fn begins_with(byte: u8, text: &str) -> bool
-    ensures { result ≡ begins_with byte text.now }
+    ensures { result ≡ begins_with_byte byte text.now }
 {
     text.as_bytes().first() == Some(&byte)
 }

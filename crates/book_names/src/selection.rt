@@ -1,12 +1,10 @@
 //! What brackets behind a table's name select.
-ghost use Rattle.std.specs.Prelude.{◌≡◌, option_map};
+ghost use Rattle.std.specs.Prelude.{◌≡◌, option_map, length, suc, Some};
 ghost use Rattle.book_names.specs.Structured.{columns_to, columns_from, rows_with, rows_alone};
 ghost use Rattle.book_names.specs.Structured.{selected_within, first_part, plain_selection};
-ghost use Rattle.book_names.specs.Structured.{on_this_row, selection_of};
+ghost use Rattle.book_names.specs.Structured.{on_this_row, selection_of, rows_of};
 ghost use Rattle.book_names.specs.Told.{part_told, selection_told, table_told};
-ghost use Rattle.std.specs.Prelude.{length, suc, Some};
 ghost use Rattle.book_names.specs.declared.rows.RowSpan.TheVariants.{Unsaid};
-ghost use Rattle.book_names.specs.Structured.{rows_of};
 
 use crate::book::TableShape;
 use crate::parts::{Part, begins_with, behind_first, first_part, without_blanks};

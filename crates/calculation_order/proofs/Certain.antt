@@ -4,12 +4,13 @@ use Rattle.std.proofs.Common.{Bool, true, List, [], ◌∷◌, length, refl, sym
 use Rattle.std.proofs.Common.{ltb-true, le-leb, leb-true}
 use Rattle.std.specs.Prelude.{nat_le, slice_get}
 use Rattle.std.specs.List.{list_any, slice_index_or}
-use Rattle.std.proofs.lemmas.Bool.{and_from, and_parts, cases_lt, eq-eqb, eqb-true}
-use Rattle.std.proofs.lemmas.Bool.{false≢true, or_cases, or_left, or_right}
+use Rattle.std.proofs.lemmas.Bool.{and_from, and_parts, cases_lt, eq-eqb, eqb-true, false≢true}
+use Rattle.std.proofs.lemmas.Bool.{or_cases, or_left, or_right}
 use Rattle.std.proofs.lemmas.List.{get_or_past}
-use Rattle.calculation_order.specs.Components.{Found, are_certain, falls, have_one_rank, is_certain}
-use Rattle.calculation_order.specs.Components.{is_joined, is_led_to, is_nearer, is_this}
-use Rattle.calculation_order.specs.Components.{leads_around, mark_of, rank_of, root_of}
+use Rattle.calculation_order.specs.Components.{FoundComponents, are_certain, falls, have_one_rank}
+use Rattle.calculation_order.specs.Components.{is_certain, is_in_component, is_led_to, is_nearer}
+use Rattle.calculation_order.specs.Components.{is_this_vertex, leads_around, mark_of, rank_of}
+use Rattle.calculation_order.specs.Components.{root_of}
 use Rattle.calculation_order.specs.Edges.{are_together, is_number_of, needs_of, numbers_below}
 use Rattle.calculation_order.specs.Edges.{reached}
 use Rattle.calculation_order.specs.OrderLaws.{are_within}
@@ -19,13 +20,14 @@ use Rattle.calculation_order.proofs.Reaching.{reached_closed, reached_itself, re
 use Rattle.calculation_order.proofs.Reaching.{reached_within_set, within_at}
 
 -- the one at a place is among them
-at_place : (ns : List ℕ) (k v : ℕ) → is_this (slice_get ns k) v ≡ true → is_number_of ns v ≡ true
+at_place : (ns : List ℕ) (k v : ℕ) → is_this_vertex (slice_get ns k) v ≡ true
+    → is_number_of ns v ≡ true
 at_place [] k v is = absurd (false≢true is)
 at_place (n ∷ ns) zero v is =
     subst (λ (m : ℕ). is_number_of (n ∷ ns) m ≡ true) (eqb-true n v is) (in_head n ns)
 at_place (n ∷ ns) (suc k) v is = in_tail n ns v (at_place ns k v is)
 
-module _ (links : List (List ℕ)) (within : are_within links ≡ true) (found : Found)
+module _ (links : List (List ℕ)) (within : are_within links ≡ true) (found : FoundComponents)
     (certain : are_certain links found ≡ true) where
   -- one vertex is another, or reaches it
   abbrev leads_to : ℕ → ℕ → Type 0
@@ -78,7 +80,7 @@ module _ (links : List (List ℕ)) (within : are_within links ≡ true) (found :
       → (root_of found v ≡ v) ⊎ ((is_led_to links found v ≡ true)
       × (is_nearer found v (slice_get (needs_of links v) (mark_of found v).next) ≡ true))
   joined_at v below =
-      elim (or_cases (root_of found v == v) _ (and_parts (is_joined links found v) _
+      elim (or_cases (root_of found v == v) _ (and_parts (is_in_component links found v) _
       (and_parts (falls links found v) _ (at_vertex v below)).1).0) [
         | inl e ↦ inl (eqb-true _ v e)
         | inr e ↦ inr (and_parts (is_led_to links found v) _ e)
@@ -97,7 +99,8 @@ module _ (links : List (List ℕ)) (within : are_within links ≡ true) (found :
         | inl e ↦ inl e
         | inr both ↦
             (let u = (mark_of found v).from in
-            let parts = and_parts (is_this (slice_get (needs_of links u) (mark_of found v).by) v)
+            let parts =
+            and_parts (is_this_vertex (slice_get (needs_of links u) (mark_of found v).by) v)
             _ both.0 in
             let others = and_parts (have_one_rank found v u) _ parts.1 in
             let by : is_number_of (needs_of links u) v ≡ true =
@@ -237,7 +240,7 @@ module _ (links : List (List ℕ)) (within : are_within links ≡ true) (found :
 
   pub root_at : (v : ℕ) → v < length links → rank_of found v < length found.roots
   root_at v below =
-      ltb-true _ _ (and_parts (is_joined links found v) _
+      ltb-true _ _ (and_parts (is_in_component links found v) _
       (and_parts (falls links found v) _ (at_vertex v below)).1).1
 
   -- those of one component lead around, or none does

@@ -3,14 +3,13 @@ use Rattle.std.proofs.Common.{◌≡◌, ◌∙◌, ℕ, zero, suc, ◌-◌, ◌
 use Rattle.std.proofs.Common.{length, get_or, take, drop, slice_range, refl, ap, arith}
 use Rattle.std.specs.Prelude.{nat_le}
 use Rattle.std.proofs.lemmas.Bool.{and_from, and_parts, le-leb, leb-true}
-use Rattle.std.proofs.lemmas.List.{drop-append-le, length-drop, take-append-le}
-use Rattle.std.proofs.lemmas.List.{take_rest}
+use Rattle.std.proofs.lemmas.List.{drop-append-le, length-drop, take-append-le, take_rest}
 use Rattle.std.proofs.Math.Seq.{drop-length}
-use Rattle.calculation_order.specs.KeptLinks.{cut_at, last_end, rise_within}
+use Rattle.calculation_order.specs.KeptLinks.{cut_at, last_link_end, rise_within}
 
 -- the last place lies between the first one and the most
 pub last_within : (most from : ℕ) (ends : List ℕ) → rise_within most from ends ≡ true
-    → (from ≤ last_end from ends) × (last_end from ends ≤ most)
+    → (from ≤ last_link_end from ends) × (last_link_end from ends ≤ most)
 last_within most from [] rise = let below = leb-true from most rise in (omega arith, below)
 last_within most from (end ∷ ends) rise =
     let parts = and_parts (nat_le from end) (rise_within most end ends) rise in
@@ -54,32 +53,32 @@ cut_kept ts us from (end ∷ ends) rise =
 -- what stands behind the last place has more at its end
 pub begun_more : (ts us : List ℕ) (from : ℕ) (ends : List ℕ)
     → rise_within (length ts) from ends ≡ true
-    → drop (last_end from ends) (ts ++ us) ≡ drop (last_end from ends) ts ++ us
+    → drop (last_link_end from ends) (ts ++ us) ≡ drop (last_link_end from ends) ts ++ us
 begun_more ts us from ends rise =
-    drop-append-le (last_end from ends) ts us (last_within (length ts) from ends rise).1
+    drop-append-le (last_link_end from ends) ts us (last_within (length ts) from ends rise).1
 
 cut_more : (ts : List ℕ) (from : ℕ) (ends : List ℕ) (end : ℕ)
     → cut_at ts from (ends ++ end ∷ [])
-    ≡ cut_at ts from ends ++ slice_range ts (last_end from ends) end ∷ []
+    ≡ cut_at ts from ends ++ slice_range ts (last_link_end from ends) end ∷ []
 cut_more ts from [] end = refl
 cut_more ts from (first ∷ ends) end =
     ap (λ (rest : List (List ℕ)). slice_range ts from first ∷ rest) (cut_more ts first ends end)
 
-last_more : (from : ℕ) (ends : List ℕ) (end : ℕ) → last_end from (ends ++ end ∷ []) ≡ end
+last_more : (from : ℕ) (ends : List ℕ) (end : ℕ) → last_link_end from (ends ++ end ∷ []) ≡ end
 last_more from [] end = refl
 last_more from (first ∷ ends) end = last_more first ends end
 
 -- with an end behind all, what stood behind the last place is the last list
 pub cut_closed : (ts : List ℕ) (from : ℕ) (ends : List ℕ)
     → cut_at ts from (ends ++ length ts ∷ [])
-    ≡ cut_at ts from ends ++ drop (last_end from ends) ts ∷ []
+    ≡ cut_at ts from ends ++ drop (last_link_end from ends) ts ∷ []
 cut_closed ts from ends =
     cut_more ts from ends (length ts)
-    ∙ ap (λ (l : List ℕ). cut_at ts from ends ++ l ∷ []) (take_rest ts (last_end from ends))
+    ∙ ap (λ (l : List ℕ). cut_at ts from ends ++ l ∷ []) (take_rest ts (last_link_end from ends))
 
 -- and nothing stands behind it
 pub begun_closed : (ts : List ℕ) (from : ℕ) (ends : List ℕ)
-    → drop (last_end from (ends ++ length ts ∷ [])) ts ≡ []
+    → drop (last_link_end from (ends ++ length ts ∷ [])) ts ≡ []
 begun_closed ts from ends =
     ap (λ (n : ℕ). drop n ts) (last_more from ends (length ts)) ∙ drop-length ts
 

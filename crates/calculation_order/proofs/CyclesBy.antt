@@ -1,13 +1,13 @@
 -- The cycles of edges, by the first formula on cycles with each.
-use Rattle.std.proofs.Common.{◌≡◌, ◌∙◌, inl, inr, ℕ, ◌+◌, ◌<◌, ◌≤◌, Bool, true, false}
-use Rattle.std.proofs.Common.{List, [], ◌∷◌, length, refl, sym, ap, subst, arith, filter, map}
-use Rattle.std.proofs.Common.{cond, Option, None, Some, is_some, suc, zero}
+use Rattle.std.proofs.Common.{◌≡◌, ◌∙◌, inl, inr, ℕ, ◌+◌, ◌<◌, ◌≤◌, Bool, true, false, List, []}
+use Rattle.std.proofs.Common.{◌∷◌, length, refl, sym, ap, subst, arith, filter, map, cond, Option}
+use Rattle.std.proofs.Common.{None, Some, is_some, suc, zero}
 use Rattle.std.specs.List.{slice_index_or, range_with_len}
 use Rattle.std.proofs.lemmas.Bool.{and_from, cases_Bool, cases_lt, eq-eqb, eqb-true, false≢true}
 use Rattle.std.proofs.lemmas.Bool.{false_from_ne_true}
 use Rattle.std.proofs.lemmas.List.{get_or_past, length-map}
 use Rattle.std.proofs.lemmas.List.FromFn.{length-range_with_len, get_or-range_with_len}
-use Rattle.calculation_order.specs.Components.{is_this}
+use Rattle.calculation_order.specs.Components.{is_this_vertex}
 use Rattle.calculation_order.specs.Cycles.{AreFirsts, cycle_by, cycles_by, has_first, heads_by}
 use Rattle.calculation_order.specs.Edges.{are_together, cycle_of, cycles_of, first_of}
 use Rattle.calculation_order.specs.Edges.{first_together, firsts_of, is_first_of, is_number_of}
@@ -25,12 +25,12 @@ made_at f [] n d k within = absurd (omega arith)
 made_at f (m ∷ ms) zero d k within = refl
 made_at f (m ∷ ms) (suc n) d k within = made_at f ms n d k (omega arith)
 
-first_test : (ns : List ℕ) (n : ℕ) → is_first_of ns n ≡ is_this (first_of ns) n
+first_test : (ns : List ℕ) (n : ℕ) → is_first_of ns n ≡ is_this_vertex (first_of ns) n
 first_test [] n = refl
 first_test (m ∷ ms) n = refl
 
 -- one of a list that has a first one
-first_in : (ns : List ℕ) (n : ℕ) → is_this (first_of ns) n ≡ true → is_number_of ns n ≡ true
+first_in : (ns : List ℕ) (n : ℕ) → is_this_vertex (first_of ns) n ≡ true → is_number_of ns n ≡ true
 first_in [] n is = absurd (false≢true is)
 first_in (m ∷ ms) n is =
     subst (λ (k : ℕ). is_number_of (m ∷ ms) k ≡ true) (eqb-true m n is) (in_head m ms)
@@ -44,7 +44,7 @@ of_some [] is = absurd (false≢true is)
 of_some (m ∷ ms) is = (m, in_head m ms)
 
 some_same : (m n : ℕ) → Some m ≡ Some n → m ≡ n
-some_same m n e = eqb-true m n (ap (λ (o : Option ℕ). is_this o n) e ∙ eq-eqb n n refl)
+some_same m n e = eqb-true m n (ap (λ (o : Option ℕ). is_this_vertex o n) e ∙ eq-eqb n n refl)
 
 module _ (edges : List (List ℕ)) where
   pub first_at : (n : ℕ) → n < length edges
@@ -91,19 +91,19 @@ module _ (edges : List (List ℕ)) where
     head_alike : (n : ℕ) → n < length edges
         → has_first (firsts_of edges) n n ≡ is_first_of (cycle_of edges n) n
     head_alike n below =
-        ap (λ (o : Option ℕ). is_this o n) (first_at n below)
+        ap (λ (o : Option ℕ). is_this_vertex o n) (first_at n below)
         ∙ sym (first_test (cycle_of edges n) n)
 
     -- those with a first formula are together with it
     with_first : (first n : ℕ) → n < length edges
-        → is_this (first_together edges first) first ≡ true
+        → is_this_vertex (first_together edges first) first ≡ true
         → has_first (firsts_of edges) first n ≡ are_together edges first n
     with_first first n below is =
-        ap (λ (o : Option ℕ). is_this o first) (first_at n below)
+        ap (λ (o : Option ℕ). is_this_vertex o first) (first_at n below)
         ∙ same_tests _ _
         (λ by. back edges n first (of_filter (are_together edges n) (numbers_below (length edges))
         first (first_in (cycle_of edges n) first by)).1)
-        (λ by. subst (λ (ns : List ℕ). is_this (first_of ns) first ≡ true)
+        (λ by. subst (λ (ns : List ℕ). is_this_vertex (first_of ns) first ≡ true)
         (same_cycle edges within first n by) is)
 
     cycle_alike : (first : ℕ) → is_number_of (heads_by (firsts_of edges) (length edges)) first
@@ -111,7 +111,7 @@ module _ (edges : List (List ℕ)) where
     cycle_alike first is =
         let all = numbers_below (length edges) in
         let own = of_filter (λ n. has_first (firsts_of edges) n n) all first is in
-        let head = subst (λ (o : Option ℕ). is_this o first ≡ true)
+        let head = subst (λ (o : Option ℕ). is_this_vertex o first ≡ true)
         (first_at first (of_below (length edges) first own.0)) own.1 in
         filter_same (has_first (firsts_of edges) first) (are_together edges first) all
         (λ n in_all. with_first first n (of_below (length edges) n in_all) head)
@@ -155,7 +155,7 @@ module _ (edges : List (List ℕ)) (within : are_within edges ≡ true) where
       → (f ≤ n) × (slice_index_or (firsts_of edges) f None ≡ Some f)
   first_below n f below is =
       let all = numbers_below (length edges) in
-      let in_own = first_in (cycle_of edges n) f (ap (λ (o : Option ℕ). is_this o f) is
+      let in_own = first_in (cycle_of edges n) f (ap (λ (o : Option ℕ). is_this_vertex o f) is
       ∙ eq-eqb f f refl) in
       let own = of_filter (are_together edges n) all f in_own in
       let on = on_cycle_with edges within f n (back edges n f own.1) in

@@ -1,10 +1,10 @@
 -- The first formulas on cycles, by the components of links.
-use Rattle.std.proofs.Common.{◌≡◌, ◌∙◌, inl, inr, ℕ, ◌<◌, ◌&&◌, Bool, true, List}
-use Rattle.std.proofs.Common.{length, sym, ap, arith, cond, filter, Option, None}
+use Rattle.std.proofs.Common.{◌≡◌, ◌∙◌, inl, inr, ℕ, ◌<◌, ◌&&◌, Bool, true, List, length, sym, ap}
+use Rattle.std.proofs.Common.{arith, cond, filter, Option, None}
 use Rattle.std.proofs.lemmas.Bool.{and_from, and_parts, cases_Bool, eqb-true}
-use Rattle.calculation_order.specs.Components.{Found, are_certain, first_among, first_around}
-use Rattle.calculation_order.specs.Components.{have_one_rank, head_from, is_around, leads_around}
-use Rattle.calculation_order.specs.Components.{rank_of}
+use Rattle.calculation_order.specs.Components.{FoundComponents, are_certain, first_among}
+use Rattle.calculation_order.specs.Components.{first_around, have_one_rank, head_from, is_around}
+use Rattle.calculation_order.specs.Components.{leads_around, rank_of}
 use Rattle.calculation_order.specs.Edges.{are_together, cycle_of, first_of, first_together}
 use Rattle.calculation_order.specs.Edges.{numbers_below}
 use Rattle.calculation_order.specs.Links.{AreGrouped, AreLinked, Linked}
@@ -14,7 +14,7 @@ use Rattle.calculation_order.proofs.SameNeeds.{leads_within}
 use Rattle.calculation_order.proofs.Members.{both_false, filter_none, filter_same, of_below}
 use Rattle.calculation_order.proofs.Members.{same_tests}
 
-module _ (linked : Linked) (so : AreGrouped linked) (found : Found)
+module _ (linked : Linked) (so : AreGrouped linked) (found : FoundComponents)
     (certain : are_certain linked.links found ≡ true) (edges : List (List ℕ))
     (same : AreLinked edges linked) where
   vertex : (n : ℕ) → n < linked.formulas → n < length linked.links

@@ -1,13 +1,13 @@
 -- The formulas for which vertices stand, where groups lead on.
 use Rattle.std.proofs.Common.{◌≡◌, ◌∙◌, ◌⊎◌, inl, inr, ℕ, zero, suc, ◌+◌, ◌<◌, ◌≤◌, ◌&&◌, ◌||◌}
-use Rattle.std.proofs.Common.{true, List, [], ◌∷◌}
-use Rattle.std.proofs.Common.{◌++◌, length, get_or, refl, sym, subst, arith, flat_map}
+use Rattle.std.proofs.Common.{true, List, [], ◌∷◌, ◌++◌, length, get_or, refl, sym, subst, arith}
+use Rattle.std.proofs.Common.{flat_map}
 use Rattle.std.specs.List.{list_all}
 use Rattle.std.specs.Prelude.{nat_lt}
 use Rattle.std.proofs.lemmas.Bool.{and_from, and_parts, cond-false, cond-true, cond_both}
 use Rattle.std.proofs.lemmas.Bool.{false≢true, le-ltb, lt-ltb, ltb-true, or_cases}
 use Rattle.calculation_order.specs.Edges.{is_number_of, needs_of}
-use Rattle.calculation_order.specs.Links.{AreGrouped, Linked, goes_on, lead_on_from, leads_on}
+use Rattle.calculation_order.specs.Links.{AreGrouped, Linked, may_lead_to, lead_on_from, leads_on}
 use Rattle.calculation_order.specs.Links.{members, members_within}
 use Rattle.calculation_order.proofs.Members.{all_at, all_from, in_cons, in_head, in_tail}
 use Rattle.calculation_order.proofs.Members.{of_flat_map}
@@ -58,36 +58,39 @@ module _ (linked : Linked) (grouped : AreGrouped linked) where
 
 from_each : (formulas most from : ℕ) (links : List (List ℕ))
     → ((v : ℕ) → v < length links
-    → list_all (goes_on formulas most (v + from)) (get_or links v []) ≡ true)
+    → list_all (may_lead_to formulas most (v + from)) (get_or links v []) ≡ true)
     → lead_on_from formulas most from links ≡ true
 from_each formulas most from [] each = refl
 from_each formulas most from (ws ∷ rest) each =
     let same : 0 + from ≡ from = omega arith in
     and_from _ _
-    (subst (λ (n : ℕ). list_all (goes_on formulas most n) ws ≡ true) same (each 0 (omega arith)))
+    (subst (λ (n : ℕ). list_all (may_lead_to formulas most n) ws ≡ true) same
+    (each 0 (omega arith)))
     (from_each formulas most (suc from) rest (λ v vertex.
     let next : suc v + from ≡ v + suc from = omega arith in
-    subst (λ (n : ℕ). list_all (goes_on formulas most n) (get_or rest v []) ≡ true) next
+    subst (λ (n : ℕ). list_all (may_lead_to formulas most n) (get_or rest v []) ≡ true) next
     (each (suc v) (omega arith))))
 
 -- links are grouped where each vertex passes
 pub grouped_from : (linked : Linked) → linked.formulas ≤ length linked.links
     → ((v : ℕ) → v < length linked.links
-    → list_all (goes_on linked.formulas (length linked.links) v) (needs_of linked.links v) ≡ true)
+    → list_all (may_lead_to linked.formulas (length linked.links) v) (needs_of linked.links
+    v) ≡ true)
     → AreGrouped linked
 grouped_from linked formulas each = record {
   formulas = formulas;
   lead_on = from_each linked.formulas (length linked.links) 0 linked.links (λ v vertex.
       let same : v ≡ v + 0 = omega arith in
-      subst (λ (n : ℕ). list_all (goes_on linked.formulas (length linked.links) n)
+      subst (λ (n : ℕ). list_all (may_lead_to linked.formulas (length linked.links) n)
       (get_or linked.links v []) ≡ true) same (each v vertex));
 }
 
 -- and each passes where they are
 pub passes_grouped : (linked : Linked) → AreGrouped linked → (v : ℕ)
-    → list_all (goes_on linked.formulas (length linked.links) v) (needs_of linked.links v) ≡ true
+    → list_all (may_lead_to linked.formulas (length linked.links) v) (needs_of linked.links
+    v) ≡ true
 passes_grouped linked grouped v =
-    let goes = goes_on linked.formulas (length linked.links) in
+    let goes = may_lead_to linked.formulas (length linked.links) in
     let same : v + 0 ≡ v = omega arith in
     all_from (goes v) (needs_of linked.links v) (λ w is.
     subst (λ (n : ℕ). goes n w ≡ true) same

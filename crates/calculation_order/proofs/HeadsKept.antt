@@ -1,16 +1,16 @@
 -- The first formulas of components, one formula after the other, the last one first.
-use Rattle.std.proofs.Common.{◌≡◌, ◌∙◌, inl, inr, ℕ, ◌+◌, ◌-◌, ◌<◌, ◌==◌, ◌&&◌}
-use Rattle.std.proofs.Common.{Bool, true, false, List, length, sym, ap, subst, arith}
-use Rattle.std.proofs.Common.{cond, Option, None, Some, slice_set}
+use Rattle.std.proofs.Common.{◌≡◌, ◌∙◌, inl, inr, ℕ, ◌+◌, ◌-◌, ◌<◌, ◌==◌, ◌&&◌, Bool, true, false}
+use Rattle.std.proofs.Common.{List, length, sym, ap, subst, arith, cond, Option, None, Some}
+use Rattle.std.proofs.Common.{slice_set}
 use Rattle.std.specs.List.{slice_index_or}
 use Rattle.std.proofs.lemmas.Bool.{and_from, cases_Bool, eqb-false, eqb-true}
 use Rattle.std.proofs.lemmas.List.{get_or-set_same, get_or-set_other, length-set}
-use Rattle.calculation_order.specs.Components.{Found, HasHeads, head_from, is_around, leads_around}
-use Rattle.calculation_order.specs.Components.{rank_of}
+use Rattle.calculation_order.specs.Components.{FoundComponents, HasHeads, head_from, is_around}
+use Rattle.calculation_order.specs.Components.{leads_around, rank_of}
 use Rattle.calculation_order.specs.Links.{Linked}
 use Rattle.calculation_order.proofs.Members.{both_false, first_step}
 
-module _ (linked : Linked) (found : Found) where
+module _ (linked : Linked) (found : FoundComponents) where
   -- with one formula more before them
   head_step : (start rank : ℕ) → start < linked.formulas
       → head_from linked.links found start (linked.formulas - start) rank

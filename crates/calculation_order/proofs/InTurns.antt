@@ -1,14 +1,12 @@
 -- Turns in which formulas wait for one that they need are below the number of formulas for those
 -- that depend on one that asks.
 use Rattle.std.proofs.Common.{◌≡◌, ◌∙◌, ◌⊎◌, inl, inr, ℕ, zero, suc, ◌<◌, ◌≤◌, ◌&&◌, not, Bool}
-use Rattle.std.proofs.Common.{true, false, List, [], ◌∷◌, length, filter, ap, arith}
-use Rattle.std.proofs.Common.{cond, ltb-true}
+use Rattle.std.proofs.Common.{true, false, List, [], ◌∷◌, length, filter, ap, arith, cond, ltb-true}
 use Rattle.std.specs.List.{list_any}
 use Rattle.std.specs.Prelude.{nat_lt}
 use Rattle.std.proofs.lemmas.Bool.{and_from, and_parts, both_ways, cases_Bool, cases_lt, cond-false}
 use Rattle.std.proofs.lemmas.Bool.{cond-true, false≢true, false_from_ne_true, le-ltb, lt-ltb}
-use Rattle.std.proofs.lemmas.Bool.{ltb-false}
-use Rattle.std.proofs.lemmas.Bool.{not-true, not_from_false, or_cases, or_left, or_right}
+use Rattle.std.proofs.lemmas.Bool.{ltb-false, not-true, not_from_false, or_cases, or_left, or_right}
 use Rattle.std.proofs.lemmas.List.{get_or_past}
 use Rattle.calculation_order.specs.Edges.{depends_on, dependents_of, is_number_of, needs_of}
 use Rattle.calculation_order.specs.Edges.{numbers_below, reached}
@@ -17,9 +15,7 @@ use Rattle.calculation_order.specs.Turns.{AreTurns, joined_of, turn_at, turn_beh
 use Rattle.calculation_order.specs.declared.turns.Waiting.TheVariants.{ForAny}
 use Rattle.calculation_order.proofs.InRounds.{filter_same}
 use Rattle.calculation_order.proofs.Members.{any_at, any_from, in_below, in_cons, in_filter}
-use Rattle.calculation_order.proofs.Members.{same_tests}
-use Rattle.calculation_order.proofs.Members.{in_head}
-use Rattle.calculation_order.proofs.Members.{in_tail, of_below, of_filter}
+use Rattle.calculation_order.proofs.Members.{same_tests, in_head, in_tail, of_below, of_filter}
 use Rattle.calculation_order.proofs.Reaching.{reached_itself, reached_through, reached_within_set}
 use Rattle.calculation_order.proofs.Reaching.{within_at}
 use Rattle.calculation_order.proofs.Settling.{size_below, size_bound, size_grows}

@@ -9,8 +9,7 @@ use Rattle.calculation_order.specs.Edges.{is_number_of, is_ready, needs_of, numb
 use Rattle.calculation_order.specs.Edges.{reached, ready}
 use Rattle.calculation_order.specs.OrderLaws.{OthersHaveCycles, are_within, is_on_cycle}
 use Rattle.calculation_order.proofs.Members.{any_at, any_from, fails_at, in_filter, in_head}
-use Rattle.calculation_order.proofs.Members.{in_left}
-use Rattle.calculation_order.proofs.Members.{in_below, in_right}
+use Rattle.calculation_order.proofs.Members.{in_left, in_below, in_right}
 use Rattle.calculation_order.proofs.Reaching.{reached_itself, reached_through, within_at}
 use Rattle.calculation_order.proofs.Rounds.{done_behind, done_by_steps, of_ready}
 use Rattle.calculation_order.proofs.Settling.{settles, size_below, size_bound, size_grows}

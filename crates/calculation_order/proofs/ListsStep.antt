@@ -1,19 +1,19 @@
 -- The cycles of formulas, one formula after the other.
-use Rattle.std.proofs.Common.{◌≡◌, ◌∙◌, inl, inr, ℕ, zero, suc, ◌+◌, ◌-◌, ◌<◌, ◌==◌, Bool}
-use Rattle.std.proofs.Common.{true, false, List, [], ◌∷◌, ◌++◌, length, refl, sym, ap, arith}
-use Rattle.std.proofs.Common.{cond, filter, map, Option, None, Some, slice_set}
+use Rattle.std.proofs.Common.{◌≡◌, ◌∙◌, inl, inr, ℕ, zero, suc, ◌+◌, ◌-◌, ◌<◌, ◌==◌, Bool, true}
+use Rattle.std.proofs.Common.{false, List, [], ◌∷◌, ◌++◌, length, refl, sym, ap, arith, cond}
+use Rattle.std.proofs.Common.{filter, map, Option, None, Some, slice_set}
 use Rattle.std.specs.List.{slice_index_or, range_with_len}
-use Rattle.std.proofs.lemmas.Bool.{cases_Bool, cases_lt, eq-eqb, eqb-true}
-use Rattle.std.proofs.lemmas.Bool.{false≢true, false_from_ne_true}
+use Rattle.std.proofs.lemmas.Bool.{cases_Bool, cases_lt, eq-eqb, eqb-true, false≢true}
+use Rattle.std.proofs.lemmas.Bool.{false_from_ne_true}
 use Rattle.std.proofs.lemmas.List.{append-nil, get_or_append_left, length-append, length-map}
 use Rattle.std.proofs.lemmas.List.{map-append}
 use Rattle.std.proofs.lemmas.List.Elements.{filter-append}
-use Rattle.calculation_order.specs.Components.{is_this}
-use Rattle.calculation_order.specs.Cycles.{AreFirsts, AreKept, cycle_by, cycles_by, has_first}
+use Rattle.calculation_order.specs.Components.{is_this_vertex}
+use Rattle.calculation_order.specs.Cycles.{AreFirsts, AreCyclesKept, cycle_by, cycles_by, has_first}
 use Rattle.calculation_order.specs.Cycles.{heads_by, with_kept, with_next}
 use Rattle.calculation_order.specs.Edges.{is_number_of, numbers_below}
-use Rattle.calculation_order.proofs.Members.{below_more, filter_none}
-use Rattle.calculation_order.proofs.Members.{map_same, of_below, of_filter, of_range}
+use Rattle.calculation_order.proofs.Members.{below_more, filter_none, map_same, of_below, of_filter}
+use Rattle.calculation_order.proofs.Members.{of_range}
 
 -- one that passes stands at the end
 filter_one : (p : ℕ → Bool) (ns : List ℕ) (n : ℕ)
@@ -53,7 +53,7 @@ below_split f k below =
     ap numbers_below sum ∙ range_split 0 f (suc (k - (f + 1)))
     ∙ ap (λ (a : ℕ). numbers_below f ++ range_with_len a (suc (k - (f + 1)))) none
 
-some_of : (o : Option ℕ) (n : ℕ) → is_this o n ≡ true → o ≡ Some n
+some_of : (o : Option ℕ) (n : ℕ) → is_this_vertex o n ≡ true → o ≡ Some n
 some_of None n is = absurd (false≢true is)
 some_of (Some m) n is = ap (λ (k : ℕ). Some k) (eqb-true m n is)
 
@@ -62,33 +62,34 @@ module _ (firsts : List (Option ℕ)) (so : AreFirsts firsts) (k : ℕ) where
   own = slice_index_or firsts k None
 
   cycle_more : (f : ℕ)
-      → cycle_by firsts (k + 1) f ≡ cycle_by firsts k f ++ cond (is_this own f) (k ∷ []) []
+      → cycle_by firsts (k + 1) f ≡ cycle_by firsts k f ++ cond (is_this_vertex own f) (k ∷ []) []
   cycle_more f =
       ap (filter (has_first firsts f)) (below_more k) ∙ filter_one (has_first firsts f)
       (numbers_below k) k
 
-  heads_more : heads_by firsts (k + 1) ≡ heads_by firsts k ++ cond (is_this own k) (k ∷ []) []
+  heads_more : heads_by firsts (k + 1) ≡ heads_by firsts k ++ cond (is_this_vertex own k) (k
+      ∷ []) []
   heads_more =
       ap (filter (λ n. has_first firsts n n)) (below_more k)
       ∙ filter_one (λ n. has_first firsts n n) (numbers_below k) k
 
   -- one whose first formula is none of the others changes no other cycle
   others_same : (o : Option ℕ) → own ≡ o → (hs : List ℕ)
-      → ((f : ℕ) → is_number_of hs f ≡ true → is_this o f ≡ false)
+      → ((f : ℕ) → is_number_of hs f ≡ true → is_this_vertex o f ≡ false)
       → map (cycle_by firsts (k + 1)) hs ≡ map (cycle_by firsts k) hs
   others_same o is hs off =
       map_same (cycle_by firsts (k + 1)) (cycle_by firsts k) hs
       (λ f in_hs. cycle_more f
       ∙ ap (λ (b : Bool). cycle_by firsts k f ++ cond b (k ∷ []) [])
-      (ap (λ (x : Option ℕ). is_this x f) is ∙ off f in_hs)
+      (ap (λ (x : Option ℕ). is_this_vertex x f) is ∙ off f in_hs)
       ∙ append-nil (cycle_by firsts k f))
 
-  same_heads : (o : Option ℕ) → own ≡ o → is_this o k ≡ false
+  same_heads : (o : Option ℕ) → own ≡ o → is_this_vertex o k ≡ false
       → heads_by firsts (k + 1) ≡ heads_by firsts k
   same_heads o is off =
       heads_more
       ∙ ap (λ (b : Bool). heads_by firsts k ++ cond b (k ∷ []) [])
-      (ap (λ (x : Option ℕ). is_this x k) is ∙ off)
+      (ap (λ (x : Option ℕ). is_this_vertex x k) is ∙ off)
       ∙ append-nil (heads_by firsts k)
 
   -- one with no first formula changes no cycle
@@ -101,14 +102,14 @@ module _ (firsts : List (Option ℕ)) (so : AreFirsts firsts) (k : ℕ) where
   head_below f is =
       of_below k f (of_filter (λ n. has_first firsts n n) (numbers_below k) f is).0
 
-  not_this : (f n : ℕ) → (f ≡ n → false ≡ true) → is_this (Some f) n ≡ false
+  not_this : (f n : ℕ) → (f ≡ n → false ≡ true) → is_this_vertex (Some f) n ≡ false
   not_this f n other = false_from_ne_true _ (λ e. false≢true (other (eqb-true f n e)))
 
   -- one that is the first has a cycle of its own
   pub first_kept : (place : ℕ) → own ≡ Some k
       → cycles_by firsts (k + 1) ≡ with_kept (cycles_by firsts k) place (k == k) k
   first_kept place is =
-      let this : is_this (Some k) k ≡ true = eq-eqb k k refl in
+      let this : is_this_vertex (Some k) k ≡ true = eq-eqb k k refl in
       let alone : cycle_by firsts k k ≡ [] =
       filter_none (has_first firsts k) (numbers_below k) (λ n below. false_from_ne_true _ (λ e.
       let less = of_below k n below in
@@ -116,14 +117,14 @@ module _ (firsts : List (Option ℕ)) (so : AreFirsts firsts) (k : ℕ) where
       absurd (omega arith))) in
       ap (map (cycle_by firsts (k + 1))) (heads_more
       ∙ ap (λ (b : Bool). heads_by firsts k ++ cond b (k ∷ []) [])
-      (ap (λ (x : Option ℕ). is_this x k) is ∙ this))
+      (ap (λ (x : Option ℕ). is_this_vertex x k) is ∙ this))
       ∙ map-append (cycle_by firsts (k + 1)) (heads_by firsts k) (k ∷ [])
       ∙ ap (λ (l : List (List ℕ)). l ++ cycle_by firsts (k + 1) k ∷ [])
       (others_same (Some k) is (heads_by firsts k) (λ f in_hs. not_this k f
       (λ e. absurd (let less = head_below f in_hs in omega arith))))
       ∙ ap (λ (l : List ℕ). cycles_by firsts k ++ l ∷ []) (cycle_more k
       ∙ ap (λ (b : Bool). cycle_by firsts k k ++ cond b (k ∷ []) [])
-      (ap (λ (x : Option ℕ). is_this x k) is ∙ this)
+      (ap (λ (x : Option ℕ). is_this_vertex x k) is ∙ this)
       ∙ ap (λ (l : List ℕ). l ++ k ∷ []) alone)
       ∙ sym (ap (λ (b : Bool). cond b (cycles_by firsts k ++ (k ∷ []) ∷ [])
       (slice_set (cycles_by firsts k) place (slice_index_or (cycles_by firsts k) place []
@@ -148,7 +149,7 @@ module _ (firsts : List (Option ℕ)) (so : AreFirsts firsts) (k : ℕ) where
         ap (filter p) (below_split f k before)
         ∙ filter-append p (numbers_below f) (f ∷ range_with_len (f + 1) (k - (f + 1)))
         ∙ ap (λ (b : Bool). filter p (numbers_below f) ++ cond b (f ∷ later) later)
-        (ap (λ (o : Option ℕ). is_this o f) (so k f is).1 ∙ eq-eqb f f refl)
+        (ap (λ (o : Option ℕ). is_this_vertex o f) (so k f is).1 ∙ eq-eqb f f refl)
 
     abbrev earlier_cycles : List (List ℕ)
     earlier_cycles = map (cycle_by firsts k) (heads_by firsts f)
@@ -177,7 +178,7 @@ module _ (firsts : List (Option ℕ)) (so : AreFirsts firsts) (k : ℕ) where
     own_more =
         cycle_more f
         ∙ ap (λ (b : Bool). cycle_by firsts k f ++ cond b (k ∷ []) [])
-        (ap (λ (x : Option ℕ). is_this x f) is ∙ eq-eqb f f refl)
+        (ap (λ (x : Option ℕ). is_this_vertex x f) is ∙ eq-eqb f f refl)
 
     cut_more : cycles_by firsts (k + 1)
         ≡ earlier_cycles ++ (cycle_by firsts k f ++ k ∷ []) ∷ later_cycles
@@ -210,7 +211,7 @@ module _ (firsts : List (Option ℕ)) (so : AreFirsts firsts) (k : ℕ) where
         later_cycles)
 
 module _ (firsts : List (Option ℕ)) (so : AreFirsts firsts) (k : ℕ) (lists : List (List ℕ))
-    (places : List ℕ) (kept : AreKept firsts k lists places) where
+    (places : List ℕ) (kept : AreCyclesKept firsts k lists places) where
   abbrev more : List ℕ
   more = places ++ length lists ∷ []
 
@@ -250,7 +251,7 @@ module _ (firsts : List (Option ℕ)) (so : AreFirsts firsts) (k : ℕ) (lists :
       ]
 
   pub next_kept :
-      AreKept firsts (k + 1) (with_next lists more (slice_index_or firsts k None) k) more
+      AreCyclesKept firsts (k + 1) (with_next lists more (slice_index_or firsts k None) k) more
   next_kept = record {
     cycles = next_cycles (slice_index_or firsts k None) refl;
     size = (let size = kept.size in let one = length-append places (length lists ∷ []) in

@@ -1,8 +1,7 @@
 -- What is among numbers: those of joined lists, of a filter, of a range.
 use Rattle.std.proofs.Common.{◌≡◌, ◌∙◌, ◌⊎◌, inl, inr, ℕ, zero, suc, ◌+◌, ◌<◌, ◌≤◌, ◌==◌, ◌&&◌}
-use Rattle.std.proofs.Common.{Bool}
-use Rattle.std.proofs.Common.{true, false, List, [], ◌∷◌, ◌++◌, cond, refl, sym, ap, subst, arith}
-use Rattle.std.proofs.Common.{◌-◌, filter, flat_map, map, Some, true≢false}
+use Rattle.std.proofs.Common.{Bool, true, false, List, [], ◌∷◌, ◌++◌, cond, refl, sym, ap, subst}
+use Rattle.std.proofs.Common.{arith, ◌-◌, filter, flat_map, map, Some, true≢false}
 use Rattle.std.specs.List.{list_all, list_any, range_with_len}
 use Rattle.std.proofs.lemmas.Bool.{or_cases, or_left, or_right, and_parts, and_from, and_cases}
 use Rattle.std.proofs.lemmas.Bool.{eqb-true, eqb-false, eq-eqb, false≢true, cases_Bool, cond_both}

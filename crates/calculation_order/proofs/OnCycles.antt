@@ -1,13 +1,12 @@
 -- The cycles: a formula that needs itself is on one of them, once, and no other is on any.
-use Rattle.std.proofs.Common.{◌≡◌, ◌∙◌, inl, inr, ℕ, ◌<◌, ◌==◌, true, false}
-use Rattle.std.proofs.Common.{List, [], ◌∷◌, length, refl, subst, sym, ap, filter, flat_map}
+use Rattle.std.proofs.Common.{◌≡◌, ◌∙◌, inl, inr, ℕ, ◌<◌, ◌==◌, true, false, List, [], ◌∷◌, length}
+use Rattle.std.proofs.Common.{refl, subst, sym, ap, filter, flat_map}
 use Rattle.std.proofs.lemmas.Bool.{and_from, and_parts, both_ways, cases_Bool, eqb-true, eq-eqb}
 use Rattle.std.proofs.lemmas.Bool.{false_from_ne_true, false≢true}
 use Rattle.std.proofs.lemmas.List.Elements.{filter_agree}
 use Rattle.std.proofs.lemmas.List.Folds.{flat_map-map}
 use Rattle.calculation_order.specs.Edges.{are_together, cycle_of, cycles_of, is_first_of}
-use Rattle.calculation_order.specs.Edges.{is_number_of}
-use Rattle.calculation_order.specs.Edges.{numbers_below, reached}
+use Rattle.calculation_order.specs.Edges.{is_number_of, numbers_below, reached}
 use Rattle.calculation_order.specs.OrderLaws.{are_within, is_on_cycle}
 use Rattle.calculation_order.proofs.Counting.{times_dropped, times_below, times_in, times_in_one}
 use Rattle.calculation_order.proofs.Counting.{times_kept, times_none}

@@ -1,14 +1,13 @@
 -- Each formula stands once: in the order, on one cycle, or behind one.
 use Rattle.std.proofs.Common.{◌≡◌, ◌∙◌, inl, inr, ℕ, ◌+◌, ◌<◌, ◌≤◌, ◌&&◌, ◌||◌, Bool, true, false}
-use Rattle.std.proofs.Common.{List, ◌++◌, length, not, refl, arith, sym, ap, flat_map}
-use Rattle.std.proofs.Common.{ltb-false, ltb-true}
+use Rattle.std.proofs.Common.{List, ◌++◌, length, not, refl, arith, sym, ap, flat_map, ltb-false}
+use Rattle.std.proofs.Common.{ltb-true}
 use Rattle.std.specs.Prelude.{nat_lt, if◌then◌else◌}
 use Rattle.std.specs.List.{list_any}
 use Rattle.std.proofs.lemmas.Bool.{cases_Bool, false_from_ne_true}
 use Rattle.calculation_order.specs.Edges.{cycles_of, is_number_of, numbers_below, order_of, reached}
 use Rattle.calculation_order.specs.OrderLaws.{EachStandsOnce, all_of, are_within, behind_of}
-use Rattle.calculation_order.specs.OrderLaws.{is_behind}
-use Rattle.calculation_order.specs.OrderLaws.{is_on_cycle}
+use Rattle.calculation_order.specs.OrderLaws.{is_behind, is_on_cycle}
 use Rattle.calculation_order.proofs.Counting.{times_append, times_below, times_dropped, times_in}
 use Rattle.calculation_order.proofs.Counting.{times_kept, times_none}
 use Rattle.calculation_order.proofs.Leaving.{others_have_cycles}

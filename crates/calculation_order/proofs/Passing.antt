@@ -1,20 +1,16 @@
 -- A pass over groups from the last one to the first: what is told of their formulas, joined.
 use Rattle.std.proofs.Common.{◌≡◌, ◌∙◌, ◌⊎◌, inl, inr, ℕ, zero, suc, ◌+◌, ◌<◌, ◌≤◌, Bool, true}
-use Rattle.std.proofs.Common.{cond}
-use Rattle.std.proofs.Common.{List, [], ◌∷◌}
-use Rattle.std.proofs.Common.{◌++◌, length, set, map, take, replicate}
-use Rattle.std.proofs.Common.{sym, ap, arith, flat_map}
+use Rattle.std.proofs.Common.{cond, List, [], ◌∷◌, ◌++◌, length, set, map, take, replicate, sym, ap}
+use Rattle.std.proofs.Common.{arith, flat_map}
 use Rattle.std.proofs.lemmas.Bool.{cases_eq, cases_lt}
 use Rattle.std.proofs.lemmas.Grind.{get_or-set_at}
 use Rattle.std.proofs.lemmas.List.{get_or-set_other, get_or_append_left, length-set, take_all}
 use Rattle.std.proofs.lemmas.List.FromFn.{get_or-map-range_with_len, length-map-range_with_len}
 use Rattle.calculation_order.specs.Edges.{is_number_of, needs_of, numbers_below}
-use Rattle.calculation_order.specs.Links.{AreGrouped, Linked, linked_from, members}
-use Rattle.calculation_order.specs.Links.{told_edges}
+use Rattle.calculation_order.specs.Links.{AreGrouped, Linked, linked_from, members, told_edges}
 use Rattle.calculation_order.specs.Turns.{AreJoined, behind_at, joined_of, turn_after, turn_at}
 use Rattle.calculation_order.specs.declared.turns.Waiting.{Waiting}
-use Rattle.calculation_order.proofs.Grouped.{link_to, members_below, members_formula}
-use Rattle.calculation_order.proofs.Grouped.{members_group}
+use Rattle.calculation_order.proofs.Grouped.{link_to, members_below, members_formula, members_group}
 use Rattle.calculation_order.proofs.Joining.{joined_of-flat_map, joined_of-same, joined_one}
 
 -- what is joined over the links of a vertex is joined over the formulas to which they lead

@@ -1,7 +1,6 @@
 -- What a formula needs, itself or through others: nothing else is needed by those.
-use Rattle.std.proofs.Common.{◌≡◌, ◌∙◌, ◌⊎◌, inl, inr, ℕ, zero, suc, ◌<◌, Bool, true}
-use Rattle.std.proofs.Common.{List, [], length, refl, sym, ap, subst, arith}
-use Rattle.std.proofs.Common.{flat_map, ltb-true}
+use Rattle.std.proofs.Common.{◌≡◌, ◌∙◌, ◌⊎◌, inl, inr, ℕ, zero, suc, ◌<◌, Bool, true, List, []}
+use Rattle.std.proofs.Common.{length, refl, sym, ap, subst, arith, flat_map, ltb-true}
 use Rattle.std.specs.List.{list_all}
 use Rattle.std.specs.Prelude.{nat_lt}
 use Rattle.std.proofs.lemmas.Bool.{false≢true, cases_Bool, cases_lt}

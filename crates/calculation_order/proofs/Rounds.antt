@@ -7,11 +7,9 @@ use Rattle.std.proofs.Math.Seq.{take-append-add}
 use Rattle.std.proofs.lemmas.Bool.{and_parts, cases_lt, not-true}
 use Rattle.std.proofs.lemmas.List.{get_or_append_left, length-append, append_assoc}
 use Rattle.calculation_order.specs.Edges.{is_number_of, is_ready, needs_of, numbers_below, order_of}
-use Rattle.calculation_order.specs.Edges.{ready}
-use Rattle.calculation_order.specs.Edges.{rounds_within}
+use Rattle.calculation_order.specs.Edges.{ready, rounds_within}
 use Rattle.calculation_order.specs.OrderLaws.{NeedsStandBefore}
-use Rattle.calculation_order.proofs.Members.{in_left, in_head, in_tail, all_at, all_from}
-use Rattle.calculation_order.proofs.Members.{of_filter}
+use Rattle.calculation_order.proofs.Members.{in_left, in_head, in_tail, all_at, all_from, of_filter}
 use Rattle.calculation_order.proofs.Settling.{stepped}
 
 -- the formulas of so many rounds, where these are done

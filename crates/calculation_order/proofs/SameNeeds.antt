@@ -1,8 +1,7 @@
 -- Edges of which each formula needs the same formulas have one order and the same dependents.
 use Rattle.std.proofs.Common.{◌≡◌, ◌∙◌, inl, inr, ℕ, zero, suc, ◌<◌, ◌&&◌, ◌||◌, not, Bool, true}
 use Rattle.std.proofs.Common.{List, [], ◌∷◌, ◌++◌, length, get_or, filter, refl, sym, ap, subst}
-use Rattle.std.proofs.Common.{arith}
-use Rattle.std.proofs.Common.{flat_map}
+use Rattle.std.proofs.Common.{arith, flat_map}
 use Rattle.std.specs.List.{list_all, list_any}
 use Rattle.std.specs.Prelude.{nat_lt}
 use Rattle.std.proofs.lemmas.Bool.{both_ways, cases_lt, lt-ltb}
@@ -10,8 +9,8 @@ use Rattle.std.proofs.lemmas.List.{get_or_default, get_or_past}
 use Rattle.std.proofs.lemmas.List.Elements.{filter_agree}
 use Rattle.std.proofs.lemmas.List.Sums.{list_all-from_AllPass}
 use Rattle.calculation_order.specs.Edges.{dependents_of, depends_on, is_number_of, is_ready}
-use Rattle.calculation_order.specs.Edges.{needs_of}
-use Rattle.calculation_order.specs.Edges.{numbers_below, order_of, reached, ready, rounds_within}
+use Rattle.calculation_order.specs.Edges.{needs_of, numbers_below, order_of, reached, ready}
+use Rattle.calculation_order.specs.Edges.{rounds_within}
 use Rattle.calculation_order.specs.Links.{AreGrouped, AreLinked, Linked, linked_from, members}
 use Rattle.calculation_order.specs.Links.{told_edges}
 use Rattle.calculation_order.specs.OrderLaws.{are_within}

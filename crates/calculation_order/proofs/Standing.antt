@@ -1,17 +1,15 @@
 -- Turns that are found anew again and again, from none: after as many times as there are formulas
 -- they stand still.
-use Rattle.std.proofs.Common.{◌≡◌, ◌∙◌, inl, inr, ℕ, zero, suc, ◌<◌, ◌≤◌, Bool, cond}
-use Rattle.std.proofs.Common.{List, [], ◌∷◌, length, replicate, refl, sym, ap, arith}
+use Rattle.std.proofs.Common.{◌≡◌, ◌∙◌, inl, inr, ℕ, zero, suc, ◌<◌, ◌≤◌, Bool, cond, List, [], ◌∷◌}
+use Rattle.std.proofs.Common.{length, replicate, refl, sym, ap, arith}
 use Rattle.std.specs.Prelude.{nat_lt}
 use Rattle.std.proofs.lemmas.Bool.{cases_lt, cond-false, cond-true, cond_both, le-ltb, lt-ltb}
 use Rattle.std.proofs.lemmas.Bool.Decides.{nat_tests}
-use Rattle.std.proofs.lemmas.List.{ext_get_or, get_or-replicate, get_or_past}
-use Rattle.std.proofs.lemmas.List.{length-replicate}
+use Rattle.std.proofs.lemmas.List.{ext_get_or, get_or-replicate, get_or_past, length-replicate}
 use Rattle.std.proofs.lemmas.List.FromFn.{get_or-map-range_with_len, length-map-range_with_len}
 use Rattle.calculation_order.specs.Edges.{needs_of}
 use Rattle.calculation_order.specs.Turns.{AreTurns, behind_at, joined, joined_of, turn_after}
-use Rattle.calculation_order.specs.Turns.{turn_at}
-use Rattle.calculation_order.specs.Turns.{turn_behind, turn_of_none, turns_after}
+use Rattle.calculation_order.specs.Turns.{turn_at, turn_behind, turn_of_none, turns_after}
 use Rattle.calculation_order.specs.declared.turns.Waiting.{Waiting}
 use Rattle.calculation_order.specs.declared.turns.Waiting.TheVariants.{ForAll, ForAny}
 use Rattle.calculation_order.proofs.Joining.{joined_of-same, joined_of_below}

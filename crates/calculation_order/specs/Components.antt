@@ -7,96 +7,98 @@ use Rattle.calculation_order.specs.Edges.{are_together, first_of, needs_of, numb
 use Rattle.calculation_order.specs.Links.{Linked}
 use Rattle.calculation_order.specs.declared.components.Mark.{Mark}
 
--- of a vertex that no search came to
+-- the mark of a vertex that no search came to
 abbrev pub unmarked : Mark
 unmarked = record { rank = 0; depth = 0; from = 0; by = 0; next = 0; back = 0 }
 
 -- what is found: a mark for each vertex, and for each rank the root of the component
-pub record Found : Type 0 where
+pub record FoundComponents : Type 0 where
   pub marks : List Mark
   pub roots : List ℕ
 
--- the mark of a vertex
-abbrev pub mark_of : Found → ℕ → Mark
+-- the mark that was found of a vertex, or that of one that no search came to
+abbrev pub mark_of : FoundComponents → ℕ → Mark
 mark_of found v = slice_index_or found.marks v unmarked
 
 -- the component of a vertex, by its number
-abbrev pub rank_of : Found → ℕ → ℕ
+abbrev pub rank_of : FoundComponents → ℕ → ℕ
 rank_of found v = (mark_of found v).rank
 
--- where a component begins
-abbrev pub root_of : Found → ℕ → ℕ
+-- the vertex at which the component of a vertex begins, its root
+abbrev pub root_of : FoundComponents → ℕ → ℕ
 root_of found v = slice_index_or found.roots (rank_of found v) 0
 
--- two vertices have one number
-abbrev pub have_one_rank : Found → ℕ → ℕ → Bool
+-- two vertices are of one component
+abbrev pub have_one_rank : FoundComponents → ℕ → ℕ → Bool
 have_one_rank found v w = rank_of found w == rank_of found v
 
--- a vertex leads to one with its number
-abbrev pub leads_around : List (List ℕ) → Found → ℕ → Bool
+-- a vertex leads to one of its own component
+abbrev pub leads_around : List (List ℕ) → FoundComponents → ℕ → Bool
 leads_around links found v = list_any (have_one_rank found v) (needs_of links v)
 
--- there is a vertex, and it is this one
-abbrev pub is_this : Option ℕ → ℕ → Bool
-is_this None v = false
-is_this (Some w) v = w == v
+-- there is a vertex, and it is the one of this number
+abbrev pub is_this_vertex : Option ℕ → ℕ → Bool
+is_this_vertex None v = false
+is_this_vertex (Some w) v = w == v
 
 -- a vertex leads to none of a greater number
-abbrev pub falls : List (List ℕ) → Found → ℕ → Bool
+abbrev pub falls : List (List ℕ) → FoundComponents → ℕ → Bool
 falls links found v =
     list_all (λ w. nat_le (rank_of found w) (rank_of found v)) (needs_of links v)
 
 -- a link leads to a vertex from one of its component that is less deep
-abbrev pub is_led_to : List (List ℕ) → Found → ℕ → Bool
+abbrev pub is_led_to : List (List ℕ) → FoundComponents → ℕ → Bool
 is_led_to links found v =
-    is_this (slice_get (needs_of links (mark_of found v).from) (mark_of found v).by) v
+    is_this_vertex (slice_get (needs_of links (mark_of found v).from) (mark_of found v).by) v
     && (have_one_rank found v (mark_of found v).from
     && nat_lt (mark_of found (mark_of found v).from).depth (mark_of found v).depth)
 
 -- there is a vertex, of the same component as another and nearer to the root
-abbrev pub is_nearer : Found → ℕ → Option ℕ → Bool
+abbrev pub is_nearer : FoundComponents → ℕ → Option ℕ → Bool
 is_nearer found v None = false
 is_nearer found v (Some w) =
     have_one_rank found v w && nat_lt (mark_of found w).back (mark_of found v).back
 
 -- a vertex is the root of its component, or a link leads to it and one leads back
-abbrev pub is_joined : List (List ℕ) → Found → ℕ → Bool
-is_joined links found v =
+abbrev pub is_in_component : List (List ℕ) → FoundComponents → ℕ → Bool
+is_in_component links found v =
     root_of found v == v
     || (is_led_to links found v
     && is_nearer found v (slice_get (needs_of links v) (mark_of found v).next))
 
 -- the component of a vertex has a root
-abbrev pub has_root : Found → ℕ → Bool
+abbrev pub has_root : FoundComponents → ℕ → Bool
 has_root found v = nat_lt (rank_of found v) (length found.roots)
 
--- it is seen of a vertex that its component is the right one
-abbrev pub is_certain : List (List ℕ) → Found → ℕ → Bool
+-- the marks that were found show of a vertex that its component is the right one
+abbrev pub is_certain : List (List ℕ) → FoundComponents → ℕ → Bool
 is_certain links found v =
-    falls links found v && (is_joined links found v && has_root found v)
+    falls links found v && (is_in_component links found v && has_root found v)
 
--- it is seen of each vertex
-abbrev pub are_certain : List (List ℕ) → Found → Bool
+-- the marks that were found show of each vertex that its component is the right one
+abbrev pub are_certain : List (List ℕ) → FoundComponents → Bool
 are_certain links found = list_all (is_certain links found) (numbers_below (length links))
 
 -- ---- the first formula of each component
 
--- a vertex has a number, and leads around
-abbrev pub is_around : List (List ℕ) → Found → ℕ → ℕ → Bool
+-- the component of a vertex has this number, and the vertex leads around in it
+abbrev pub is_around : List (List ℕ) → FoundComponents → ℕ → ℕ → Bool
 is_around links found rank v = rank_of found v == rank && leads_around links found v
 
--- of so many numbers from one on, the first that has a number and leads around
-abbrev pub head_from : List (List ℕ) → Found → ℕ → ℕ → ℕ → Option ℕ
+-- the first of so many vertices from one on whose component has this number and that leads around
+-- in it
+abbrev pub head_from : List (List ℕ) → FoundComponents → ℕ → ℕ → ℕ → Option ℕ
 head_from links found start count rank =
     first_of (filter (is_around links found rank) (range_with_len start count))
 
 -- the first formula on cycles with one, of so many
-abbrev pub first_around : List (List ℕ) → Found → ℕ → ℕ → Option ℕ
+abbrev pub first_around : List (List ℕ) → FoundComponents → ℕ → ℕ → Option ℕ
 first_around links found formulas n =
     if leads_around links found n then head_from links found 0 formulas (rank_of found n) else None
 
 -- for each component, by its number, the first formula from one on that leads around
-pub record HasHeads (linked : Linked) (found : Found) (start : ℕ) (heads : List (Option ℕ))
+pub record HasHeads (linked : Linked) (found : FoundComponents) (start : ℕ)
+    (heads : List (Option ℕ))
     : Type 0 where
   pub size : length heads ≡ length found.roots
   pub head : (rank : ℕ) → rank < length found.roots → slice_index_or heads rank None

@@ -1,11 +1,10 @@
 -- Formulas that need each other, by edges: for each formula, by its number, the numbers of those
 -- that it needs. An order in which they can be computed, and the cycles.
-use Rattle.std.specs.Prelude.{ℕ, zero, suc, ◌==◌, ◌||◌, ◌&&◌, not, Bool, false}
-use Rattle.std.specs.Prelude.{if◌then◌else◌, List, [], ◌∷◌, ◌++◌, length, map, filter}
-use Rattle.std.specs.Prelude.{Option, None, Some}
+use Rattle.std.specs.Prelude.{ℕ, zero, suc, ◌==◌, ◌||◌, ◌&&◌, not, Bool, false, if◌then◌else◌, List}
+use Rattle.std.specs.Prelude.{[], ◌∷◌, ◌++◌, length, map, filter, Option, None, Some}
 use Rattle.std.specs.List.{list_all, list_any, slice_index_or, flat_map, range_with_len}
 
--- the numbers below one
+-- the numbers from 0 on that are below one, in order
 abbrev pub numbers_below : ℕ → List ℕ
 numbers_below n = range_with_len 0 n
 
@@ -15,7 +14,7 @@ is_number_of ns n = list_any (λ m. m == n) ns
 
 -- ---- the order: round by round, those that need no formula but such of earlier rounds
 
--- the numbers of those that a formula needs
+-- the numbers of the formulas that a formula needs
 abbrev pub needs_of : List (List ℕ) → ℕ → List ℕ
 needs_of edges n = slice_index_or edges n []
 
@@ -28,7 +27,8 @@ is_ready edges done n =
 abbrev pub ready : List (List ℕ) → List ℕ → List ℕ
 ready edges done = filter (is_ready edges done) (numbers_below (length edges))
 
--- so many rounds, where these are done
+-- so many rounds of formulas, each of those that can be computed once these and the earlier rounds
+-- are done
 unfoldable pub rounds_within : ℕ → List (List ℕ) → List ℕ → List (List ℕ)
 rounds_within zero edges done = []
 rounds_within (suc turns) edges done =
@@ -40,16 +40,16 @@ order_of edges = flat_map (λ r. r) (rounds_within (length edges) edges [])
 
 -- ---- cycles
 
--- a number among others, once
+-- numbers with one more behind them, unless it is among them
 abbrev pub with_number : List ℕ → ℕ → List ℕ
 with_number ns n = if is_number_of ns n then ns else ns ++ n ∷ []
 
--- numbers among others, each once
+-- numbers with more of them behind, each once
 abbrev pub with_numbers : List ℕ → List ℕ → List ℕ
 with_numbers ns [] = ns
 with_numbers ns (m ∷ ms) = with_numbers (with_number ns m) ms
 
--- these formulas, and what they need by so many steps
+-- formulas with those that they need by at most so many steps
 unfoldable pub reached_within : ℕ → List (List ℕ) → List ℕ → List ℕ
 reached_within zero edges ns = ns
 reached_within (suc turns) edges ns =
@@ -63,7 +63,7 @@ reached edges n = reached_within (length edges) edges (needs_of edges n)
 abbrev pub are_together : List (List ℕ) → ℕ → ℕ → Bool
 are_together edges m n = is_number_of (reached edges m) n && is_number_of (reached edges n) m
 
--- the formulas on cycles with one
+-- the formulas on cycles with a formula
 abbrev pub cycle_of : List (List ℕ) → ℕ → List ℕ
 cycle_of edges n = filter (are_together edges n) (numbers_below (length edges))
 
@@ -81,7 +81,7 @@ first_of (n ∷ ns) = Some n
 abbrev pub first_together : List (List ℕ) → ℕ → Option ℕ
 first_together edges n = first_of (cycle_of edges n)
 
--- for each formula the first one on cycles with it
+-- the first formula on the cycles of each formula, if it is on any
 abbrev pub firsts_of : List (List ℕ) → List (Option ℕ)
 firsts_of edges = map (first_together edges) (numbers_below (length edges))
 

@@ -8,10 +8,10 @@ abbrev pub cut_at : List ℕ → ℕ → List ℕ → List (List ℕ)
 cut_at targets from [] = []
 cut_at targets from (end ∷ ends) = slice_range targets from end ∷ cut_at targets end ends
 
--- where the last of them ends, or where the first would begin
-abbrev pub last_end : ℕ → List ℕ → ℕ
-last_end from [] = from
-last_end from (end ∷ ends) = last_end end ends
+-- the last of the places at which lists end, or where the first list would begin
+abbrev pub last_link_end : ℕ → List ℕ → ℕ
+last_link_end from [] = from
+last_link_end from (end ∷ ends) = last_link_end end ends
 
 -- the places rise from one, and none is above another
 abbrev pub rise_within : ℕ → ℕ → List ℕ → Bool

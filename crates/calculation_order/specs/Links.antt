@@ -48,14 +48,14 @@ abbrev pub leads_on : ℕ → ℕ → ℕ → Bool
 leads_on formulas v w = nat_lt w formulas || nat_lt v w
 
 -- a vertex may lead to another: to a vertex, and a group on
-abbrev pub goes_on : ℕ → ℕ → ℕ → ℕ → Bool
-goes_on formulas most v w = nat_lt w most && (nat_lt v formulas || leads_on formulas v w)
+abbrev pub may_lead_to : ℕ → ℕ → ℕ → ℕ → Bool
+may_lead_to formulas most v w = nat_lt w most && (nat_lt v formulas || leads_on formulas v w)
 
 -- each vertex from this number on leads to vertices alone, and a group leads on
 abbrev pub lead_on_from : ℕ → ℕ → ℕ → List (List ℕ) → Bool
 lead_on_from formulas most v [] = true
 lead_on_from formulas most v (ws ∷ rest) =
-    list_all (goes_on formulas most v) ws
+    list_all (may_lead_to formulas most v) ws
     && lead_on_from formulas most (suc v) rest
 
 -- the formulas are vertices, and each vertex leads to vertices, a group to formulas and to groups

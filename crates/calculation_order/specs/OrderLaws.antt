@@ -4,8 +4,8 @@ use Rattle.std.specs.Prelude.{ℕ, Bool, true, false, not, ◌≡◌, ◌<◌, �
 use Rattle.std.specs.Prelude.{if◌then◌else◌, List, ◌++◌, length, take, filter, slice_index}
 use Rattle.std.specs.Prelude.{EachIndex}
 use Rattle.std.specs.List.{count_by, flat_map, list_all, list_any}
-use Rattle.calculation_order.specs.Edges.{needs_of, order_of, reached, cycles_of}
-use Rattle.calculation_order.specs.Edges.{numbers_below, is_number_of}
+use Rattle.calculation_order.specs.Edges.{needs_of, order_of, reached, cycles_of, numbers_below}
+use Rattle.calculation_order.specs.Edges.{is_number_of}
 
 -- each number in the edges is that of a formula
 abbrev pub are_within : List (List ℕ) → Bool
@@ -19,11 +19,11 @@ is_on_cycle edges n = is_number_of (reached edges n) n
 abbrev pub is_behind : List (List ℕ) → ℕ → Bool
 is_behind edges n = not (is_on_cycle edges n) && list_any (is_on_cycle edges) (reached edges n)
 
--- the formulas behind a cycle
+-- the formulas that are behind a cycle: each is on none, and needs one that is
 abbrev pub behind_of : List (List ℕ) → List ℕ
 behind_of edges = filter (is_behind edges) (numbers_below (length edges))
 
--- of each formula in the order all that it needs stands before it
+-- all that a formula in the order needs stands before it
 abbrev pub NeedsStandBefore : List (List ℕ) → Type 0
 NeedsStandBefore edges =
     EachIndex (order_of edges) (λ k.
@@ -40,8 +40,9 @@ OthersHaveCycles edges =
 abbrev pub all_of : List (List ℕ) → List ℕ
 all_of edges = order_of edges ++ (flat_map (λ c. c) (cycles_of edges) ++ behind_of edges)
 
--- Each formula stands there, once, and no other number does. So no formula is on two cycles, none
--- that is in the order is on a cycle or behind one, and none stands twice in the order.
+-- Each formula stands once in the order, the cycles and what is behind them, and no other number
+-- does. So no formula is on two cycles, none that is in the order is on a cycle or behind one, and
+-- none stands twice in the order.
 abbrev pub EachStandsOnce : List (List ℕ) → Type 0
 EachStandsOnce edges =
     (n : ℕ)

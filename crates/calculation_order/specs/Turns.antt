@@ -2,8 +2,7 @@
 -- when all that it needs are, and among those that depend on something when one is that it needs.
 -- A formula that is never found has the number of formulas in the place of its turn.
 use Rattle.std.specs.Prelude.{ℕ, ◌≡◌, ◌⊎◌, ◌<◌, ◌≤◌, ◌+◌, ◌==◌, min, max, Bool, false}
-use Rattle.std.specs.Prelude.{if◌then◌else◌, List, [], ◌∷◌}
-use Rattle.std.specs.Prelude.{length, map, filter}
+use Rattle.std.specs.Prelude.{if◌then◌else◌, List, [], ◌∷◌, length, map, filter}
 use Rattle.std.specs.List.{flat_map, slice_index_or}
 use Rattle.calculation_order.specs.Edges.{needs_of, numbers_below}
 use Rattle.calculation_order.specs.Links.{Linked, members}
@@ -20,12 +19,12 @@ abbrev pub joined : Waiting → ℕ → ℕ → ℕ
 joined ForAll a b = max a b
 joined ForAny a b = min a b
 
--- the latest of the turns of these, or the earliest
+-- the latest of the turns of formulas, or the earliest
 abbrev pub joined_of : Waiting → ℕ → (ℕ → ℕ) → List ℕ → ℕ
 joined_of waiting most turn [] = turn_of_none waiting most
 joined_of waiting most turn (n ∷ ns) = joined waiting (turn n) (joined_of waiting most turn ns)
 
--- the turn behind one
+-- the turn that follows one, at most the last of all
 abbrev pub turn_behind : ℕ → ℕ → ℕ
 turn_behind most turn = min (turn + 1) most
 
@@ -56,8 +55,8 @@ turns_after waiting asks edges turns =
 abbrev pub AreTurns : Waiting → (ℕ → Bool) → List (List ℕ) → List ℕ → Type 0
 AreTurns waiting asks edges turns = turns ≡ turns_after waiting asks edges turns
 
--- of each formula, and of each vertex from one on, the turns of the formulas for which it stands
--- are told, joined
+-- the turns of each formula and of each vertex from one on are told: those of the formulas for
+-- which it stands, joined
 pub record AreJoined (waiting : Waiting) (linked : Linked) (turn : ℕ → ℕ) (behind : List ℕ)
     (from : ℕ) : Type 0 where
   pub size : length behind ≡ length linked.links

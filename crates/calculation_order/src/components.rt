@@ -1,11 +1,11 @@
 //! Components of links: vertices that lead to each other.
-ghost use Rattle.std.specs.Prelude.{◌≡◌, ◌++◌, ◌∷◌, [], length, map, slice_get, true, IfOk};
-ghost use Rattle.std.specs.Prelude.{OnOk, OnErr};
+ghost use Rattle.std.specs.Prelude.{◌≡◌, ◌++◌, ◌∷◌, [], length, map, slice_get, true, IfOk, OnOk};
+ghost use Rattle.std.specs.Prelude.{OnErr};
 ghost use Rattle.calculation_order.specs.Edges.{needs_of};
 ghost use Rattle.calculation_order.specs.Components.{are_certain, falls, have_one_rank, is_certain};
-ghost use Rattle.calculation_order.specs.Components.{has_root, is_joined, is_led_to, is_nearer};
-ghost use Rattle.calculation_order.specs.Components.{is_this, leads_around, mark_of, rank_of};
-ghost use Rattle.calculation_order.specs.Components.{root_of, unmarked};
+ghost use Rattle.calculation_order.specs.Components.{has_root, is_in_component, is_led_to};
+ghost use Rattle.calculation_order.specs.Components.{is_nearer, is_this_vertex, leads_around};
+ghost use Rattle.calculation_order.specs.Components.{mark_of, rank_of, root_of, unmarked};
 
 use crate::links::Links;
 use std::alloc::{AllocError, Global};
@@ -58,9 +58,9 @@ pub(crate) struct Components {
 }
 
 impl Model for Components {
-    ghost use Rattle.calculation_order.specs.Components.{Found};
+    ghost use Rattle.calculation_order.specs.Components.{FoundComponents};
 
-    ghost Value = { Found };
+    ghost Value = { FoundComponents };
 
     ghost view = { λ found. record {
       marks = found.vertices.items;
@@ -203,7 +203,7 @@ impl Components {
 
     /// Whether a vertex is a root, or its root leads to it and it to the root.
     fn is_joined(&self, links: &Links, vertex: usize) -> bool
-        ensures { result ≡ is_joined links.now.links self.now vertex }
+        ensures { result ≡ is_in_component links.now.links self.now vertex }
     {
         self.root(vertex) == vertex
             || (self.is_led_to(links, vertex) && self.is_nearer(links, vertex))
@@ -229,7 +229,7 @@ impl Components {
 
 /// Whether a link of a vertex, by its place, leads to another.
 fn is_link(links: &Links, from: usize, by: usize, vertex: usize) -> bool
-    ensures { result ≡ is_this (slice_get (needs_of links.now.links from) by) vertex }
+    ensures { result ≡ is_this_vertex (slice_get (needs_of links.now.links from) by) vertex }
 {
     match links.of(from).get(by) {
         Some(target) => *target == vertex,

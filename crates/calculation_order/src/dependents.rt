@@ -1,7 +1,6 @@
 //! The formulas that ask for something, themselves or through others.
 ghost use Rattle.std.specs.Prelude.{◌≡◌, ◌<◌, ◌++◌, ◌∷◌, [], ℕ, List, false, nat_lt, filter};
-ghost use Rattle.std.specs.Prelude.{length};
-ghost use Rattle.std.specs.Prelude.{if◌then◌else◌, IfOk, OnOk};
+ghost use Rattle.std.specs.Prelude.{length, if◌then◌else◌, IfOk, OnOk};
 ghost use Rattle.std.specs.List.{slice_index_or};
 ghost use Rattle.calculation_order.specs.Edges.{dependents_of, numbers_below};
 ghost use Rattle.calculation_order.specs.Links.{AreGrouped, AreLinked};

@@ -1,10 +1,10 @@
 //! Links between formulas and groups of them.
-ghost use Rattle.std.specs.Prelude.{◌≡◌, ◌<◌, ◌≤◌, true, [], ◌∷◌, length, slice_index};
-ghost use Rattle.std.specs.Prelude.{◌↔◌, IsTrue, OnOk, OnErr};
+ghost use Rattle.std.specs.Prelude.{◌≡◌, ◌<◌, ◌≤◌, true, [], ◌∷◌, length, slice_index, ◌↔◌, IsTrue};
+ghost use Rattle.std.specs.Prelude.{OnOk, OnErr};
 ghost use Rattle.std.specs.List.{list_all, slice_range};
 ghost use Rattle.calculation_order.specs.Edges.{needs_of};
 ghost use Rattle.calculation_order.specs.KeptLinks.{cut_at, rise_within};
-ghost use Rattle.calculation_order.specs.Links.{AreGrouped, goes_on, with_link, with_closed};
+ghost use Rattle.calculation_order.specs.Links.{AreGrouped, may_lead_to, with_link, with_closed};
 
 use std::alloc::{AllocError, Global};
 use std::marker::Model;
@@ -25,7 +25,7 @@ pub struct Links {
 
 impl Model for Links {
     ghost use Rattle.std.specs.Prelude.{◌≡◌, drop, length, true};
-    ghost use Rattle.calculation_order.specs.KeptLinks.{cut_at, last_end, rise_within};
+    ghost use Rattle.calculation_order.specs.KeptLinks.{cut_at, last_link_end, rise_within};
     ghost use Rattle.calculation_order.specs.Links.{Linked};
 
     ghost Value = { Linked };
@@ -33,7 +33,7 @@ impl Model for Links {
     ghost view = { λ kept. record {
       formulas = kept.formulas;
       links = cut_at kept.targets.items 0 kept.ends.items;
-      begun = drop (last_end 0 kept.ends.items) kept.targets.items;
+      begun = drop (last_link_end 0 kept.ends.items) kept.targets.items;
     } };
 
     ghost invariant = { λ kept.
@@ -108,7 +108,7 @@ impl Links {
     /// Whether a vertex leads to vertices, and a group to formulas and to groups behind it.
     fn leads_on(&self, vertex: usize) -> bool
         ensures { result ≡ list_all
-            (goes_on self.now.formulas (length self.now.links) vertex)
+            (may_lead_to self.now.formulas (length self.now.links) vertex)
             (needs_of self.now.links vertex) }
     {
         all_go_on(self.formulas(), self.len(), vertex, self.of(vertex))
@@ -153,7 +153,7 @@ fn between(targets: &[usize], first: usize, end: usize) -> &[usize]
 
 /// Whether a vertex may lead to each of these.
 fn all_go_on(formulas: usize, most: usize, vertex: usize, targets: &[usize]) -> bool
-    ensures { result ≡ list_all (goes_on formulas most vertex) targets.now }
+    ensures { result ≡ list_all (may_lead_to formulas most vertex) targets.now }
 {
     for target in targets {
         if !goes_on(formulas, most, vertex, *target) {
@@ -165,7 +165,7 @@ fn all_go_on(formulas: usize, most: usize, vertex: usize, targets: &[usize]) -> 
 
 /// Whether a vertex may lead to another.
 fn goes_on(formulas: usize, most: usize, vertex: usize, target: usize) -> bool
-    ensures { result ≡ goes_on formulas most vertex target }
+    ensures { result ≡ may_lead_to formulas most vertex target }
 {
     target < most && (vertex < formulas || (target < formulas || vertex < target))
 }

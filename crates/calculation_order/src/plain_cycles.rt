@@ -3,8 +3,8 @@
 ghost use Rattle.std.specs.Prelude.{◌≡◌, map, IfOk, OnOk};
 ghost use Rattle.std.specs.List.{flat_map};
 ghost use Rattle.calculation_order.specs.Edges.{are_together, is_number_of, needs_of};
-ghost use Rattle.calculation_order.specs.Edges.{numbers_below};
-ghost use Rattle.calculation_order.specs.Edges.{first_of, reached, with_number, with_numbers};
+ghost use Rattle.calculation_order.specs.Edges.{numbers_below, first_of, reached, with_number};
+ghost use Rattle.calculation_order.specs.Edges.{with_numbers};
 ghost use Rattle.calculation_order.specs.Components.{first_among};
 
 use crate::links::Links;

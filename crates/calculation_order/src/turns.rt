@@ -4,9 +4,8 @@ ghost use Rattle.std.specs.List.{slice_index_or};
 ghost use Rattle.calculation_order.specs.Edges.{needs_of, numbers_below};
 ghost use Rattle.calculation_order.specs.Links.{AreGrouped, told_edges};
 ghost use Rattle.calculation_order.specs.Turns.{AreJoined, AreTurns, asks_at, behind_at, joined};
-ghost use Rattle.calculation_order.specs.Turns.{joined_of};
-ghost use Rattle.calculation_order.specs.Turns.{turn_after, turn_at, turn_behind, turn_of_none};
-ghost use Rattle.calculation_order.specs.Turns.{turns_after};
+ghost use Rattle.calculation_order.specs.Turns.{joined_of, turn_after, turn_at, turn_behind};
+ghost use Rattle.calculation_order.specs.Turns.{turn_of_none, turns_after};
 
 use crate::links::Links;
 use std::alloc::{AllocError, Global};

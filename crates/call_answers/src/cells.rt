@@ -1,9 +1,8 @@
 //! The cells of a sheet, asked for one by one.
 
 ghost use Rattle.std.specs.Prelude.{◌≡◌, OnOk};
-ghost use Rattle.part_events.specs.Package.{SameParts};
-ghost use Rattle.xlsx_cells.specs.CellsReader.{stream_by};
-ghost use Rattle.xlsx_cells.specs.Stream.{IsStreaming};
+ghost use Rattle.part_events.specs.Words.{SameParts};
+ghost use Rattle.xlsx_cells.specs.Words.{stream_by, IsStreaming};
 
 use crate::areas::push_area;
 use crate::values::{Told, push_refusal};

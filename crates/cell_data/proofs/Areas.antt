@@ -1,7 +1,7 @@
 -- The area of cells has each of them, and lies on a sheet where they do.
-use Rattle.std.proofs.Common.{◌≡◌, ℕ, zero, suc, ◌<◌, Bool, true, false, ◌&&◌}
-use Rattle.std.proofs.Common.{List, [], ◌∷◌, length, Some, None, Option, refl, sym, ap, ◌∙◌, arith}
-use Rattle.std.proofs.Common.{cond, ◌≤◌, get_or}
+use Rattle.std.proofs.Common.{◌≡◌, ℕ, zero, suc, ◌<◌, Bool, true, false, ◌&&◌, List, [], ◌∷◌}
+use Rattle.std.proofs.Common.{length, Some, None, Option, refl, sym, ap, ◌∙◌, arith, cond, ◌≤◌}
+use Rattle.std.proofs.Common.{get_or}
 use Rattle.std.specs.Prelude.{reverse, nat_le, nat_lt, All}
 use Rattle.std.specs.declared.cmp.Ordering.{Ordering}
 use Rattle.std.specs.declared.cmp.Ordering.TheVariants.{Less, Equal, Greater}
@@ -15,9 +15,9 @@ use Rattle.std.proofs.lemmas.List.Folds.{list_all-append}
 use Rattle.cell_refs.specs.declared.dimensions.Dimensions.{Dimensions}
 use Rattle.cell_data.specs.declared.cell.Cell.{Cell}
 use Rattle.cell_data.specs.Cells.{placed_cells, IsInSheet, IsPlacedInSheet, AreInSheet}
-use Rattle.cell_refs.specs.Positions.{position_cmp, last_of_each, area_with, least_area, is_in_area}
-use Rattle.cell_refs.specs.Positions.{is_in_bounds, lie_inside, is_sheet_area, are_sheet_bounds}
-use Rattle.cell_refs.specs.Positions.{lie_from}
+use Rattle.cell_refs.specs.Words.{position_cmp, area_with, least_area, is_in_area, is_in_bounds}
+use Rattle.cell_refs.specs.Words.{lie_inside, is_sheet_area, are_sheet_bounds, lie_from}
+use Rattle.cell_refs.specs.Positions.{last_of_each}
 use Rattle.cell_data.specs.Range.{start_of}
 use Rattle.cell_refs.proofs.PositionOrder.{position_total, and_both}
 

@@ -1,7 +1,7 @@
 -- The cells at or behind a position, a column further and a row further.
-use Rattle.std.proofs.Common.{◌≡◌, ◌∙◌, ◌∷◌, [], ◌+◌, ◌-◌, ◌*◌, ◌/◌, ◌%◌, ◌<◌, ◌≤◌, ◌==◌}
-use Rattle.std.proofs.Common.{◌⊎◌, inl, inr, ◌&&◌, cond, List, Bool, true, false, Option, Some}
-use Rattle.std.proofs.Common.{None, ℕ, refl, sym, ap, subst, arith, add-one, suc, map}
+use Rattle.std.proofs.Common.{◌≡◌, ◌∙◌, ◌∷◌, [], ◌+◌, ◌-◌, ◌*◌, ◌/◌, ◌%◌, ◌<◌, ◌≤◌, ◌==◌, ◌⊎◌, inl}
+use Rattle.std.proofs.Common.{inr, ◌&&◌, cond, List, Bool, true, false, Option, Some, None, ℕ, refl}
+use Rattle.std.proofs.Common.{sym, ap, subst, arith, add-one, suc, map}
 use Rattle.std.specs.List.{range_with_len}
 use Rattle.std.specs.Prelude.{nat_le}
 use Rattle.std.specs.declared.cmp.Ordering.{Ordering}
@@ -17,10 +17,10 @@ use Rattle.std.proofs.lemmas.Bool.Decides.{nat_tests}
 use Rattle.std.proofs.lemmas.List.Folds.{list_all-append}
 use Rattle.std.proofs.lemmas.Nat.{div-mul-add, mod-mul-add, div-add-mod'}
 use Rattle.std.proofs.Math.Nat.{suc-mul}
-use Rattle.cell_refs.specs.Positions.{position_cmp, is_rising, is_in_bounds, lie_inside, lie_from}
+use Rattle.cell_refs.specs.Words.{position_cmp, is_rising, is_in_bounds, lie_inside, lie_from}
 use Rattle.cell_refs.specs.declared.dimensions.Dimensions.{Dimensions}
 use Rattle.cell_refs.proofs.PositionOrder.{and_both}
-use Rattle.sorted_cells.specs.Placed.{value_first, left_behind, past_row}
+use Rattle.sorted_cells.specs.Words.{value_first, left_behind, past_row}
 use Rattle.cell_data.specs.CellsLeft.{AreLeftFrom, AreLeftAt, position_of}
 use Rattle.cell_data.specs.Range.{cells_of, bounds_of, width_of, start_of}
 use Rattle.cell_data.specs.Splitting.{AreInOrder, given, none_earlier, Splits}

@@ -1,6 +1,6 @@
 -- `==` of what cells hold is true exactly where the values are the same.
-use Rattle.std.proofs.Common.{◌≡◌, ℕ, Bool, true, false, ◌&&◌, ◌↔◌, nat_eq, refl, sym, ◌∙◌}
-use Rattle.std.proofs.Common.{ap, rules}
+use Rattle.std.proofs.Common.{◌≡◌, ℕ, Bool, true, false, ◌&&◌, ◌↔◌, nat_eq, refl, sym, ◌∙◌, ap}
+use Rattle.std.proofs.Common.{rules}
 use Rattle.std.specs.Bool.{Decides}
 use Rattle.std.specs.Cmp.{booleans_Decides, signed_Decides, unsigned_Decides}
 use Rattle.std.specs.Prelude.{string_bytes}
@@ -20,14 +20,13 @@ use Rattle.cell_data.specs.declared.value.Data.{Data}
 use Rattle.cell_data.specs.declared.value.Data.TheVariants as owned
 use Rattle.cell_data.specs.declared.value.DataRef.{DataRef}
 use Rattle.cell_data.specs.declared.value.DataRef.TheVariants as shared
-use Rattle.decimals.specs.Decimal.{number_of}
+use Rattle.decimals.specs.Words.{number_of}
 use Rattle.equalities.specs.Equality.{IsEquality}
 use Rattle.equalities.proofs.Equality.{of_pairs, of_image, of_bool, of_number, unequal}
 use Rattle.decimals.proofs.Equality.{same_decimal, of_decimal}
 use Rattle.cell_data.specs.declared.cell.Cell.{Cell}
 use Rattle.cell_data.specs.CellValue.{CellValue, value_of_data, value_of_data_ref, time_value}
-use Rattle.cell_data.specs.CellValue.{nothing, time}
-use Rattle.cell_data.specs.CellValue.{integer, number, text, shared_text, truth}
+use Rattle.cell_data.specs.CellValue.{nothing, time, integer, number, text, shared_text, truth}
 use Rattle.cell_data.specs.CellValue.{iso_time, failure}
 
 abbrev pub decimal_eq : Decimal → Decimal → Bool

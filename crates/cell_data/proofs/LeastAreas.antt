@@ -8,7 +8,8 @@ use Rattle.std.specs.FinMap.{from_entries, entries, put, entries-insert}
 use Rattle.std.specs.FinMap.Entries.{by_order}
 use Rattle.std.proofs.lemmas.List.{reverse-append}
 use Rattle.cell_refs.specs.declared.dimensions.Dimensions.{Dimensions}
-use Rattle.cell_refs.specs.Positions.{position_cmp, last_of_each, least_area, area_with}
+use Rattle.cell_refs.specs.Words.{position_cmp, least_area, area_with}
+use Rattle.cell_refs.specs.Positions.{last_of_each}
 use Rattle.cell_refs.proofs.PositionOrder.{position_total, position_same}
 use Rattle.cell_data.proofs.Placing.{none_placed}
 

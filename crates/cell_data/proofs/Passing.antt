@@ -1,6 +1,6 @@
 -- The last of each position among those that pass a test.
-use Rattle.std.proofs.Common.{◌≡◌, ℕ, List, [], ◌∷◌, ◌++◌, Bool, true, false, cond}
-use Rattle.std.proofs.Common.{Option, Some, None, refl, sym, ◌∙◌, ap}
+use Rattle.std.proofs.Common.{◌≡◌, ℕ, List, [], ◌∷◌, ◌++◌, Bool, true, false, cond, Option, Some}
+use Rattle.std.proofs.Common.{None, refl, sym, ◌∙◌, ap}
 use Rattle.std.specs.Prelude.{reverse}
 use Rattle.std.specs.List.{filter}
 use Rattle.std.specs.FinMap.{from_entries, entries, find, get-entries, get-from_entries}
@@ -9,7 +9,8 @@ use Rattle.std.specs.FinMap.Entries.{is_sorted-where_key, same_entries}
 use Rattle.std.specs.Ordering.{eq_by_cmp}
 use Rattle.std.proofs.lemmas.List.{append-nil, reverse-append}
 use Rattle.std.proofs.lemmas.List.Elements.{filter-append}
-use Rattle.cell_refs.specs.Positions.{position_cmp, last_of_each}
+use Rattle.cell_refs.specs.Words.{position_cmp}
+use Rattle.cell_refs.specs.Positions.{last_of_each}
 use Rattle.cell_refs.proofs.PositionOrder.{position_total, position_same, tied_same}
 
 none_either : {X : Type 0} (test : Bool) (o : Option X) → o ≡ None → o ≡ cond test o None

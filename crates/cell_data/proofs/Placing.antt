@@ -1,20 +1,21 @@
 -- Cells in the order of positions, and the last of each position.
-use Rattle.std.proofs.Common.{◌≡◌, ℕ, Bool, true, false, cond, ◌&&◌}
-use Rattle.std.proofs.Common.{List, [], ◌∷◌, ◌++◌, Some, None, Option, refl, sym, ap, ◌∙◌}
+use Rattle.std.proofs.Common.{◌≡◌, ℕ, Bool, true, false, cond, ◌&&◌, List, [], ◌∷◌, ◌++◌, Some}
+use Rattle.std.proofs.Common.{None, Option, refl, sym, ap, ◌∙◌}
 use Rattle.std.specs.Prelude.{reverse}
 use Rattle.std.specs.declared.cmp.Ordering.{Ordering}
 use Rattle.std.specs.declared.cmp.Ordering.TheVariants.{Less, Equal, Greater}
 use Rattle.std.specs.BTreeMap.{insert_entry}
-use Rattle.std.specs.FinMap.{empty, from_entries, from_sorted, entries, find, put}
-use Rattle.std.specs.FinMap.{entries-insert, entries-from_sorted, get-from_sorted, len-entries}
-use Rattle.std.specs.FinMap.{len-empty, same_map, get-from_entries, entries_sorted}
+use Rattle.std.specs.FinMap.{empty, from_entries, from_sorted, entries, find, put, entries-insert}
+use Rattle.std.specs.FinMap.{entries-from_sorted, get-from_sorted, len-entries, len-empty, same_map}
+use Rattle.std.specs.FinMap.{get-from_entries, entries_sorted}
 use Rattle.std.specs.FinMap.Entries.{by_order, below_all}
 use Rattle.std.specs.Option.{option_or}
 use Rattle.std.specs.Ordering.{is_lt, eq_by_cmp, match_ordering}
 use Rattle.std.proofs.lemmas.List.{append_assoc, reverse-append, map-append, nil_from_length}
 use Rattle.cell_data.specs.declared.cell.Cell.{Cell}
 use Rattle.cell_data.specs.Cells.{cell_entry, placed_cells}
-use Rattle.cell_refs.specs.Positions.{position_cmp, last_of_each, is_rising}
+use Rattle.cell_refs.specs.Words.{position_cmp, is_rising}
+use Rattle.cell_refs.specs.Positions.{last_of_each}
 use Rattle.cell_refs.proofs.PositionOrder.{position_total, position_same, to_T, from_T, and_both}
 use Rattle.cell_refs.proofs.PositionOrder.{less_from, equal_from, none_behind}
 use Rattle.sorted_cells.proofs.Finding.{found_in_two}

@@ -1,17 +1,16 @@
 -- A step through cells in the order of positions.
-use Rattle.std.proofs.Common.{◌≡◌, ℕ, suc, Bool, true, false, cond, ◌&&◌}
-use Rattle.std.proofs.Common.{List, [], ◌∷◌, ◌++◌, Some, None, Option, refl, sym, ap, ◌∙◌}
-use Rattle.std.proofs.Common.{subst, arith}
+use Rattle.std.proofs.Common.{◌≡◌, ℕ, suc, Bool, true, false, cond, ◌&&◌, List, [], ◌∷◌, ◌++◌, Some}
+use Rattle.std.proofs.Common.{None, Option, refl, sym, ap, ◌∙◌, subst, arith}
 use Rattle.std.specs.declared.cmp.Ordering.{Ordering}
 use Rattle.std.specs.declared.cmp.Ordering.TheVariants.{Less, Equal, Greater}
 use Rattle.std.specs.Cmp.{tied_itself}
 use Rattle.std.specs.FinMap.{find}
 use Rattle.std.specs.FinMap.Entries.{below_all}
 use Rattle.std.specs.Ordering.{is_lt, is_le, is_eq, ordering_reverse, eq_by_cmp}
-use Rattle.cell_refs.specs.Positions.{position_cmp, is_rising}
+use Rattle.cell_refs.specs.Words.{position_cmp, is_rising}
 use Rattle.cell_refs.proofs.PositionOrder.{position_total, tied_same, and_both, less_from}
 use Rattle.cell_refs.proofs.PositionOrder.{none_behind}
-use Rattle.sorted_cells.specs.Placed.{value_first, left_behind}
+use Rattle.sorted_cells.specs.Words.{value_first, left_behind}
 use Rattle.cell_data.specs.Splitting.{AreInOrder, given, none_earlier, Splits}
 use Rattle.cell_data.proofs.Placing.{below_further}
 

@@ -1,7 +1,6 @@
 -- A step through several lists of cells in the order of positions.
-use Rattle.std.proofs.Common.{◌≡◌, ℕ, ◌<◌, ◌≤◌, Bool, true, false, cond, ◌&&◌, ◌||◌}
-use Rattle.std.proofs.Common.{List, [], ◌∷◌, ◌++◌, length, Some, None, Option, refl, sym, ap, ◌∙◌}
-use Rattle.std.proofs.Common.{subst, arith}
+use Rattle.std.proofs.Common.{◌≡◌, ℕ, ◌<◌, ◌≤◌, Bool, true, false, cond, ◌&&◌, ◌||◌, List, [], ◌∷◌}
+use Rattle.std.proofs.Common.{◌++◌, length, Some, None, Option, refl, sym, ap, ◌∙◌, subst, arith}
 use Rattle.std.specs.Prelude.{map, is_some}
 use Rattle.std.specs.declared.cmp.Ordering.{Ordering}
 use Rattle.std.specs.declared.cmp.Ordering.TheVariants.{Less, Equal, Greater}
@@ -12,14 +11,14 @@ use Rattle.std.specs.FinMap.Entries.{by_order, below_all, same_entries}
 use Rattle.std.specs.Option.{option_map, option_or, unwrap_or}
 use Rattle.std.specs.Ordering.{is_lt, is_le, is_eq, eq_by_cmp}
 use Rattle.std.proofs.lemmas.List.{nil_from_length}
-use Rattle.cell_refs.specs.Positions.{position_cmp}
+use Rattle.cell_refs.specs.Words.{position_cmp}
 use Rattle.cell_refs.specs.declared.TheConstants.{MAX_ROWS, MAX_COLUMNS}
 use Rattle.cell_refs.proofs.PositionOrder.{position_total, position_same, and_both, to_T, from_T}
 use Rattle.sorted_cells.proofs.Finding.{found_in_two}
-use Rattle.sorted_cells.specs.Placed.{first_position, value_first, left_behind}
+use Rattle.sorted_cells.specs.Words.{first_position, value_first, left_behind}
 use Rattle.cell_data.specs.Pairs.{with_meaning}
 use Rattle.cell_data.specs.Splitting.{AreInOrder, given, none_earlier, Splits}
-use Rattle.cell_data.specs.Stepping.{IsOfFirst, StandsUpTo, used, positions_of}
+use Rattle.cell_data.specs.Stepping.{IsOfFirst, StandsUpTo, positions_alone, positions_of}
 use Rattle.cell_data.proofs.Splitting.{below_cons, splits_at}
 
 -- ---- the position that comes first
@@ -143,12 +142,12 @@ module _ {X : Type 0} where
       ∙ below_put x e.0 e.1 _ own (below_entries x es others)
 
   pub below_used : (x : ℕ × ℕ) (es : List ((ℕ × ℕ) × X)) → below_all position_cmp x es ≡ true →
-      below_all position_cmp x (used es) ≡ true
+      below_all position_cmp x (positions_alone es) ≡ true
   below_used x [] below = refl
   below_used x (e ∷ es) below =
       let (own, others) =
       and_both (is_lt (position_cmp x e.0)) (below_all position_cmp x es) below in
-      below_cons x (e.0, tt) (used es) own (below_used x es others)
+      below_cons x (e.0, tt) (positions_alone es) own (below_used x es others)
 
   pub below_both : (x : ℕ × ℕ) (es fs : List ((ℕ × ℕ) × X)) →
       below_all position_cmp x es ≡ true → below_all position_cmp x fs ≡ true →
@@ -176,12 +175,12 @@ and_false false = refl
 
 -- the positions of a list that has a cell at a position, or none
 pub used_given : {X : Type 0} (p : ℕ × ℕ) (v : Option X) (es : List ((ℕ × ℕ) × X)) →
-    Adds p (is_some v) (used (given p v ++ es)) (used es)
+    Adds p (is_some v) (positions_alone (given p v ++ es)) (positions_alone es)
 used_given p None es q =
-    ap (λ t. cond t (Some tt) (find position_cmp q (used es)))
+    ap (λ t. cond t (Some tt) (find position_cmp q (positions_alone es)))
     (sym (and_false (eq_by_cmp position_cmp q p)))
 used_given p (Some v) es q =
-    ap (λ t. cond t (Some tt) (find position_cmp q (used es)))
+    ap (λ t. cond t (Some tt) (find position_cmp q (positions_alone es)))
     (sym (and_true (eq_by_cmp position_cmp q p)))
 
 either_found : (at a b : Bool) (x y : Option (Unit {0})) →

@@ -17,7 +17,7 @@ cell_error text =
     else (if bytes_eq text (codes "#VALUE!") then Some Value
     else None))))))
 
--- no text names the error of data that is still being fetched
+-- the text that names an error; no text names that of data that is still being fetched
 abbrev pub cell_error_text : CellErrorType → List ℕ
 cell_error_text Div0 = codes "#DIV/0!"
 cell_error_text NA = codes "#N/A"

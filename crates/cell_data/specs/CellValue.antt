@@ -1,6 +1,6 @@
 -- The value of a cell, with each text as its bytes and each number as what it stands for.
 use Rattle.std.specs.Prelude.{ℕ, ℤ, Bool, List, string_bytes}
-use Rattle.decimals.specs.Decimal.{number_of}
+use Rattle.decimals.specs.Words.{number_of}
 use Rattle.cell_data.specs.declared.value.ExcelDateTime.{ExcelDateTime}
 use Rattle.cell_data.specs.declared.value.ExcelDateTimeType.{ExcelDateTimeType}
 use Rattle.cell_data.specs.declared.value.CellErrorType.{CellErrorType}
@@ -27,7 +27,7 @@ pub data CellValue : Type 0 where
 abbrev pub time_value : ExcelDateTime → CellValue
 time_value date = time (number_of date.value) date.kind date.is_1904
 
--- the value that `Data` holds
+-- the value of a cell that a `Data` holds
 abbrev pub value_of_data : Data → CellValue
 value_of_data (owned.Int n) = integer n
 value_of_data (owned.Decimal d) = number (number_of d)
@@ -38,7 +38,7 @@ value_of_data (owned.DateTimeIso bytes) = iso_time (string_bytes bytes)
 value_of_data (owned.Error error) = failure error
 value_of_data owned.Empty = nothing
 
--- the value that `DataRef` holds
+-- the value of a cell that a `DataRef` holds
 abbrev pub value_of_data_ref : DataRef → CellValue
 value_of_data_ref (shared.Decimal d) = number (number_of d)
 value_of_data_ref (shared.String bytes) = text (string_bytes bytes)

@@ -15,10 +15,10 @@ placed_cells cells = map cell_entry cells
 abbrev pub IsInSheet : {X : Type 0} → Cell X → Type 0
 IsInSheet cell = (cell.pos.0 < MAX_ROWS) × (cell.pos.1 < MAX_COLUMNS)
 
--- a cell as such a pair lies in a worksheet
+-- a cell, as its position and what stands there, lies in a worksheet
 abbrev pub IsPlacedInSheet : {X : Type 0} → (ℕ × ℕ) × X → Type 0
 IsPlacedInSheet cell = (cell.0.0 < MAX_ROWS) × (cell.0.1 < MAX_COLUMNS)
 
--- each of them does
+-- each of these cells lies in a worksheet
 abbrev pub AreInSheet : {X : Type 0} → List ((ℕ × ℕ) × X) → Type 0
 AreInSheet cells = All IsPlacedInSheet cells

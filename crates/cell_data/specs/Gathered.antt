@@ -1,7 +1,7 @@
 -- Cells as they come.
 use Rattle.std.specs.Prelude.{ℕ, List, ◌++◌}
 use Rattle.cell_data.specs.Cells.{placed_cells}
-use Rattle.sorted_cells.specs.Kept.{kept_cells}
+use Rattle.sorted_cells.specs.Words.{kept_cells}
 use Rattle.cell_data.specs.declared.gathered.GatheredCells.{GatheredCells}
 
 -- the cells in the order in which they came

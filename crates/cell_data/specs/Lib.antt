@@ -11,3 +11,4 @@ pub mod SignOf
 pub mod Splitting
 pub mod Stepping
 pub mod Table
+pub mod Words

@@ -1,7 +1,6 @@
 -- What number formats say of the numbers that they show.
-use Rattle.std.specs.Prelude.{ℕ, zero, suc, Bool, false, ◌&&◌, ◌||◌, ◌==◌, nat_lt}
-use Rattle.std.specs.Prelude.{if◌then◌else◌, List, [], ◌∷◌, length, drop, codes, slice_index}
-use Rattle.std.specs.Prelude.{Option, Some, None}
+use Rattle.std.specs.Prelude.{ℕ, zero, suc, Bool, false, ◌&&◌, ◌||◌, ◌==◌, nat_lt, if◌then◌else◌}
+use Rattle.std.specs.Prelude.{List, [], ◌∷◌, length, drop, codes, slice_index, Option, Some, None}
 use Rattle.std.specs.Char.{to_ascii_lowercase}
 use Rattle.std.specs.List.{list_all, list_any, position_or_len, before_first, after_first}
 use Rattle.std.specs.Str.{bytes_eq}
@@ -20,7 +19,7 @@ builtin_format id =
     if list_any (λ known. bytes_eq id known) date_ids then DateTime
     else (if bytes_eq id (codes "46") then TimeDelta else Other)
 
--- the code of a built-in format
+-- the code of a built-in number format
 abbrev pub builtin_code : ℕ → Option (List ℕ)
 builtin_code id =
     if id == 0 then Some (codes "General")
@@ -57,7 +56,7 @@ builtin_code id =
 abbrev pub is_date_letter : ℕ → Bool
 is_date_letter b = list_any (λ letter. to_ascii_lowercase b == letter) (codes "dmhys")
 
--- `a/p` of either case stands first
+-- a text begins with `a/p`, in either case
 abbrev pub begins_half_day : ℕ → List ℕ → Bool
 begins_half_day b bs =
     to_ascii_lowercase b == 97

@@ -19,7 +19,7 @@ pairs_by meaning range = map (with_meaning meaning) (cells_of range)
 abbrev pub value_pairs : Range Data → List ((ℕ × ℕ) × CellValue)
 value_pairs range = pairs_by value_of_data range
 
--- shared strings by their places
+-- the values of a range by their positions, shared strings by their places
 abbrev pub place_pairs : Range DataRef → List ((ℕ × ℕ) × CellValue)
 place_pairs range = pairs_by value_of_data_ref range
 

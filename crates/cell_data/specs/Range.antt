@@ -1,14 +1,13 @@
 -- What a range holds, whatever keeps it: cells in the order of positions, an area, and a value for
 -- every other cell of it.
-use Rattle.std.specs.Prelude.{◌≡◌, ◌&&◌, nat_lt}
-use Rattle.std.specs.Prelude.{ℕ, ◌+◌, ◌-◌, List, if◌then◌else◌}
-use Rattle.std.specs.Prelude.{Option, Some, None}
+use Rattle.std.specs.Prelude.{◌≡◌, ◌&&◌, nat_lt, ℕ, ◌+◌, ◌-◌, List, if◌then◌else◌, Option, Some}
+use Rattle.std.specs.Prelude.{None}
 use Rattle.std.specs.FinMap.{find}
 use Rattle.std.specs.Option.{unwrap_or}
 use Rattle.cell_refs.specs.declared.dimensions.Dimensions.{Dimensions}
 use Rattle.cell_data.specs.declared.range.Range.{Range}
-use Rattle.cell_refs.specs.Positions.{position_cmp, is_in_bounds, least_area}
-use Rattle.sorted_cells.specs.Kept.{kept_cells}
+use Rattle.cell_refs.specs.Words.{position_cmp, is_in_bounds, least_area}
+use Rattle.sorted_cells.specs.Words.{kept_cells}
 
 -- the cells that a range keeps, in their order
 abbrev pub cells_of : {X : Type 0} → Range X → List ((ℕ × ℕ) × X)
@@ -26,7 +25,7 @@ blank_of range = range.blank
 abbrev pub IsLeast : {X : Type 0} → Range X → Type 0
 IsLeast range = bounds_of range ≡ least_area (cells_of range)
 
--- how many columns and rows an area has
+-- how many columns an area has
 abbrev pub width_of : Option Dimensions → ℕ
 width_of None = 0
 width_of (Some area) = area.end.1 + 1 - area.start.1
@@ -54,7 +53,8 @@ filled range place =
     unwrap_or (find position_cmp (start.0 + place.0, start.1 + place.1) (cells_of range))
     (blank_of range)
 
--- the same, and none outside the area
+-- the value or the blank at a row and a column counted from the first ones of a range, and none
+-- outside its area
 abbrev pub relative_value : {X : Type 0} → Range X → ℕ × ℕ → Option X
 relative_value range place =
     if nat_lt place.0 (height_of (bounds_of range)) && nat_lt place.1 (width_of (bounds_of range))

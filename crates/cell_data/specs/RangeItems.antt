@@ -8,10 +8,10 @@ use Rattle.cell_data.specs.declared.range_iterators.UsedCells.{UsedCells}
 use Rattle.cell_data.specs.declared.range_iterators.Cells.{Cells}
 use Rattle.cell_data.specs.declared.range_iterators.RowCells.{RowCells}
 use Rattle.cell_data.specs.declared.range_iterators.Rows.{Rows}
-use Rattle.sorted_cells.specs.Placed.{placed_left}
+use Rattle.sorted_cells.specs.Words.{placed_left}
 use Rattle.cell_data.specs.Range.{cells_of, bounds_of, start_of, width_of, height_of, filled}
 
--- a used cell
+-- a used cell by its row and its column, counted from the start of the range
 abbrev pub used_item : {X : Type 0} → ℕ × ℕ → (ℕ × ℕ) × X → ℕ × ℕ × X
 used_item start cell = (cell.0.0 - start.0, cell.0.1 - start.1, cell.1)
 

@@ -3,7 +3,7 @@
 use Rattle.std.specs.Prelude.{◌≡◌, ◌⊎◌, ℕ, true, List, [], ◌∷◌, map, Option, Some, None}
 use Rattle.std.specs.FinMap.{from_entries, keys}
 use Rattle.std.specs.Ordering.{is_le}
-use Rattle.cell_refs.specs.Positions.{position_cmp}
+use Rattle.cell_refs.specs.Words.{position_cmp}
 
 -- the first cell stands at the position
 abbrev pub IsOfFirst : {X : Type 0} → ℕ × ℕ → List ((ℕ × ℕ) × X) → Type 0
@@ -22,8 +22,8 @@ pub record IsEarlier (one other : Option (ℕ × ℕ)) (position : ℕ × ℕ) :
   pub is_one : (one ≡ Some position) ⊎ (other ≡ Some position)
 
 -- the positions of cells alone, as entries of a map
-abbrev pub used : {X : Type 0} → List ((ℕ × ℕ) × X) → List ((ℕ × ℕ) × Unit {0})
-used cells = map (λ cell. (cell.0, tt)) cells
+abbrev pub positions_alone : {X : Type 0} → List ((ℕ × ℕ) × X) → List ((ℕ × ℕ) × Unit {0})
+positions_alone cells = map (λ cell. (cell.0, tt)) cells
 
 -- the positions of entries, each once, row by row
 abbrev pub positions_of : List ((ℕ × ℕ) × Unit {0}) → List (ℕ × ℕ)

@@ -3,7 +3,7 @@ use Rattle.std.specs.Prelude.{ℕ, List, map, string_bytes}
 use Rattle.cell_data.specs.declared.range.Range.{Range}
 use Rattle.cell_data.specs.declared.table.Table.{Table}
 
--- the name of a table
+-- the name of a table, as the bytes that it has
 abbrev pub table_name : {X : Type 0} → Table X → List ℕ
 table_name table = string_bytes table.name
 

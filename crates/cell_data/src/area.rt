@@ -1,7 +1,7 @@
 //! The area that cells have, and whether two are one.
 ghost use Rattle.std.specs.Prelude.{◌≡◌, ◌↔◌, IsTrue};
-ghost use Rattle.cell_refs.specs.Positions.{area_with, least_area};
-ghost use Rattle.sorted_cells.specs.Kept.{kept_cells};
+ghost use Rattle.cell_refs.specs.Words.{area_with, least_area};
+ghost use Rattle.sorted_cells.specs.Words.{kept_cells};
 
 use cell_refs::Dimensions;
 use sorted_cells::SortedCells;

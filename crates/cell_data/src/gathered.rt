@@ -1,6 +1,6 @@
 ghost use Rattle.std.specs.Prelude.{◌≡◌, ℕ, List, ◌++◌, ◌∷◌, [], true, OnOk, OnErr, IfOk};
-ghost use Rattle.cell_refs.specs.Positions.{is_rising, last_of_each};
-ghost use Rattle.sorted_cells.specs.Kept.{kept_cells};
+ghost use Rattle.cell_refs.specs.Words.{is_rising, last_of_each};
+ghost use Rattle.sorted_cells.specs.Words.{kept_cells};
 ghost use Rattle.cell_data.specs.Cells.{placed_cells};
 ghost use Rattle.cell_data.specs.Gathered.{cells_gathered};
 

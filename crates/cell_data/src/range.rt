@@ -1,8 +1,7 @@
 ghost use Rattle.std.specs.Prelude.{◌≡◌, IsTrue};
 ghost use Rattle.cell_data.specs.Cells.{placed_cells};
-ghost use Rattle.cell_refs.specs.Positions.{is_rising, lie_inside, are_sheet_bounds};
-ghost use Rattle.cell_refs.specs.Positions.{is_in_area};
-ghost use Rattle.sorted_cells.specs.Kept.{kept_cells};
+ghost use Rattle.cell_refs.specs.Words.{is_rising, lie_inside, are_sheet_bounds, is_in_area};
+ghost use Rattle.sorted_cells.specs.Words.{kept_cells};
 
 use crate::area::{are_same, least_area};
 use crate::cell::Cell;
@@ -32,26 +31,20 @@ fn is_between(start: (u32, u32), end: (u32, u32), pos: (u32, u32)) -> bool
 }
 
 impl<T> Range<T> {
-    ghost use Rattle.std.specs.Prelude.{◌≡◌, ◌+◌, ◌-◌, ◌<◌, is_none, IfOk, IfSome, All, true};
-    ghost use Rattle.std.specs.Prelude.{◌↔◌, IsTrue};
-    ghost use Rattle.cell_data.specs.Range.{IsLeast};
-    ghost use Rattle.std.specs.Prelude.{length, ◌^◌};
+    ghost use Rattle.std.specs.Prelude.{◌≡◌, ◌+◌, ◌-◌, ◌<◌, is_none, IfOk, IfSome, All, true, ◌↔◌};
+    ghost use Rattle.std.specs.Prelude.{IsTrue, length, ◌^◌, ◌/◌, ◌%◌, ◌≤◌};
+    ghost use Rattle.cell_data.specs.Range.{IsLeast, cells_of, bounds_of, blank_of, width_of};
+    ghost use Rattle.cell_data.specs.Range.{height_of, value_at, relative_value, start_of};
     ghost use Rattle.std.specs.FinMap.{find};
     ghost use Rattle.std.specs.Option.{option_map, option_copied, unwrap_or};
-    ghost use Rattle.cell_data.specs.Range.{cells_of, bounds_of, blank_of, width_of, height_of};
-    ghost use Rattle.cell_data.specs.Range.{value_at, relative_value};
     ghost use Rattle.cell_data.specs.CellsLeft.{position_of};
     ghost use Rattle.cell_data.specs.RangeItems.{box_count, used_items, box_items, row_items};
     ghost use Rattle.cell_data.specs.RangeItems.{used_left, cells_left, rows_left};
-    ghost use Rattle.std.specs.Prelude.{◌/◌, ◌%◌, ◌≤◌};
     ghost use Rattle.std.specs.List.{filter};
-    ghost use Rattle.cell_data.specs.Range.{start_of};
-    ghost use Rattle.cell_refs.specs.Positions.{lie_from};
+    ghost use Rattle.cell_refs.specs.Words.{lie_from, position_cmp, last_of_each, least_area};
+    ghost use Rattle.cell_refs.specs.Words.{is_in_bounds};
     ghost use Rattle.cell_data.specs.Cells.{IsInSheet, AreInSheet};
-    ghost use Rattle.sorted_cells.specs.Area.{area_left};
-    ghost use Rattle.sorted_cells.specs.Placed.{placed_left};
-    ghost use Rattle.cell_refs.specs.Positions.{position_cmp, last_of_each, least_area};
-    ghost use Rattle.cell_refs.specs.Positions.{is_in_bounds};
+    ghost use Rattle.sorted_cells.specs.Words.{area_left, placed_left};
 
     /// The range of these cells: the last of them at each position, in the least area that has them
     /// all. Without a cell the range is empty.

@@ -1,10 +1,10 @@
 ghost use Rattle.std.specs.Prelude.{◌≡◌, ◌+◌, ◌<◌, ◌/◌, ◌%◌, IsTrue};
 ghost use Rattle.std.specs.FinMap.{find};
 ghost use Rattle.std.specs.Option.{unwrap_or};
-ghost use Rattle.cell_refs.specs.Positions.{position_cmp, lie_from};
+ghost use Rattle.cell_refs.specs.Words.{position_cmp, lie_from};
 ghost use Rattle.cell_data.specs.CellsLeft.{AreLeftFrom, AreLeftAt, position_of};
 ghost use Rattle.cell_data.specs.Range.{cells_of, bounds_of, blank_of, width_of};
-ghost use Rattle.sorted_cells.specs.Placed.{placed_left};
+ghost use Rattle.sorted_cells.specs.Words.{placed_left};
 
 use crate::range::Range;
 use sorted_cells::PlacedCells;

@@ -15,7 +15,7 @@ use Rattle.cell_refs.specs.declared.error.RefError.TheVariants.{RangeWithoutColu
 use Rattle.cell_refs.specs.declared.error.RefError.TheVariants.{ColumnNumberOverflow}
 use Rattle.cell_refs.specs.declared.error.RefError.TheVariants.{RowNumberOverflow, DimensionCount}
 
--- the number of rows of a worksheet, and of its columns
+-- the number of rows of a worksheet
 abbrev pub row_limit : ℕ
 row_limit = 1048576
 
@@ -23,7 +23,7 @@ row_limit = 1048576
 abbrev pub column_limit : ℕ
 column_limit = 16384
 
--- b is a capital letter
+-- a byte is a capital letter of ASCII, `A` to `Z`
 abbrev pub IsCapital : ℕ → Type 0
 IsCapital b = (65 ≤ b) × (b ≤ 90)
 

@@ -4,3 +4,4 @@ pub mod Positions
 pub mod RefError
 pub mod Reference
 pub mod Scan
+pub mod Words

@@ -1,7 +1,7 @@
 -- Positions of cells, a row and a column counted from 0, and what stands at them. The order of
 -- positions is that of a sheet, row by row.
-use Rattle.std.specs.Prelude.{ℕ, min, max, Bool, true, false, ◌&&◌, nat_lt, nat_le}
-use Rattle.std.specs.Prelude.{List, [], ◌∷◌, reverse, Option, Some, None}
+use Rattle.std.specs.Prelude.{ℕ, min, max, Bool, true, false, ◌&&◌, nat_lt, nat_le, List, [], ◌∷◌}
+use Rattle.std.specs.Prelude.{reverse, Option, Some, None}
 use Rattle.std.specs.declared.cmp.Ordering.{Ordering}
 use Rattle.std.specs.Ordering.{nat_cmp, ordering_then}
 use Rattle.std.specs.List.{list_all}
@@ -34,7 +34,7 @@ abbrev pub least_area : {X : Type 0} → List ((ℕ × ℕ) × X) → Option Dim
 least_area [] = None
 least_area (cell ∷ cells) = Some (area_with cell.0 (least_area cells))
 
--- the position lies in the area
+-- a position lies in an area
 abbrev pub is_in_area : Dimensions → ℕ × ℕ → Bool
 is_in_area area position =
     (nat_le area.start.0 position.0 && nat_le position.0 area.end.0)

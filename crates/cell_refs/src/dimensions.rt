@@ -1,5 +1,5 @@
-ghost use Rattle.std.specs.Prelude.{◌≡◌, ◌+◌, ◌-◌, ◌^◌, ◌<◌, ◌≤◌, ◌↔◌, min, IsTrue, IfOk};
-ghost use Rattle.std.specs.Prelude.{IfSome, IfNone, [], ◌∷◌, length};
+ghost use Rattle.std.specs.Prelude.{◌≡◌, ◌+◌, ◌-◌, ◌^◌, ◌<◌, ◌≤◌, ◌↔◌, min, IsTrue, IfOk, IfSome};
+ghost use Rattle.std.specs.Prelude.{IfNone, [], ◌∷◌, length};
 ghost use Rattle.cell_refs.specs.A1.{area, parts, corners};
 ghost use Rattle.cell_refs.specs.Dimensions.{corner_count};
 

@@ -3,10 +3,10 @@ use Rattle.std.proofs.Common.{◌≡◌, ℕ, ◌+◌, ◌-◌, ◌*◌, ◌<◌
 use Rattle.std.proofs.Common.{Some, None, ◌++◌, All, IfSome, refl, ap, ◌∙◌, arith}
 use Rattle.std.proofs.Math.Nat.{mul-le-mul_right}
 use Rattle.std.proofs.lemmas.List.Elements.{All-head, All-tail}
-use Rattle.cell_refs.specs.Dimensions.{cell_count, IsInArea}
+use Rattle.cell_refs.specs.Words.{cell_count, IsInArea}
 use Rattle.cell_refs.specs.declared.dimensions.Dimensions.{Dimensions}
 use Rattle.cell_styles.specs.StyleMap.{StyledCell, IsOnSheet, IsArea, widened, covering_area}
-use Rattle.cell_styles.specs.StyleMap.{place_in, width_in, height_in}
+use Rattle.cell_styles.specs.StyleMap.{place_in_area, width_in, height_in}
 
 -- a row and a column below the numbers of both
 below_both : (row column rows width : ℕ) → row < rows → column < width
@@ -19,7 +19,7 @@ below_both row column rows width h i =
 
 -- the place of a position of the area
 pub place_within : (area : Dimensions) (row column : ℕ) → IsArea area → IsInArea area row column
-    → place_in area (row, column) < cell_count area
+    → place_in_area area (row, column) < cell_count area
 place_within area row column whole inside =
     below_both (row - area.start.0) (column - area.start.1) (height_in area) (width_in area)
     (omega arith) (omega arith)

@@ -8,14 +8,14 @@ use Rattle.std.proofs.lemmas.Bool.Decides.{nat_tests}
 use Rattle.std.proofs.lemmas.Nat.{div-mul-add, mod-mul-add}
 use Rattle.std.proofs.lemmas.List.{length-replicate, get_or-append-add, get_or_append_left}
 use Rattle.std.proofs.lemmas.List.{get_or-replicate}
-use Rattle.cell_refs.specs.Dimensions.{cell_count, IsInArea}
+use Rattle.cell_refs.specs.Words.{cell_count, IsInArea}
 use Rattle.cell_refs.specs.declared.dimensions.Dimensions.{Dimensions}
 use Rattle.cell_styles.specs.declared.style.Style.{Style}
 use Rattle.cell_styles.specs.declared.style_runs.StyleRun.{StyleRun}
 use Rattle.cell_styles.specs.StyleItems.{CellStyle, cells_along, cells_in, position_styles}
 use Rattle.cell_styles.specs.StyleItems.{LieAhead}
 use Rattle.cell_styles.specs.StyleMap.{StyleMap, IsArea, IsSound, position_in, style_at, width_in}
-use Rattle.cell_styles.specs.StyleMap.{height_in, place_in}
+use Rattle.cell_styles.specs.StyleMap.{height_in, place_in_area}
 use Rattle.cell_styles.specs.StyleRuns.{numbers_along, IsCanonical}
 use Rattle.cell_styles.proofs.Areas.{place_within}
 use Rattle.cell_styles.proofs.Lookups.{style_found}
@@ -34,13 +34,13 @@ position_inside area place whole within =
 
 -- the position of a position's place is that position
 pub position_of_place : (area : Dimensions) (row column : ℕ) → IsArea area
-    → IsInArea area row column → position_in area (place_in area (row, column)) ≡ (row, column)
+    → IsInArea area row column → position_in area (place_in_area area (row, column)) ≡ (row, column)
 position_of_place area row column whole inside =
     let width = width_in area in
     let short : column - area.start.1 < width = omega (arith, whole.1, inside) in
-    let down : area.start.0 + place_in area (row, column) / width ≡ row =
+    let down : area.start.0 + place_in_area area (row, column) / width ≡ row =
     omega (arith, inside.0, div-mul-add (row - area.start.0) width (column - area.start.1) short) in
-    let right : area.start.1 + place_in area (row, column) % width ≡ column =
+    let right : area.start.1 + place_in_area area (row, column) % width ≡ column =
     omega (arith, inside.2, mod-mul-add (row - area.start.0) width (column - area.start.1) short) in
     λ i. (down i, right i)
 

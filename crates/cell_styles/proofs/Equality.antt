@@ -1,12 +1,10 @@
 -- Comparisons hold exactly of equal values, part by part.
-use Rattle.std.proofs.Common.{Bool, Some, None, nat_eq, refl, ap}
-use Rattle.std.proofs.Common.{rules}
+use Rattle.std.proofs.Common.{Bool, Some, None, nat_eq, refl, ap, rules}
 use Rattle.std.specs.Bool.{beq}
 use Rattle.std.specs.Option.{option_eq}
 use Rattle.std.specs.Cmp.Lexicographic.{pointwise}
 use Rattle.equalities.specs.Equality.{IsEquality}
-use Rattle.equalities.proofs.Equality.{of_pairs, of_image, of_options, of_bool, of_number}
-use Rattle.equalities.proofs.Equality.{of_text}
+use Rattle.equalities.proofs.Equality.{of_pairs, of_image, of_options, of_bool, of_number, of_text}
 use Rattle.decimals.proofs.Equality.{of_decimal}
 use Rattle.cell_styles.specs.Font.{FontFields}
 use Rattle.cell_styles.specs.StyleFormats.{NumberFormatFields}

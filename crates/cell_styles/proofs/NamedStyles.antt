@@ -1,8 +1,7 @@
 -- The style of a position is that of the id that it is listed with.
 use Rattle.std.proofs.Common.{◌≡◌, ℕ, zero, suc, ◌+◌, ◌<◌, Bool, true, false, cond, if◌then◌else◌}
 use Rattle.std.proofs.Common.{List, [], ◌∷◌, map, get_or, slice_get, slice_index, Option, Some}
-use Rattle.std.proofs.Common.{None}
-use Rattle.std.proofs.Common.{refl, sym, ◌∙◌, ap, subst, inl, inr, arith}
+use Rattle.std.proofs.Common.{None, refl, sym, ◌∙◌, ap, subst, inl, inr, arith}
 use Rattle.std.specs.Cmp.{tied_itself}
 use Rattle.std.specs.FinMap.{find}
 use Rattle.std.specs.Borrow.{Bor}
@@ -11,13 +10,12 @@ use Rattle.std.specs.Option.{option_copied, unwrap_or}
 use Rattle.std.proofs.lemmas.Option.{slice_get_past, slice_get_read}
 use Rattle.std.specs.Ordering.{is_eq, ordering_reverse, eq_by_cmp}
 use Rattle.std.proofs.lemmas.Bool.Decides.{eqb_tells, nat_tests}
-use Rattle.cell_refs.specs.Dimensions.{IsInArea}
-use Rattle.cell_refs.specs.Positions.{is_in_area, position_cmp}
+use Rattle.cell_refs.specs.Words.{IsInArea, is_in_area, position_cmp}
 use Rattle.cell_refs.specs.declared.dimensions.Dimensions.{Dimensions}
 use Rattle.cell_refs.proofs.PositionOrder.{position_total, none_behind}
-use Rattle.cell_styles.specs.StyleItems.{styled_along, styled_in, styled_of, styled_entry}
-use Rattle.cell_styles.specs.StyleItems.{id_among, style_by, style_named}
-use Rattle.cell_styles.specs.StyleMap.{StyleMap, IsSound, position_in, place_in, width_in}
+use Rattle.cell_styles.specs.StyleItems.{styled_along, styled_in, styled_of, styled_entry, id_among}
+use Rattle.cell_styles.specs.StyleItems.{style_by, style_named}
+use Rattle.cell_styles.specs.StyleMap.{StyleMap, IsSound, position_in, place_in_area, width_in}
 use Rattle.cell_styles.specs.StyleMap.{style_in, style_at}
 use Rattle.cell_styles.specs.declared.style.Style.{Style}
 use Rattle.cell_styles.proofs.CellLists.{position_of_place}
@@ -81,21 +79,21 @@ named_in styles area count is sound position =
     let some : 0 < width_in area = omega (arith, whole.1) in
     let id_there : (is_in_area area position ≡ true)
     → id_among (styled_in (Some area) styles.ids) position
-    ≡ slice_index styles.ids (place_in area position) =
+    ≡ slice_index styles.ids (place_in_area area position) =
     λ inside.
     let lies : IsInArea area position.0 position.1 = grind (arith, nat_tests, inside) in
     ap (λ cells. id_among cells position) (sym (styled_are area styles.ids sound.1))
     ∙ ap (λ (p : ℕ × ℕ). id_among (styled_along area 0 styles.ids) p)
     (sym (position_of_place area position.0 position.1 whole lies))
     ∙ ap (λ n. id_among (styled_along area 0 styles.ids) (position_in area n))
-    (let e : place_in area position ≡ 0 + place_in area position = omega arith in e)
-    ∙ id_found area some 0 (place_in area position) styles.ids in
+    (let e : place_in_area area position ≡ 0 + place_in_area area position = omega arith in e)
+    ∙ id_found area some 0 (place_in_area area position) styles.ids in
     subst (λ (bounds : Option Dimensions).
     style_by bounds styles.palette position (id_among (styled_in bounds styles.ids) position)
     ≡ style_in bounds styles position) (sym is)
     (same_inside (is_in_area area position)
     (slice_get styles.palette (id_among (styled_in (Some area) styles.ids) position))
-    (slice_get styles.palette (slice_index styles.ids (place_in area position)))
+    (slice_get styles.palette (slice_index styles.ids (place_in_area area position)))
     (λ inside. ap (slice_get styles.palette) (id_there inside)))
 
 -- a position of the area has the style that is asked for

@@ -5,7 +5,7 @@ use Rattle.std.proofs.Common.{IfSome, refl, ap, subst, sym, ◌∙◌, arith}
 use Rattle.std.proofs.lemmas.Bool.{eqb-true, eq-eqb}
 use Rattle.std.proofs.lemmas.Bool.Decides.{nat_tests}
 use Rattle.std.proofs.lemmas.List.Elements.{All-head, All-tail, All-cons}
-use Rattle.cell_refs.specs.Dimensions.{IsInArea}
+use Rattle.cell_refs.specs.Words.{IsInArea}
 use Rattle.cell_refs.specs.declared.dimensions.Dimensions.{Dimensions}
 use Rattle.cell_refs.proofs.PositionOrder.{and_both}
 use Rattle.cell_styles.specs.declared.style.Style.{Style}

@@ -4,7 +4,7 @@ use Rattle.std.proofs.Common.{length, replicate, get_or, map, filter, slice_inde
 use Rattle.std.proofs.Common.{false, Some, refl, ap, sym, ◌∙◌, inl, inr, arith, zero, suc}
 use Rattle.std.specs.List.{range_with_len}
 use Rattle.std.proofs.lemmas.Bool.Decides.{eqb_tells, nat_tests}
-use Rattle.cell_refs.specs.Dimensions.{cell_count}
+use Rattle.cell_refs.specs.Words.{cell_count}
 use Rattle.cell_refs.specs.declared.dimensions.Dimensions.{Dimensions}
 use Rattle.cell_styles.specs.declared.style_runs.StyleRun.{StyleRun}
 use Rattle.cell_styles.specs.StyleItems.{styled_along, styled_in, styled_of, BeginsStyled}

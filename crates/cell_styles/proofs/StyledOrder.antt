@@ -9,9 +9,8 @@ use Rattle.std.specs.declared.cmp.Ordering.TheVariants.{Less, Equal}
 use Rattle.std.proofs.Math.Nat.{div-lt_iff_lt-mul, div-add-mod}
 use Rattle.std.proofs.lemmas.Bool.Decides.{eqb_tells}
 use Rattle.std.proofs.lemmas.List.Elements.{All-nil, All-cons}
-use Rattle.cell_refs.specs.Dimensions.{cell_count}
+use Rattle.cell_refs.specs.Words.{cell_count, position_cmp, is_rising}
 use Rattle.cell_refs.specs.declared.dimensions.Dimensions.{Dimensions}
-use Rattle.cell_refs.specs.Positions.{position_cmp, is_rising}
 use Rattle.cell_styles.specs.StyleItems.{styled_along, styled_entry, RiseOnSheet}
 use Rattle.cell_styles.specs.StyleMap.{IsArea, IsOnSheet, position_in, width_in}
 use Rattle.cell_styles.proofs.CellLists.{position_inside}

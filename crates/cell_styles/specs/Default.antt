@@ -29,7 +29,7 @@ default_color = record { alpha = 0; red = 0; green = 0; blue = 0 }
 abbrev pub default_border : Border
 default_border = record { style = border_style.None; color = None }
 
--- borders without a line
+-- the borders of a cell, each side without a line
 abbrev pub default_borders : Borders
 default_borders = record {
   left = default_border;
@@ -68,7 +68,7 @@ default_alignment = record {
 abbrev pub default_fill : Fill
 default_fill = record { pattern = pattern.None; foreground_color = None; background_color = None }
 
--- neither locked nor hidden
+-- the protection of a cell that is neither locked nor hidden
 abbrev pub default_protection : Protection
 default_protection = record { locked = false; hidden = false }
 

@@ -10,3 +10,4 @@ pub mod Style
 pub mod StyleItems
 pub mod StyleMap
 pub mod StyleRuns
+pub mod Words

@@ -8,17 +8,17 @@ use Rattle.cell_styles.specs.declared.font.FontWeight.TheVariants.{Bold}
 use Rattle.cell_styles.specs.declared.font.FontStyle.TheVariants.{Italic}
 use Rattle.cell_styles.specs.declared.style.Style.{Style}
 
--- no property is named
+-- a style names no property
 abbrev pub NamesNothing : Style → Type 0
 NamesNothing style =
     (style.font ≡ None) × (style.fill ≡ None) × (style.borders ≡ None)
     × (style.alignment ≡ None) × (style.number_format ≡ None) × (style.protection ≡ None)
 
--- the font is bold, italic or has a color
+-- a font is bold, italic or has a color
 abbrev pub IsMarked : FontFields → Type 0
 IsMarked font = IsSome font.color ⊎ ((font.weight ≡ Bold) ⊎ (font.style ≡ Italic))
 
--- some property can be seen
+-- some property of a style can be seen: its font, its fill, its borders or its alignment
 abbrev pub IsSeen : Style → Type 0
 IsSeen style =
     IsSomeAnd style.font IsMarked

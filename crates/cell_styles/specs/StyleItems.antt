@@ -4,9 +4,8 @@ use Rattle.std.specs.Prelude.{filter, nat_lt, Option, Some, None, true, slice_ge
 use Rattle.std.specs.FinMap.{find}
 use Rattle.std.specs.List.{list_all}
 use Rattle.std.specs.Option.{unwrap_or}
-use Rattle.cell_refs.specs.Dimensions.{cell_count}
+use Rattle.cell_refs.specs.Words.{cell_count, is_in_area, is_rising, position_cmp}
 use Rattle.cell_refs.specs.declared.dimensions.Dimensions.{Dimensions}
-use Rattle.cell_refs.specs.Positions.{is_in_area, is_rising, position_cmp}
 use Rattle.cell_styles.specs.declared.style.Style.{Style}
 use Rattle.cell_styles.specs.declared.style_runs.StyleRun.{StyleRun}
 use Rattle.cell_styles.specs.StyleMap.{StyledCell, StyleMap, IsArea, position_in, places, style_at}

@@ -1,11 +1,10 @@
 -- Which style each position has: the area that the styled positions span, and an id for each of its
 -- positions, row by row.
 use Rattle.std.specs.Prelude.{◌≡◌, ℕ, ◌+◌, ◌-◌, ◌*◌, ◌/◌, ◌%◌, ◌<◌, ◌≤◌, min, max, ◌==◌, ◌&&◌}
-use Rattle.std.specs.Prelude.{nat_lt, if◌then◌else◌, List, [], ◌∷◌, map, filter, length}
-use Rattle.std.specs.Prelude.{slice_get, slice_index, Bool, Option, Some, None, All}
+use Rattle.std.specs.Prelude.{nat_lt, if◌then◌else◌, List, [], ◌∷◌, map, filter, length, slice_get}
+use Rattle.std.specs.Prelude.{slice_index, Bool, Option, Some, None, All}
 use Rattle.std.specs.List.{range_with_len}
-use Rattle.cell_refs.specs.Dimensions.{span, cell_count, IsInArea}
-use Rattle.cell_refs.specs.Positions.{is_in_area}
+use Rattle.cell_refs.specs.Words.{span, cell_count, IsInArea, is_in_area}
 use Rattle.cell_refs.specs.declared.TheConstants.{MAX_ROWS, MAX_COLUMNS}
 use Rattle.cell_refs.specs.declared.dimensions.Dimensions.{Dimensions}
 use Rattle.cell_styles.specs.declared.style.Style.{Style}
@@ -55,9 +54,9 @@ width_in area = span area.start.1 area.end.1
 abbrev pub height_in : Dimensions → ℕ
 height_in area = span area.start.0 area.end.0
 
--- the place of a position among those of an area, row by row, and the position of a place
-abbrev pub place_in : Dimensions → ℕ × ℕ → ℕ
-place_in area position =
+-- the place of a position among those of an area, counted from 0 along its rows
+abbrev pub place_in_area : Dimensions → ℕ × ℕ → ℕ
+place_in_area area position =
     (position.0 - area.start.0) * width_in area + (position.1 - area.start.1)
 
 -- the position at a place of an area, counted from 0 along its rows
@@ -65,7 +64,7 @@ abbrev pub position_in : Dimensions → ℕ → ℕ × ℕ
 position_in area place =
     (area.start.0 + place / width_in area, area.start.1 + place % width_in area)
 
--- the places of an area
+-- the places of an area's positions, counted from 0 along its rows
 abbrev pub places : Dimensions → List ℕ
 places area = range_with_len 0 (cell_count area)
 
@@ -75,7 +74,7 @@ pub record StyleMap : Type 0 where
   pub palette : List Style
   pub ids : List ℕ
 
--- a map without an area
+-- the styles of a sheet without any: no area, no palette
 abbrev pub no_styles : StyleMap
 no_styles = record { bounds = None; palette = []; ids = [] }
 
@@ -105,19 +104,19 @@ IsSound None count ids = ids ≡ []
 IsSound (Some area) count ids =
     IsArea area × (length ids ≡ cell_count area) × All (λ id. id < count) ids
 
--- there is an area, and the position lies in it
+-- there is an area, and a position lies in it
 abbrev pub IsInBounds : Option Dimensions → ℕ × ℕ → Type 0
 IsInBounds None position = ⊥
 IsInBounds (Some area) position = IsInArea area position.0 position.1
 
--- the style of a position of the area
+-- the style of a position of an area, if there is one and the position lies in it
 abbrev pub style_in : Option Dimensions → StyleMap → ℕ × ℕ → Option Style
 style_in None styles position = None
 style_in (Some area) styles position =
     if is_in_area area position
-    then slice_get styles.palette (slice_index styles.ids (place_in area position))
+    then slice_get styles.palette (slice_index styles.ids (place_in_area area position))
     else None
 
--- the style at a position
+-- the style at a position, and none outside the area of the styles
 abbrev pub style_at : StyleMap → ℕ × ℕ → Option Style
 style_at styles position = style_in styles.bounds styles position

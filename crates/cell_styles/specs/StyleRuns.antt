@@ -26,7 +26,7 @@ abbrev pub end_along : ℕ → List StyleRun → ℕ
 end_along start [] = start
 end_along start (run ∷ runs) = end_along run.end runs
 
--- there is a last run, and it has this number
+-- there is a last run, and its style id is this one
 abbrev pub last_is : ℕ → List StyleRun → Bool
 last_is id [] = false
 last_is id (run ∷ []) = run.id == id

@@ -1,5 +1,5 @@
 ghost use Rattle.std.specs.Prelude.{◌≡◌, ℕ, ◌^◌, ◌<◌, List, length};
-ghost use Rattle.cell_refs.specs.Dimensions.{cell_count, IsInArea};
+ghost use Rattle.cell_refs.specs.Words.{cell_count, IsInArea};
 ghost use Rattle.cell_refs.specs.declared.dimensions.Dimensions.{Dimensions};
 ghost use Rattle.equalities.specs.Equality.{IsEquality, CopiesItself};
 ghost use Rattle.cell_styles.specs.Color.{argb_of, color_of_argb};
@@ -7,7 +7,7 @@ ghost use Rattle.cell_styles.specs.Default.{IsOnly, default_color, default_borde
 ghost use Rattle.cell_styles.specs.Default.{default_font, default_alignment, default_fill};
 ghost use Rattle.cell_styles.specs.Default.{default_protection, default_style};
 ghost use Rattle.cell_styles.specs.StyleMap.{StyledCell, IsArea, first_id_at, styles_of};
-ghost use Rattle.cell_styles.specs.StyleMap.{place_in, position_in};
+ghost use Rattle.cell_styles.specs.StyleMap.{place_in_area, position_in};
 ghost use Rattle.cell_styles.specs.declared.color.Color.{Color};
 ghost use Rattle.cell_styles.specs.declared.style.Style.{Style};
 
@@ -113,10 +113,10 @@ pub fn each_position_has_one_place()
     ensures inside { (area : Dimensions) (place : ℕ) → IsArea area → place < cell_count area
         → IsInArea area (position_in area place).0 (position_in area place).1 }
     ensures within { (area : Dimensions) (row column : ℕ) → IsArea area
-        → IsInArea area row column → place_in area (row, column) < cell_count area }
+        → IsInArea area row column → place_in_area area (row, column) < cell_count area }
     ensures place { (area : Dimensions) (place : ℕ)
-        → place_in area (position_in area place) ≡ place }
+        → place_in_area area (position_in area place) ≡ place }
     ensures position { (area : Dimensions) (row column : ℕ) → IsArea area
         → IsInArea area row column
-        → position_in area (place_in area (row, column)) ≡ (row, column) }
+        → position_in area (place_in_area area (row, column)) ≡ (row, column) }
 {}

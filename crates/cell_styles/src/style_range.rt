@@ -1,11 +1,11 @@
-ghost use Rattle.std.specs.Prelude.{◌≡◌, ◌+◌, ◌-◌, ◌*◌, ◌^◌, ◌<◌, ◌≤◌, ◌↔◌, None, IfOk, IsTrue};
-ghost use Rattle.std.specs.Prelude.{ℕ, IsSome, All, nat_lt, count_by};
+ghost use Rattle.std.specs.Prelude.{◌≡◌, ◌+◌, ◌-◌, ◌*◌, ◌^◌, ◌<◌, ◌≤◌, ◌↔◌, None, IfOk, IsTrue, ℕ};
+ghost use Rattle.std.specs.Prelude.{IsSome, All, nat_lt, count_by};
 ghost use Rattle.std.specs.Option.{option_map, option_map_or, option_copied};
 ghost use Rattle.cell_styles.specs.Groups.{group_count};
-ghost use Rattle.cell_styles.specs.StyleItems.{position_styles, styled_of, RiseOnSheet};
-ghost use Rattle.cell_styles.specs.StyleItems.{id_among, style_named};
-ghost use Rattle.cell_styles.specs.StyleMap.{IsOnSheet, IsInBounds, no_styles, place_in, styles_of};
-ghost use Rattle.cell_styles.specs.StyleMap.{style_at, width_in, height_in};
+ghost use Rattle.cell_styles.specs.StyleItems.{position_styles, styled_of, RiseOnSheet, id_among};
+ghost use Rattle.cell_styles.specs.StyleItems.{style_named};
+ghost use Rattle.cell_styles.specs.StyleMap.{IsOnSheet, IsInBounds, no_styles, place_in_area};
+ghost use Rattle.cell_styles.specs.StyleMap.{styles_of, style_at, width_in, height_in};
 
 use crate::filling::{covering_area, explicit, filled, height, in_order, place_in, width};
 use crate::style_runs::StyleRuns;

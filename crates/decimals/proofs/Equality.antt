@@ -1,6 +1,5 @@
 -- A comparison of decimals holds exactly of those that are the same.
-use Rattle.std.proofs.Common.{◌≡◌, ap, subst, ℤ}
-use Rattle.std.proofs.Common.{pos, rules}
+use Rattle.std.proofs.Common.{◌≡◌, ap, subst, ℤ, pos, rules}
 use Rattle.std.proofs.Props.{props}
 use Rattle.std.specs.Ordering.{int_eq}
 use Rattle.decimals.specs.Canonical.{IsTrimmed}

@@ -3,9 +3,8 @@ use Rattle.std.proofs.Common.{◌≡◌, refl, ℕ, suc, ◌+◌, ◌-◌, ◌�
 use Rattle.std.proofs.Common.{List, length, take, drop, replicate, ℤ, pos, negsuc, arith}
 use Rattle.std.proofs.Common.{length-append, length-take, length-drop, ap, add-one, sym, ◌∙◌}
 use Rattle.std.proofs.Common.{append_assoc, Result, Ok, Err}
-use Rattle.std.specs.Prelude.{nat_le, nat_lt, int_lt, unsigned_abs}
+use Rattle.std.specs.Prelude.{nat_le, nat_lt, int_lt, unsigned_abs, FitsSigned, OnOk}
 use Rattle.std.specs.Fmt.{decimal, signed_decimal, sign_text}
-use Rattle.std.specs.Prelude.{FitsSigned, OnOk}
 use Rattle.std.specs.Int.{w32}
 use Rattle.std.proofs.lemmas.Bool.Decides.{nat_tests}
 use Rattle.std.proofs.lemmas.Fmt.{length-decimal-le}

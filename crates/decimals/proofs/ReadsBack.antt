@@ -1,14 +1,12 @@
 -- The text of a decimal writes that decimal, and equal numbers have one form.
-use Rattle.std.proofs.Common.{◌≡◌, ℕ, zero, suc, ◌+◌, ◌-◌, ◌*◌, ◌%◌, ◌^◌, ◌<◌, ◌==◌}
-use Rattle.std.proofs.Common.{Bool, true, false, cond, ◌&&◌, List, [], ◌∷◌, ◌++◌, length, take}
-use Rattle.std.proofs.Common.{drop}
-use Rattle.std.proofs.Common.{replicate, Some, None, Option, ℤ, pos, negsuc, neg_ℤ, ◌+ℤ◌, ◌-ℤ◌}
-use Rattle.std.proofs.Common.{refl, sym, ap, add-one, ◌∙◌, arith, length-append, length-take}
-use Rattle.std.proofs.Common.{length-drop, append_assoc}
-use Rattle.std.specs.Prelude.{nat_lt, nat_le, nat_abs}
+use Rattle.std.proofs.Common.{◌≡◌, ℕ, zero, suc, ◌+◌, ◌-◌, ◌*◌, ◌%◌, ◌^◌, ◌<◌, ◌==◌, Bool, true}
+use Rattle.std.proofs.Common.{false, cond, ◌&&◌, List, [], ◌∷◌, ◌++◌, length, take, drop, replicate}
+use Rattle.std.proofs.Common.{Some, None, Option, ℤ, pos, negsuc, neg_ℤ, ◌+ℤ◌, ◌-ℤ◌, refl, sym, ap}
+use Rattle.std.proofs.Common.{add-one, ◌∙◌, arith, length-append, length-take, length-drop}
+use Rattle.std.proofs.Common.{append_assoc}
+use Rattle.std.specs.Prelude.{nat_lt, nat_le, nat_abs, FitsSigned}
 use Rattle.std.specs.Char.{is_ascii_digit}
 use Rattle.std.specs.Fmt.{decimal, signed_decimal}
-use Rattle.std.specs.Prelude.{FitsSigned}
 use Rattle.std.specs.Int.{w32, w128}
 use Rattle.std.specs.List.{prefix_len}
 use Rattle.std.specs.Option.{option_and_then}
@@ -25,9 +23,8 @@ use Rattle.std.proofs.lemmas.Str.Parse.{tells_digits, tells_all_ascii_digits}
 use Rattle.decimals.specs.declared.decimal.Decimal.{Decimal}
 use Rattle.decimals.specs.declared.significand.Significand.{Significand}
 use Rattle.decimals.specs.Decimals.{digits_in_front, behind_digits, fraction_digits}
-use Rattle.decimals.specs.Decimals.{behind_fraction}
-use Rattle.decimals.specs.Decimals.{power_of, signed_number, with_sign, number_of_digits, has_bits}
-use Rattle.decimals.specs.Decimals.{fitting, unsigned_decimal}
+use Rattle.decimals.specs.Decimals.{behind_fraction, power_of, signed_number, with_sign}
+use Rattle.decimals.specs.Decimals.{number_of_digits, has_bits, fitting, unsigned_decimal}
 use Rattle.decimals.specs.Decimals.{decimal_of, with_point, with_exponent, printed_digits, printed}
 use Rattle.decimals.specs.Decimal.{number_of}
 use Rattle.decimals.specs.Significand.{digits_added}

@@ -1,8 +1,7 @@
 -- The laws of rounding to so many significant digits.
-use Rattle.std.proofs.Common.{◌≡◌, ℕ, zero, suc, ◌+◌, ◌-◌, ◌*◌, ◌%◌, ◌^◌, ◌<◌, ◌≤◌, ◌==◌}
-use Rattle.std.proofs.Common.{Bool, true, false, cond, ◌&&◌, Some, None}
-use Rattle.std.proofs.Common.{ℤ, pos, negsuc, neg_ℤ, ◌+ℤ◌, ◌-ℤ◌, ◌*ℤ◌, ◌≤ℤ◌}
-use Rattle.std.proofs.Common.{refl, sym, ap, subst, ◌∙◌, arith, inl, inr}
+use Rattle.std.proofs.Common.{◌≡◌, ℕ, zero, suc, ◌+◌, ◌-◌, ◌*◌, ◌%◌, ◌^◌, ◌<◌, ◌≤◌, ◌==◌, Bool}
+use Rattle.std.proofs.Common.{true, false, cond, ◌&&◌, Some, None, ℤ, pos, negsuc, neg_ℤ, ◌+ℤ◌}
+use Rattle.std.proofs.Common.{◌-ℤ◌, ◌*ℤ◌, ◌≤ℤ◌, refl, sym, ap, subst, ◌∙◌, arith, inl, inr}
 use Rattle.std.specs.Prelude.{nat_abs, FitsSigned}
 use Rattle.std.specs.Fmt.{decimal}
 use Rattle.std.specs.Int.{is_negative, w128}
@@ -17,8 +16,8 @@ use Rattle.decimals.specs.declared.decimal.Decimal.{Decimal}
 use Rattle.decimals.specs.Decimal.{number_of}
 use Rattle.decimals.specs.Decimals.{with_sign, has_bits, fitting, decimal_from}
 use Rattle.decimals.specs.Decimals.{without_trailing_zeros, trailing_zeros, in_one_form}
-use Rattle.decimals.specs.Rounding.{digit_count, digits_behind, nearest, rounded_number}
-use Rattle.decimals.specs.Rounding.{IsAtMost, IsWithinHalfAUnit}
+use Rattle.decimals.specs.Rounding.{digit_count, digits_behind, nearest, rounded_number, IsAtMost}
+use Rattle.decimals.specs.Rounding.{IsWithinHalfAUnit}
 use Rattle.decimals.proofs.Nearest.{half_above, half_below, in_order, HasDigits, rounded_in}
 use Rattle.decimals.proofs.Nearest.{nearest_most, near_up, factors, some, times}
 use Rattle.decimals.proofs.OneForm.{value_kept, zeros_gone}

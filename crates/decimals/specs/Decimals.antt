@@ -12,7 +12,7 @@ use Rattle.std.specs.Str.{all_ascii_digits}
 use Rattle.std.specs.Str.Parse.{digits_value, signed_digits_value, starts_with_minus}
 use Rattle.std.specs.Str.Parse.{without_leading_sign}
 
--- the digits in front of a text, and what stands behind them
+-- the digits in front of a text
 abbrev pub digits_in_front : List ℕ → List ℕ
 digits_in_front text = take_while is_ascii_digit text
 
@@ -20,11 +20,11 @@ digits_in_front text = take_while is_ascii_digit text
 abbrev pub behind_digits : List ℕ → List ℕ
 behind_digits text = drop (prefix_len is_ascii_digit text) text
 
--- `.`
+-- a byte is `.`
 abbrev pub is_point : ℕ → Bool
 is_point b = b == 46
 
--- the digits behind a point, and what stands behind those
+-- the digits behind a point in front of a text
 abbrev pub fraction_digits : List ℕ → List ℕ
 fraction_digits [] = []
 fraction_digits (b ∷ bs) = if is_point b then digits_in_front bs else []
@@ -34,7 +34,7 @@ abbrev pub behind_fraction : List ℕ → List ℕ
 behind_fraction [] = []
 behind_fraction (b ∷ bs) = if is_point b then behind_digits bs else b ∷ bs
 
--- `e` or `E`
+-- a byte is `e` or `E`
 abbrev pub is_exponent_mark : ℕ → Bool
 is_exponent_mark b = b == 101 || b == 69
 
@@ -49,7 +49,7 @@ abbrev pub power_of : List ℕ → Option ℤ
 power_of [] = Some (pos 0)
 power_of (b ∷ bs) = if is_exponent_mark b then signed_number bs else None
 
--- how many zeros end these digits, and the digits without them
+-- how many zeros end these digits
 abbrev pub trailing_zeros : List ℕ → ℕ
 trailing_zeros digits = suffix_len (λ b. b == 48) digits
 
@@ -57,7 +57,7 @@ trailing_zeros digits = suffix_len (λ b. b == 48) digits
 abbrev pub without_trailing_zeros : List ℕ → List ℕ
 without_trailing_zeros digits = take (length digits - trailing_zeros digits) digits
 
--- a number with its sign
+-- the whole number of a size, below 0 or not as its sign says
 abbrev pub with_sign : Bool → ℕ → ℤ
 with_sign negative n = if negative then neg_ℤ (pos n) else pos n
 

@@ -4,3 +4,4 @@ pub mod Decimals
 pub mod Powers
 pub mod Rounding
 pub mod Significand
+pub mod Words

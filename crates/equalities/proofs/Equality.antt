@@ -1,6 +1,6 @@
 -- A comparison of what has parts holds exactly of equal values where those of its parts do.
-use Rattle.std.proofs.Common.{◌≡◌, Bool, true, false, ◌&&◌, refl, ap, sym, ◌∙◌, subst, rules}
-use Rattle.std.proofs.Common.{Some, None, nat_eq, ◌⊎◌, inl, inr, ⊎_elim, ap₂, [], ◌∷◌, map}
+use Rattle.std.proofs.Common.{◌≡◌, Bool, true, false, ◌&&◌, refl, ap, sym, ◌∙◌, subst, rules, Some}
+use Rattle.std.proofs.Common.{None, nat_eq, ◌⊎◌, inl, inr, ⊎_elim, ap₂, [], ◌∷◌, map}
 use Rattle.std.specs.Bool.{beq}
 use Rattle.std.specs.Cmp.Lexicographic.{pointwise}
 use Rattle.std.specs.Option.{option_eq}

@@ -1,7 +1,6 @@
 -- Texts with bytes in two characters.
 use Rattle.std.proofs.Common.{◌≡◌, ℕ, ◌+◌, ◌<◌, ◌≤◌, List, [], ◌∷◌, length, take, drop, get_or}
-use Rattle.std.proofs.Common.{refl, Bool, true, false}
-use Rattle.std.proofs.Common.{cond, not, ◌&&◌, ◌==◌, arith, inl, inr}
+use Rattle.std.proofs.Common.{refl, Bool, true, false, cond, not, ◌&&◌, ◌==◌, arith, inl, inr}
 use Rattle.std.specs.List.{prefix_len}
 use Rattle.std.specs.Str.{IsCharBoundary}
 use Rattle.std.proofs.Math.Numerals.{one-add}

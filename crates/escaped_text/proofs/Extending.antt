@@ -1,39 +1,40 @@
 -- Texts with more behind them.
-use Rattle.std.proofs.Common.{◌≡◌, ◌++◌, ◌≤◌, List, [], ℕ, length, take, sym, ◌∙◌, ap}
-use Rattle.std.proofs.Common.{subst, arith, rules}
+use Rattle.std.proofs.Common.{◌≡◌, ◌++◌, ◌≤◌, List, [], ℕ, length, take, sym, ◌∙◌, ap, subst, arith}
+use Rattle.std.proofs.Common.{rules}
 use Rattle.std.specs.Prelude.{IsUtf8, String, Result, OnErr, string_bytes, string_len}
 use Rattle.std.specs.String.Boundary.{IsSplitPoint}
 use Rattle.std.proofs.lemmas.List.{append-nil, append_assoc, length-append}
 use Rattle.std.proofs.lemmas.Result.{on_err_weaker}
 use Rattle.std.proofs.lemmas.Str.{IsCharBoundary-from_take, IsUtf8-string_bytes}
 use Rattle.std.proofs.Math.Seq.{take-append_seam}
-use Rattle.escaped_text.specs.Escaped.{Extends}
+use Rattle.escaped_text.specs.Escaped.{AddsBehind}
 
-pub Extends-refl : (bytes : List ℕ) → Extends bytes bytes
+pub Extends-refl : (bytes : List ℕ) → AddsBehind bytes bytes
 Extends-refl bytes = record { more = []; joined = sym (append-nil bytes) }
 
-pub Extends-trans : (old mid new : List ℕ) → Extends old mid → Extends mid new → Extends old new
+pub Extends-trans : (old mid new : List ℕ) → AddsBehind old mid → AddsBehind mid new
+    → AddsBehind old new
 Extends-trans old mid new first second = record {
   more = first.more ++ second.more;
   joined = second.joined ∙ (ap (λ bytes. bytes ++ second.more) first.joined
       ∙ append_assoc old first.more second.more);
 }
 
-pub Extends-push : (old new more : List ℕ) → new ≡ old ++ more → Extends old new
+pub Extends-push : (old new more : List ℕ) → new ≡ old ++ more → AddsBehind old new
 Extends-push old new more is = record { more = more; joined = is }
 
 -- the old text is the front of the new one
-pub front_kept : (old new : List ℕ) → Extends old new → take (length old) new ≡ old
+pub front_kept : (old new : List ℕ) → AddsBehind old new → take (length old) new ≡ old
 front_kept old new extends =
     ap (take (length old)) extends.joined ∙ take-append_seam old extends.more
 
-pub front_within : (old new : List ℕ) → Extends old new → length old ≤ length new
+pub front_within : (old new : List ℕ) → AddsBehind old new → length old ≤ length new
 front_within old new extends =
     let e = ap length extends.joined ∙ length-append old extends.more in
     omega (arith)
 
 -- where the old text ends, the new one may be cut
-pub front_splits : (old new : List ℕ) → Extends old new → IsUtf8 old → IsUtf8 new
+pub front_splits : (old new : List ℕ) → AddsBehind old new → IsUtf8 old → IsUtf8 new
     → IsSplitPoint new (length old)
 front_splits old new extends old_text new_text =
     let within = front_within old new extends in
@@ -43,7 +44,7 @@ front_splits old new extends old_text new_text =
 
 -- a text that more was appended to may be cut back to what it was
 pub cut_back : {Z T E : Type 0} (old new : String Z) (r : Result T E)
-    → OnErr r (Extends (string_bytes old) (string_bytes new))
+    → OnErr r (AddsBehind (string_bytes old) (string_bytes new))
     → OnErr r (IsSplitPoint (string_bytes new) (string_len old))
 cut_back old new r extends =
     on_err_weaker r

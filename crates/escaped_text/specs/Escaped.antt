@@ -25,6 +25,6 @@ StartsEscaped [] = Unit {0}
 StartsEscaped (byte ∷ bytes) = is_unescaped byte ≡ false
 
 -- the new text is the old one, or has more behind it
-pub record Extends (old new : List ℕ) : Type 0 where
+pub record AddsBehind (old new : List ℕ) : Type 0 where
   pub more : List ℕ
   pub joined : new ≡ old ++ more

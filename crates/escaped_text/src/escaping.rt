@@ -1,9 +1,9 @@
-ghost use Rattle.std.specs.Prelude.{◌≡◌, ◌≤◌, ◌++◌, false, length, take, string_bytes};
-ghost use Rattle.std.specs.Prelude.{OnOk, OnErr, IsUtf8};
+ghost use Rattle.std.specs.Prelude.{◌≡◌, ◌≤◌, ◌++◌, false, length, take, string_bytes, OnOk, OnErr};
+ghost use Rattle.std.specs.Prelude.{IsUtf8};
 ghost use Rattle.std.specs.List.{prefix_len};
 ghost use Rattle.std.specs.String.Boundary.{IsSplitPoint};
 ghost use Rattle.escaped_text.specs.Escaped.{escaped_byte, escaped, is_unescaped, StartsEscaped};
-ghost use Rattle.escaped_text.specs.Escaped.{Extends};
+ghost use Rattle.escaped_text.specs.Escaped.{AddsBehind};
 
 use std::alloc::AllocError;
 
@@ -45,7 +45,7 @@ fn split_unescaped(text: &str) -> (&str, &str)
 /// of them behind.
 fn push_pieces(out: &mut String, text: &str) -> Result<(), AllocError>
     ensures ok { OnOk result (string_bytes out.new ≡ string_bytes out.old ++ escaped text.now) }
-    ensures err { OnErr result (Extends (string_bytes out.old) (string_bytes out.new)) }
+    ensures err { OnErr result (AddsBehind (string_bytes out.old) (string_bytes out.new)) }
 {
     let mut rest = text;
     'pieces: while !rest.is_empty() {

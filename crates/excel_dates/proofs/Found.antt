@@ -1,16 +1,14 @@
 -- The date of a day is one that the calendar has, and has as many days before it.
-use Rattle.std.proofs.Common.{◌≡◌, ℕ, zero, suc, ◌+◌, ◌-◌, ◌<◌, ◌≤◌}
-use Rattle.std.proofs.Common.{refl, sym, ap, subst, arith, inl, inr, pos}
+use Rattle.std.proofs.Common.{◌≡◌, ℕ, zero, suc, ◌+◌, ◌-◌, ◌<◌, ◌≤◌, refl, sym, ap, subst, arith}
+use Rattle.std.proofs.Common.{inl, inr, pos}
 use Rattle.std.proofs.lemmas.Bool.{cases_lt}
 use Rattle.jiff_core.specs.Calendar.{days_in_month, days_in_year, day_count, IsCivilDate}
-use Rattle.jiff_core.proofs.CalendarLemmas.{day_count-day, day_count-end}
-use Rattle.jiff_core.proofs.CalendarLemmas.{day_count-next_month, day_count-next_year}
-use Rattle.jiff_core.proofs.CalendarLemmas.{day_count-last_of_year}
+use Rattle.jiff_core.proofs.CalendarLemmas.{day_count-day, day_count-end, day_count-next_month}
+use Rattle.jiff_core.proofs.CalendarLemmas.{day_count-next_year, day_count-last_of_year}
 use Rattle.jiff_core.proofs.CalendarLemmas.{day_count-lt_year, day_count-lt_month}
 use Rattle.jiff_core.proofs.MarchLemmas.{day_count-early}
 use Rattle.jiff_core.proofs.SignedLemmas.{signed_arith}
-use Rattle.excel_dates.specs.CalendarDates.{month_from, date_from, date_behind}
-use Rattle.excel_dates.specs.CalendarDates.{IsNoLater}
+use Rattle.excel_dates.specs.CalendarDates.{month_from, date_from, date_behind, IsNoLater}
 use Rattle.excel_dates.proofs.SerialSteps.{by_true, by_false, is_less, not_less}
 
 -- a date of the calendar in these years, with so many days before it

@@ -1,12 +1,12 @@
 -- A later serial has no fewer milliseconds.
-use Rattle.std.proofs.Common.{◌≡◌, ℕ, ◌+◌, ◌-◌, ◌*◌, ◌/◌, ◌^◌, ◌<◌, ◌≤◌, sym, ap, ◌∙◌}
-use Rattle.std.proofs.Common.{arith, ℤ, pos, negsuc, ◌-ℤ◌, ◌≤ℤ◌}
+use Rattle.std.proofs.Common.{◌≡◌, ℕ, ◌+◌, ◌-◌, ◌*◌, ◌/◌, ◌^◌, ◌<◌, ◌≤◌, sym, ap, ◌∙◌, arith, ℤ}
+use Rattle.std.proofs.Common.{pos, negsuc, ◌-ℤ◌, ◌≤ℤ◌}
 use Rattle.std.proofs.Math.IntN.{pos-*ℤ-pos}
 use Rattle.std.proofs.Math.Nat.{mul-le-mul_left, mul-div-mul_left, add-mul-div_left, div-eq_of_lt}
 use Rattle.std.proofs.Math.Nat.{div-lt_iff_lt-mul}
 use Rattle.std.proofs.lemmas.Int.{ints}
 use Rattle.std.proofs.lemmas.Nat.{pow-add}
-use Rattle.decimals.specs.Rounding.{nearest, IsAtMost}
+use Rattle.decimals.specs.Words.{nearest, IsAtMost}
 use Rattle.decimals.proofs.Rounded.{unit_some}
 use Rattle.excel_dates.specs.Serials.{day_length, nearest_at, milliseconds_of}
 use Rattle.excel_dates.proofs.SerialSteps.{even_power, halved}

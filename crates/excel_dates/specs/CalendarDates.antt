@@ -43,7 +43,7 @@ first_day false = 1
 abbrev pub days_between : ℕ → ℕ × ℕ × ℕ → ℕ
 days_between year date = day_count (pos date.0) date.1 date.2 - day_count (pos year) 1 1
 
--- 1900-02-29
+-- a date is 1900-02-29, which the calendar from 1900 alone has
 abbrev pub is_leap_day : ℕ × ℕ × ℕ → Bool
 is_leap_day date = (date.0 == 1900) && ((date.1 == 2) && (date.2 == 29))
 

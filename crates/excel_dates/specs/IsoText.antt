@@ -2,7 +2,7 @@
 use Rattle.std.specs.Prelude.{ℕ, ◌-◌, ◌/◌, ◌%◌, ◌==◌, Bool, if◌then◌else◌, List, [], ◌∷◌, ◌++◌}
 use Rattle.std.specs.Prelude.{length, replicate, ℤ}
 use Rattle.std.specs.Fmt.{decimal, sign_text}
-use Rattle.decimals.specs.Decimals.{printed}
+use Rattle.decimals.specs.Words.{printed}
 use Rattle.cell_data.specs.declared.value.ExcelDateTimeType.{ExcelDateTimeType}
 use Rattle.excel_dates.specs.Moments.{moment_of}
 use Rattle.excel_dates.specs.declared.moment.Moment.{Moment}
@@ -12,7 +12,7 @@ use Rattle.excel_dates.specs.declared.moment.Moment.TheVariants as moment
 abbrev pub padded : ℕ → ℕ → List ℕ
 padded width n = replicate (width - length (decimal n)) 48 ++ decimal n
 
--- a date as `2024-01-01`
+-- the text of a date, as `2024-01-01`
 abbrev pub date_text : ℕ × ℕ × ℕ → List ℕ
 date_text date =
     padded 4 date.0 ++ 45 ∷ (padded 2 date.1 ++ 45 ∷ padded 2 date.2)

@@ -1,7 +1,6 @@
 -- What a serial stands for: a date with a time of day, a time of day alone, a time that has passed,
 -- or nothing that has a date.
-use Rattle.std.specs.Prelude.{ℕ, ◌^◌, ◌/◌, ◌%◌, ◌<◌, nat_lt, ◌==◌, Bool, true}
-use Rattle.std.specs.Prelude.{false, not, ◌&&◌}
+use Rattle.std.specs.Prelude.{ℕ, ◌^◌, ◌/◌, ◌%◌, ◌<◌, nat_lt, ◌==◌, Bool, true, false, not, ◌&&◌}
 use Rattle.std.specs.Prelude.{if◌then◌else◌, Option, Some, None, ℤ}
 use Rattle.cell_data.specs.declared.value.ExcelDateTimeType.{ExcelDateTimeType}
 use Rattle.cell_data.specs.declared.value.ExcelDateTimeType.TheVariants.{DateTime, TimeDelta}
@@ -30,16 +29,16 @@ moment_of days TimeDelta is_1904 =
     if nat_lt (milliseconds_of days) (2 ^ 128)
     then moment.Passed (is_below days) (milliseconds_of days) else moment.Untold
 
--- there is a moment
-abbrev pub is_told : Moment → Bool
-is_told (moment.Dated date time) = true
-is_told (moment.TimeOfDay time) = true
-is_told (moment.Passed is_below time) = true
-is_told moment.Untold = false
+-- a serial stands for a moment: a date, a time of day or a time that has passed
+abbrev pub has_moment : Moment → Bool
+has_moment (moment.Dated date time) = true
+has_moment (moment.TimeOfDay time) = true
+has_moment (moment.Passed is_below time) = true
+has_moment moment.Untold = false
 
 -- the year, month, day, hour, minute, second and millisecond of a moment that has a date
-abbrev pub parts_of : Moment → Option (ℕ × ℕ × ℕ × ℕ × ℕ × ℕ × ℕ)
-parts_of (moment.Dated date time) =
+abbrev pub moment_parts : Moment → Option (ℕ × ℕ × ℕ × ℕ × ℕ × ℕ × ℕ)
+moment_parts (moment.Dated date time) =
     Some (
       date.0,
       date.1,
@@ -49,9 +48,9 @@ parts_of (moment.Dated date time) =
       time / 1000 % 60,
       time % 1000,
     )
-parts_of (moment.TimeOfDay time) = None
-parts_of (moment.Passed is_below time) = None
-parts_of moment.Untold = None
+moment_parts (moment.TimeOfDay time) = None
+moment_parts (moment.Passed is_below time) = None
+moment_parts moment.Untold = None
 
 -- a time of day is less than a day
 abbrev pub IsOfDay : Moment → Type 0

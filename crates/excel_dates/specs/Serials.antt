@@ -3,7 +3,7 @@
 -- taken times.
 use Rattle.std.specs.Prelude.{ℕ, ◌+◌, ◌*◌, ◌^◌, ◌==◌, Bool, not, ◌&&◌, ℤ, pos, negsuc, nat_abs}
 use Rattle.std.specs.Int.{is_negative}
-use Rattle.decimals.specs.Rounding.{nearest}
+use Rattle.decimals.specs.Words.{nearest}
 
 -- the milliseconds of a day
 abbrev pub day_length : ℕ
@@ -18,6 +18,6 @@ nearest_at size (negsuc places) = nearest (places + 1) size
 unfoldable pub milliseconds_of : ℤ × ℤ → ℕ
 milliseconds_of days = nearest_at (nat_abs days.0 * day_length) days.1
 
--- at least a millisecond is missing to 0
+-- so many days are below 0, by a millisecond at least
 abbrev pub is_below : ℤ × ℤ → Bool
 is_below days = is_negative days.0 && not (milliseconds_of days == 0)

@@ -1,9 +1,9 @@
 //! The calls on a date.
 ghost use Rattle.std.specs.Prelude.{◌≡◌, ◌++◌, string_bytes, OnOk, OnErr, IsTrue, ◌↔◌};
-ghost use Rattle.decimals.specs.Decimal.{number_of};
+ghost use Rattle.decimals.specs.Words.{number_of};
 ghost use Rattle.cell_data.specs.declared.value.ExcelDateTimeType.TheVariants.{DateTime, TimeDelta};
 ghost use Rattle.excel_dates.specs.IsoText.{iso_text};
-ghost use Rattle.excel_dates.specs.Moments.{moment_of, is_told, parts_of};
+ghost use Rattle.excel_dates.specs.Moments.{moment_of, has_moment, moment_parts};
 
 use crate::moment::{Moment, moment_of};
 use crate::text::push_moment;
@@ -36,7 +36,7 @@ pub trait ExcelDates {
     fn is_duration(&self) -> bool;
 
     /// Whether the days stand for a date, a time of day or a time that has passed.
-    fn is_told(&self) -> bool;
+    fn has_moment(&self) -> bool;
 
     /// The year, month, day, hour, minute, second and millisecond.
     fn to_ymd_hms_milli(&self) -> Option<(u16, u8, u8, u8, u8, u8, u16)>;
@@ -64,8 +64,8 @@ impl ExcelDates for ExcelDateTime {
     /// Whether the days stand for a date, a time of day or a time that has passed. Nothing is told
     /// of days below 0 that haven't passed, past the year 9999, or too many for 128 bits of
     /// milliseconds.
-    fn is_told(&self) -> bool
-        ensures { result ≡ is_told
+    fn has_moment(&self) -> bool
+        ensures { result ≡ has_moment
             (moment_of (number_of self.now.value) self.now.kind self.now.is_1904) }
     {
         !matches!(moment_of(self), Moment::Untold)
@@ -76,7 +76,7 @@ impl ExcelDates for ExcelDateTime {
     /// There are none of days that have passed, below 0, past the year 9999, and of day 0 of the
     /// calendar from 1900, which is a time of day alone. It takes no memory.
     fn to_ymd_hms_milli(&self) -> Option<(u16, u8, u8, u8, u8, u8, u16)>
-        ensures { result ≡ parts_of
+        ensures { result ≡ moment_parts
             (moment_of (number_of self.now.value) self.now.kind self.now.is_1904) }
     {
         let Moment::Dated((year, month, day), time) = moment_of(self) else {

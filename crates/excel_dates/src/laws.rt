@@ -1,6 +1,6 @@
 //! What the dates of days say.
 ghost use Rattle.std.specs.Prelude.{◌≡◌, ◌+◌, ◌≤◌, ◌≤ℤ◌, ℕ, ℤ, pos, Bool, true, false};
-ghost use Rattle.decimals.specs.Rounding.{IsAtMost};
+ghost use Rattle.decimals.specs.Words.{IsAtMost};
 ghost use Rattle.excel_dates.specs.Serials.{milliseconds_of};
 ghost use Rattle.excel_dates.specs.CalendarDates.{date_of_day, day_of_date, first_day, last_day};
 ghost use Rattle.excel_dates.specs.CalendarDates.{IsDateOf, IsNoLater};

@@ -1,7 +1,6 @@
 //! How many milliseconds a serial is.
 ghost use Rattle.std.specs.Prelude.{◌≡◌, ◌+◌, ◌-◌, ◌*◌, ◌/◌, ◌^◌, ◌<◌, ◌≤◌, SomeIff};
-ghost use Rattle.decimals.specs.Decimal.{number_of};
-ghost use Rattle.decimals.specs.Rounding.{nearest};
+ghost use Rattle.decimals.specs.Words.{number_of, nearest};
 ghost use Rattle.excel_dates.specs.Serials.{day_length, milliseconds_of};
 
 use cell_data::Decimal;

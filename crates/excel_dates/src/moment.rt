@@ -1,6 +1,6 @@
 //! What a serial stands for.
 ghost use Rattle.std.specs.Prelude.{◌≡◌};
-ghost use Rattle.decimals.specs.Decimal.{number_of};
+ghost use Rattle.decimals.specs.Words.{number_of};
 ghost use Rattle.excel_dates.specs.Moments.{moment_at, moment_of, IsOfDay};
 ghost use Rattle.excel_dates.specs.Serials.{milliseconds_of, is_below};
 

@@ -1,10 +1,10 @@
 //! The pieces of a date's text. A refusal may leave a front of what is appended behind.
 ghost use Rattle.std.specs.Prelude.{◌≡◌, ◌++◌, string_bytes, replicate, OnOk, OnErr};
-ghost use Rattle.decimals.specs.Decimal.{number_of};
-ghost use Rattle.escaped_text.specs.Escaped.{Extends};
+ghost use Rattle.decimals.specs.Words.{number_of};
+ghost use Rattle.escaped_text.specs.Escaped.{AddsBehind};
 ghost use Rattle.excel_dates.specs.IsoText.{padded, date_text, fraction_text, part_text};
-ghost use Rattle.excel_dates.specs.IsoText.{minutes_text};
-ghost use Rattle.excel_dates.specs.IsoText.{clock_text, passed_text, time_text, moment_text};
+ghost use Rattle.excel_dates.specs.IsoText.{minutes_text, clock_text, passed_text, time_text};
+ghost use Rattle.excel_dates.specs.IsoText.{moment_text};
 
 use crate::moment::Moment;
 use cell_data::Decimal;
@@ -14,7 +14,7 @@ use std::alloc::AllocError;
 /// Appends so many zeros.
 pub fn push_zeros(out: &mut String, count: usize) -> Result<(), AllocError>
     ensures ok { OnOk result (string_bytes out.new ≡ string_bytes out.old ++ replicate count 48) }
-    ensures err { OnErr result (Extends (string_bytes out.old) (string_bytes out.new)) }
+    ensures err { OnErr result (AddsBehind (string_bytes out.old) (string_bytes out.new)) }
 {
     for _ in 0..count {
         out.push_str("0")?;
@@ -26,7 +26,7 @@ pub fn push_zeros(out: &mut String, count: usize) -> Result<(), AllocError>
 pub fn push_padded(out: &mut String, number: u32, width: usize) -> Result<(), AllocError>
     ensures ok { OnOk result
         (string_bytes out.new ≡ string_bytes out.old ++ padded width number) }
-    ensures err { OnErr result (Extends (string_bytes out.old) (string_bytes out.new)) }
+    ensures err { OnErr result (AddsBehind (string_bytes out.old) (string_bytes out.new)) }
 {
     let mut buffer = Buffer::new();
     let digits = buffer.format(number);
@@ -36,7 +36,7 @@ pub fn push_padded(out: &mut String, number: u32, width: usize) -> Result<(), Al
 
 fn push_date(out: &mut String, date: (u16, u8, u8)) -> Result<(), AllocError>
     ensures ok { OnOk result (string_bytes out.new ≡ string_bytes out.old ++ date_text date) }
-    ensures err { OnErr result (Extends (string_bytes out.old) (string_bytes out.new)) }
+    ensures err { OnErr result (AddsBehind (string_bytes out.old) (string_bytes out.new)) }
 {
     let (year, month, day) = date;
     push_padded(out, u32::from(year), 4)?;
@@ -49,7 +49,7 @@ fn push_date(out: &mut String, date: (u16, u8, u8)) -> Result<(), AllocError>
 fn push_fraction(out: &mut String, milliseconds: u32) -> Result<(), AllocError>
     ensures ok { OnOk result
         (string_bytes out.new ≡ string_bytes out.old ++ fraction_text milliseconds) }
-    ensures err { OnErr result (Extends (string_bytes out.old) (string_bytes out.new)) }
+    ensures err { OnErr result (AddsBehind (string_bytes out.old) (string_bytes out.new)) }
 {
     if milliseconds == 0 {
         return Ok(());
@@ -61,7 +61,7 @@ fn push_fraction(out: &mut String, milliseconds: u32) -> Result<(), AllocError>
 /// Appends a colon and two digits.
 fn push_part(out: &mut String, number: u32) -> Result<(), AllocError>
     ensures ok { OnOk result (string_bytes out.new ≡ string_bytes out.old ++ part_text number) }
-    ensures err { OnErr result (Extends (string_bytes out.old) (string_bytes out.new)) }
+    ensures err { OnErr result (AddsBehind (string_bytes out.old) (string_bytes out.new)) }
 {
     out.push_str(":")?;
     push_padded(out, number, 2)
@@ -70,7 +70,7 @@ fn push_part(out: &mut String, number: u32) -> Result<(), AllocError>
 /// Appends what stands behind the hours of a time.
 fn push_minutes(out: &mut String, time: u128) -> Result<(), AllocError>
     ensures ok { OnOk result (string_bytes out.new ≡ string_bytes out.old ++ minutes_text time) }
-    ensures err { OnErr result (Extends (string_bytes out.old) (string_bytes out.new)) }
+    ensures err { OnErr result (AddsBehind (string_bytes out.old) (string_bytes out.new)) }
 {
     push_part(out, (time / 60_000 % 60) as u32)?;
     push_part(out, (time / 1_000 % 60) as u32)?;
@@ -79,7 +79,7 @@ fn push_minutes(out: &mut String, time: u128) -> Result<(), AllocError>
 
 fn push_clock(out: &mut String, time: u32) -> Result<(), AllocError>
     ensures ok { OnOk result (string_bytes out.new ≡ string_bytes out.old ++ clock_text time) }
-    ensures err { OnErr result (Extends (string_bytes out.old) (string_bytes out.new)) }
+    ensures err { OnErr result (AddsBehind (string_bytes out.old) (string_bytes out.new)) }
 {
     push_padded(out, time / 3_600_000, 2)?;
     push_minutes(out, u128::from(time))
@@ -87,7 +87,7 @@ fn push_clock(out: &mut String, time: u32) -> Result<(), AllocError>
 
 fn push_time(out: &mut String, time: u32) -> Result<(), AllocError>
     ensures ok { OnOk result (string_bytes out.new ≡ string_bytes out.old ++ time_text time) }
-    ensures err { OnErr result (Extends (string_bytes out.old) (string_bytes out.new)) }
+    ensures err { OnErr result (AddsBehind (string_bytes out.old) (string_bytes out.new)) }
 {
     if time == 0 {
         return Ok(());
@@ -99,7 +99,7 @@ fn push_time(out: &mut String, time: u32) -> Result<(), AllocError>
 fn push_passed(out: &mut String, is_below: bool, time: u128) -> Result<(), AllocError>
     ensures ok { OnOk result
         (string_bytes out.new ≡ string_bytes out.old ++ passed_text is_below time) }
-    ensures err { OnErr result (Extends (string_bytes out.old) (string_bytes out.new)) }
+    ensures err { OnErr result (AddsBehind (string_bytes out.old) (string_bytes out.new)) }
 {
     if is_below {
         out.push_str("-")?;
@@ -113,7 +113,7 @@ fn push_passed(out: &mut String, is_below: bool, time: u128) -> Result<(), Alloc
 pub fn push_moment(out: &mut String, days: &Decimal, moment: Moment) -> Result<(), AllocError>
     ensures ok { OnOk result (string_bytes out.new
         ≡ string_bytes out.old ++ moment_text (number_of days.now) moment) }
-    ensures err { OnErr result (Extends (string_bytes out.old) (string_bytes out.new)) }
+    ensures err { OnErr result (AddsBehind (string_bytes out.old) (string_bytes out.new)) }
 {
     match moment {
         Moment::Dated(date, time) => {

@@ -1,19 +1,15 @@
 -- The part of a name in a workbook file that is written of parts.
-use Rattle.std.proofs.Common.{◌≡◌, ℕ, ◌+◌, ◌<◌, ◌≤◌, List, [], ◌∷◌, ◌++◌, length, get_or, map}
-use Rattle.std.proofs.Common.{suc, subst, Ok, Some, None, refl, sym, ap, ◌∙◌, arith}
+use Rattle.std.proofs.Common.{◌≡◌, ℕ, ◌+◌, ◌<◌, ◌≤◌, List, [], ◌∷◌, ◌++◌, length, get_or, map, suc}
+use Rattle.std.proofs.Common.{subst, Ok, Some, None, refl, sym, ap, ◌∙◌, arith}
 use Rattle.std.specs.Prelude.{slice_index_or}
 use Rattle.std.specs.List.{All, flat_map}
 use Rattle.std.specs.Option.{option_map_or}
 use Rattle.std.proofs.lemmas.List.{get_or-map, length-map}
-use Rattle.part_events.specs.Event.{Event}
-use Rattle.part_events.specs.Package.{Part}
-use Rattle.markup.specs.Spelled.{spelled, spelled_event, spelled_piece}
-use Rattle.zip_writer.specs.Written.{File, written, entry, entries, IsWritable}
-use Rattle.zip_archive.specs.Entries.{Entry, archive_of}
-use Rattle.zip_archive.specs.Kept.{ArchiveFile}
-use Rattle.zip_archive.specs.Members.{member_names, no_entry}
-use Rattle.zip_archive.specs.Names.{Member, members, last_entry}
-use Rattle.zip_archive.specs.Opened.{opened}
+use Rattle.part_events.specs.Words.{Event, Part}
+use Rattle.markup.specs.Words.{spelled, spelled_event, spelled_piece}
+use Rattle.zip_writer.specs.Written.{File, written, entry, entries, IsWritableArchive}
+use Rattle.zip_archive.specs.Words.{Entry, archive_of, ArchiveFile, member_names, no_entry, Member}
+use Rattle.zip_archive.specs.Words.{part_entries, last_entry, opened}
 use Rattle.zip_reads_back.specs.ReadArchive.{archive_of_files, entries_of, AreBytes, ArePartNames}
 use Rattle.zip_reads_back.specs.ReadArchive.{no_file}
 use Rattle.zip_reads_back.proofs.PartsRead.{members_of, members_there, IsFirst, IsLast, last_there}
@@ -21,7 +17,7 @@ use Rattle.workbook_file.specs.FileParts.{entry_events, file_parts, held_by, lon
 use Rattle.workbook_file.specs.FileParts.{part_named}
 use Rattle.text_package.specs.PartText.{part_markup}
 use Rattle.package_file.specs.PackageFile.{part_bytes, part_file, part_files, package_file}
-use Rattle.xlsx_out_as_markup.specs.WrittenPieces.{pieces_of, AreCutBack}
+use Rattle.xlsx_writer_as_markup.specs.WrittenPieces.{pieces_of, AreCutBack}
 
 -- ---- bytes
 
@@ -48,7 +44,7 @@ names_there files are =
 
 -- the last entry of the name of a file is that of the file
 last_of : (files : List File) (i : ℕ) → ArePartNames files → i < length files
-    → last_entry None (members (entries_of 0 files)) (get_or files i no_file).name
+    → last_entry None (part_entries (entries_of 0 files)) (get_or files i no_file).name
     ≡ Some (get_or (entries_of 0 files) i no_entry)
 last_of files i are below =
     let first : IsFirst files i = λ k less same. are.apart k i no_file less below same in
@@ -94,7 +90,7 @@ module _ (parts : List Part) (holds : HoldsFiles (part_files parts)) (cut : AreC
       let within : i < length files = omega (arith, length-map parts part_file) in
       let file : get_or files i no_file ≡ part_file part =
       get_or-map part_file parts i part no_file below ∙ ap part_file own in
-      let last = ap (λ (f : File). last_entry None (members (entries_of 0 files)) f.name)
+      let last = ap (λ (f : File). last_entry None (part_entries (entries_of 0 files)) f.name)
       (sym file) ∙ last_of files i holds.names within in
       let bytes = holds.held i within ∙ ap (λ (f : File). Ok f.bytes) file in
       let events : part_markup (part_bytes part.events) ≡ part.events =

@@ -1,32 +1,27 @@
 -- The workbook file that is written of a package is that package.
-use Rattle.std.proofs.Common.{◌≡◌, ℕ, ◌+◌, ◌<◌, ◌≤◌, List, [], ◌∷◌, ◌++◌, length, get_or}
-use Rattle.std.proofs.Common.{true, Ok, Some, refl, ap, ◌∙◌, arith}
+use Rattle.std.proofs.Common.{◌≡◌, ℕ, ◌+◌, ◌<◌, ◌≤◌, List, [], ◌∷◌, ◌++◌, length, get_or, true, Ok}
+use Rattle.std.proofs.Common.{Some, refl, ap, ◌∙◌, arith, zero, suc}
 use Rattle.std.specs.Prelude.{nat_le, slice_index_or, option_map}
 use Rattle.std.specs.Result.{result_ok}
 use Rattle.std.proofs.lemmas.Bool.{cond-true, le-leb}
 use Rattle.std.proofs.lemmas.List.{get_or-map, length-map}
-use Rattle.std.proofs.Common.{zero, suc}
 use Rattle.zip_writer.specs.Sizes.{taken}
-use Rattle.part_events.specs.Package.{Part}
-use Rattle.zip_writer.specs.Written.{File, written, entry, IsPlain, IsWritable}
+use Rattle.part_events.specs.Words.{Part}
+use Rattle.zip_writer.specs.Written.{File, written, entry, IsPlain, IsWritableArchive}
 use Rattle.zip_writer.proofs.Lengths.{length-written}
-use Rattle.zip_archive.specs.Entries.{archive_of}
-use Rattle.zip_archive.specs.Kept.{ArchiveFile}
-use Rattle.zip_archive.specs.Members.{no_entry}
-use Rattle.zip_archive.specs.Opened.{opened}
-use Rattle.zip_reads_back.specs.ReadArchive.{archive_of_files, entries_of, AreBytes}
-use Rattle.zip_reads_back.specs.ReadArchive.{no_file}
+use Rattle.zip_archive.specs.Words.{archive_of, ArchiveFile, no_entry, opened}
+use Rattle.zip_reads_back.specs.ReadArchive.{archive_of_files, entries_of, AreBytes, no_file}
 use Rattle.workbook_file.specs.FileParts.{file_parts, longest_part}
-use Rattle.input_package.specs.Reading.{package_in, begins_as_file}
+use Rattle.input_package.specs.Reading.{package_of_input, begins_as_file}
 use Rattle.package_file.specs.PackageFile.{part_file, part_files, package_file}
 use Rattle.file_reads_back.specs.FilePackages.{IsFilePackage}
 use Rattle.file_reads_back.proofs.EntriesNamed.{HoldsFiles, parts_there}
 
 -- what is read of archives that are written
 pub record ArchivesRead : Type 0 where
-  pub entries : (files : List File) → IsWritable files → IsPlain files → AreBytes files →
+  pub entries : (files : List File) → IsWritableArchive files → IsPlain files → AreBytes files →
       archive_of (written files) ≡ Ok (archive_of_files files)
-  pub bytes : (files : List File) (i limit : ℕ) → IsWritable files → AreBytes files →
+  pub bytes : (files : List File) (i limit : ℕ) → IsWritableArchive files → AreBytes files →
       i < length files → length (slice_index_or files i no_file).bytes ≤ limit →
       opened limit (archive_of_files files) (written files)
       (slice_index_or (entries_of 0 files) i no_entry)
@@ -43,7 +38,8 @@ some_begins [] some = absurd (omega arith)
 some_begins (part ∷ parts) some = begins (part_file part) (part_files parts)
 
 -- the files of a package can be written
-pub can_be_written : (parts : List Part) → IsFilePackage parts → IsWritable (part_files parts)
+pub can_be_written : (parts : List Part) → IsFilePackage parts
+    → IsWritableArchive (part_files parts)
 can_be_written parts is = record {
   names = λ k d below.
       let within : k < length parts = omega (arith, length-map parts part_file) in
@@ -62,8 +58,8 @@ no_longer (file ∷ files) zero below = omega arith
 no_longer (file ∷ files) (suc i) below = omega (arith, no_longer files i (omega arith))
 
 pub package_read : ArchivesRead → (parts : List Part) → IsFilePackage parts
-    → package_in (package_file parts) ≡ Some parts
-unfolding package_in
+    → package_of_input (package_file parts) ≡ Some parts
+unfolding package_of_input
 package_read laws parts is =
     let files = part_files parts in
     let writable = can_be_written parts is in

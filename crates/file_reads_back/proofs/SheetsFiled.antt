@@ -1,8 +1,8 @@
 -- The parts of a sheet that is written can be those of a workbook file.
 use Rattle.std.proofs.Common.{◌≡◌, ℕ, zero, suc, ◌+◌, ◌-◌, ◌<◌, ◌≤◌, ◌^◌, List, [], ◌∷◌, ◌++◌}
 use Rattle.std.proofs.Common.{length, get_or, map, take, drop, Bool, true, false, refl, sym, ap}
-use Rattle.std.proofs.Common.{◌∙◌}
-use Rattle.std.proofs.Common.{◌/◌, ◌%◌, arith, subst, append_assoc, length-append, append-nil, All}
+use Rattle.std.proofs.Common.{◌∙◌, ◌/◌, ◌%◌, arith, subst, append_assoc, length-append, append-nil}
+use Rattle.std.proofs.Common.{All}
 use Rattle.std.specs.Prelude.{◌==◌, ◌&&◌, not, nat_lt, nat_le, codes}
 use Rattle.std.specs.List.{list_all}
 use Rattle.std.specs.Str.{bytes_eq, is_utf8, IsUtf8}
@@ -10,34 +10,31 @@ use Rattle.std.proofs.lemmas.Bool.{and_parts, and_left, and_right}
 use Rattle.std.proofs.lemmas.Slice.Eq.{bytes_eq-Decides}
 use Rattle.std.proofs.lemmas.Str.{is_utf8-from_IsUtf8}
 use Rattle.std.proofs.Math.Seq.{drop-append_seam}
-use Rattle.part_events.specs.Package.{Part, folded}
-use Rattle.inflate.specs.Bits.{number_of}
-use Rattle.zip_writer.specs.Written.{File, entries, directory, header, entry, ending, written}
-use Rattle.zip_writer.specs.Written.{four, two, said}
+use Rattle.part_events.specs.Words.{Part, folded}
+use Rattle.inflate.specs.Bits.{number_spelled}
+use Rattle.zip_writer.specs.Written.{File, entries, directory, header, entry, ending, written, four}
+use Rattle.zip_writer.specs.Written.{two, said}
 use Rattle.std.proofs.lemmas.List.{take-append-le}
 use lib.Utf8.{scalar, scalars, encode, encodes}
 use Rattle.std.proofs.lemmas.Bool.{cond_both, ltb-true}
 use Rattle.std.proofs.lemmas.Bool.Decides.{nat_tests}
 use Rattle.std.specs.Prelude.{Option, Some, None}
-use Rattle.part_events.specs.Event.{Event}
-use Rattle.markup.specs.Spelled.{spelled}
+use Rattle.part_events.specs.Words.{Event}
+use Rattle.markup.specs.Words.{spelled}
 use Rattle.text_package.specs.PartText.{part_markup, text_in, events_in}
-use Rattle.text_package.specs.PartSpelling.{begin_with_tag}
+use Rattle.text_package.specs.PartSpelling.{begin_with_tag, IsPartText}
 use Rattle.text_package.proofs.Texts.{text_of}
-use Rattle.xlsx_out_as_markup.specs.WrittenPieces.{pieces_of, AreCutBack}
-use Rattle.zip_reads_back.specs.ReadArchive.{AreBytes}
+use Rattle.xlsx_writer_as_markup.specs.WrittenPieces.{pieces_of, AreCutBack}
+use Rattle.zip_reads_back.specs.ReadArchive.{AreBytes, ArePartNames}
 use Rattle.file_reads_back.specs.FilePackages.{IsFilePackage}
 use Rattle.file_reads_back.proofs.EntriesNamed.{spelled_as_pieces}
-use Rattle.zip_archive.specs.Fields.{field}
-use Rattle.zip_archive.specs.Names.{is_foreign}
-use Rattle.zip_reads_back.specs.ReadArchive.{ArePartNames}
+use Rattle.zip_archive.specs.Words.{field_number, is_foreign}
 use Rattle.xlsx_commands.proofs.PlainSheets.{sheet_parts_plain}
-use Rattle.text_package.specs.PartSpelling.{IsPartText}
 use Rattle.package_file.specs.PackageFile.{part_file, part_files, package_file, longest_file}
-use Rattle.xlsx_out.specs.Groups.{Placed}
-use Rattle.xlsx_out.specs.WrittenSheet.{PlacedValues, written_parts}
-use Rattle.xlsx_out.specs.declared.form.WrittenForm.TheVariants.{WorkbookFile}
-use Rattle.xlsx_out_as_markup.proofs.Texts.{is_word, word_text}
+use Rattle.xlsx_writer.specs.Words.{PlacedFormulas, PlacedValues}
+use Rattle.xlsx_writer.specs.WrittenSheet.{written_parts}
+use Rattle.xlsx_writer.specs.declared.form.WrittenForm.TheVariants.{WorkbookFile}
+use Rattle.xlsx_writer_as_markup.proofs.Texts.{is_word, word_text}
 
 -- ---- names
 
@@ -127,7 +124,7 @@ sheet_names =
     codes "[Content_Types].xml" ∷ codes "_rels/.rels" ∷ codes "xl/_rels/workbook.xml.rels"
     ∷ codes "xl/workbook.xml" ∷ codes "xl/styles.xml" ∷ codes "xl/worksheets/sheet1.xml" ∷ []
 
-pub sheet_parts_named : (name : List ℕ) (values : PlacedValues) (formulas : Placed)
+pub sheet_parts_named : (name : List ℕ) (values : PlacedValues) (formulas : PlacedFormulas)
     → ArePartNames (part_files (written_parts WorkbookFile name values formulas))
 unfolding written_parts
 sheet_parts_named name values formulas =
@@ -231,26 +228,26 @@ is_tagged part = begin_with_tag (pieces_of part.events)
 abbrev is_short : Part → Bool
 is_short part = nat_lt (length part.name) 65536
 
-sheet_tests : (name : List ℕ) (values : PlacedValues) (formulas : Placed)
+sheet_tests : (name : List ℕ) (values : PlacedValues) (formulas : PlacedFormulas)
     → (list_all is_tagged (written_parts WorkbookFile name values formulas) ≡ true)
     × (list_all is_short (written_parts WorkbookFile name values formulas) ≡ true)
 unfolding written_parts
 sheet_tests name values formulas = (refl, refl)
 
-sheet_parts_short : (name : List ℕ) (values : PlacedValues) (formulas : Placed)
+sheet_parts_short : (name : List ℕ) (values : PlacedValues) (formulas : PlacedFormulas)
     → All (λ (part : Part). length part.name < 2 ^ 16)
     (written_parts WorkbookFile name values formulas)
 sheet_parts_short name values formulas k d below =
     ltb-true _ 65536 (each_passes is_short (written_parts WorkbookFile name values formulas)
     (sheet_tests name values formulas).1 k d below)
 
-sheet_parts_count : (name : List ℕ) (values : PlacedValues) (formulas : Placed)
+sheet_parts_count : (name : List ℕ) (values : PlacedValues) (formulas : PlacedFormulas)
     → length (written_parts WorkbookFile name values formulas) ≡ 6
 unfolding written_parts
 sheet_parts_count name values formulas = refl
 
 -- the parts of a sheet can be those of a workbook file
-pub sheet_filed : (name : List ℕ) (values : PlacedValues) (formulas : Placed)
+pub sheet_filed : (name : List ℕ) (values : PlacedValues) (formulas : PlacedFormulas)
     → AreCutBack (written_parts WorkbookFile name values formulas)
     → length (package_file (written_parts WorkbookFile name values formulas)) ≤ longest_file
     → IsFilePackage (written_parts WorkbookFile name values formulas)

@@ -4,21 +4,20 @@ use Rattle.std.specs.Prelude.{◌≤◌, ◌||◌, not, nat_le, String}
 use Rattle.std.specs.List.{list_any}
 use Rattle.std.specs.declared.alloc.Global.{Global}
 use Rattle.std.proofs.lemmas.Bool.{and_parts, or_parts, leb-true, not-true}
-use Rattle.cell_data.specs.Pairs.{value_pairs, formula_pairs}
+use Rattle.cell_data.specs.Words.{value_pairs, formula_pairs}
 use Rattle.cell_data.specs.declared.range.Range.{Range}
 use Rattle.cell_data.specs.declared.value.Data.{Data}
-use Rattle.part_events.specs.Package.{Part}
-use Rattle.input_package.specs.Reading.{package_in}
+use Rattle.part_events.specs.Words.{Part}
+use Rattle.input_package.specs.Reading.{package_of_input}
 use Rattle.package_file.specs.PackageFile.{package_file, longest_file}
 use Rattle.text_package.specs.PartSpelling.{IsPartText}
-use Rattle.written_markup.specs.WrittenText.{has_byte}
-use Rattle.xlsx_out.specs.Writable.{IsWritable, has_zero, has_zero_left}
-use Rattle.xlsx_out.specs.WrittenSheet.{written_parts}
-use Rattle.xlsx_out.specs.declared.form.WrittenForm.TheVariants.{WorkbookFile}
-use Rattle.xlsx_out_as_markup.specs.WrittenPieces.{HaveNoZero}
-use Rattle.xlsx_commands.specs.Command.{resave_file}
+use Rattle.written_markup.specs.Words.{has_byte}
+use Rattle.xlsx_writer.specs.Words.{IsWritable, has_zero, has_zero_left, written_parts}
+use Rattle.xlsx_writer.specs.declared.form.WrittenForm.TheVariants.{WorkbookFile}
+use Rattle.xlsx_writer_as_markup.specs.WrittenPieces.{HaveNoZero}
+use Rattle.xlsx_commands.specs.Words.{resave_file}
 use Rattle.xlsx_commands.specs.Outputs.{IsOutput}
-use Rattle.file_reads_back.specs.FilePackages.{IsReadBack, HasSameSheet}
+use Rattle.file_reads_back.specs.FilePackages.{FileReadsBack, HasSameSheet}
 
 -- what is written as a workbook file is read back, as it is
 abbrev pub FilesReadBack : Type 0
@@ -27,7 +26,7 @@ FilesReadBack =
     → HaveNoZero WorkbookFile values formulas → IsWritable values formulas
     → length (package_file (written_parts WorkbookFile name (value_pairs values)
     (formula_pairs formulas))) ≤ longest_file
-    → IsReadBack name (value_pairs values) (formula_pairs formulas)
+    → FileReadsBack name (value_pairs values) (formula_pairs formulas)
 
 pub resaved_read : FilesReadBack → (parts : List Part) (name output : List ℕ)
     → IsOutput (resave_file name) parts output → HasSameSheet parts name output
@@ -51,6 +50,6 @@ resaved_read law parts name output prints =
       styles = prints.styles;
       reads = prints.reads;
       own = written_parts WorkbookFile name values formulas;
-      input = ap package_in prints.saved ∙ back.input;
+      input = ap package_of_input prints.saved ∙ back.input;
       again = back.sheet;
     }

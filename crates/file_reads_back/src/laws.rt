@@ -1,29 +1,27 @@
 ghost use Rattle.std.specs.Prelude.{◌≡◌, ◌≤◌, ℕ, List, Some, String, length};
 ghost use Rattle.std.specs.declared.alloc.Global.{Global};
-ghost use Rattle.cell_data.specs.Pairs.{value_pairs, formula_pairs};
+ghost use Rattle.cell_data.specs.Words.{value_pairs, formula_pairs};
 ghost use Rattle.cell_data.specs.declared.range.Range.{Range};
 ghost use Rattle.cell_data.specs.declared.value.Data.{Data};
-ghost use Rattle.part_events.specs.Package.{Part};
-ghost use Rattle.input_package.specs.Reading.{package_in};
+ghost use Rattle.part_events.specs.Words.{Part};
+ghost use Rattle.input_package.specs.Reading.{package_of_input};
 ghost use Rattle.package_file.specs.PackageFile.{package_file, longest_file};
 ghost use Rattle.text_package.specs.PartSpelling.{IsPartText};
-ghost use Rattle.xlsx_out.specs.Writable.{IsWritable};
-ghost use Rattle.xlsx_out.specs.WrittenSheet.{written_parts};
-ghost use Rattle.xlsx_out.specs.declared.form.WrittenForm.TheVariants.{WorkbookFile};
-ghost use Rattle.xlsx_out_as_markup.specs.WrittenPieces.{HaveNoZero};
-ghost use Rattle.xlsx_commands.specs.Command.{resave_file};
-ghost use Rattle.xlsx_commands.specs.Outputs.{IsOutput};
-ghost use Rattle.file_reads_back.specs.FilePackages.{IsFilePackage, IsReadBack, HasSameSheet};
+ghost use Rattle.xlsx_writer.specs.Words.{IsWritable, written_parts};
+ghost use Rattle.xlsx_writer.specs.declared.form.WrittenForm.TheVariants.{WorkbookFile};
+ghost use Rattle.xlsx_writer_as_markup.specs.WrittenPieces.{HaveNoZero};
+ghost use Rattle.xlsx_commands.specs.Words.{resave_file, IsOutput};
+ghost use Rattle.file_reads_back.specs.FilePackages.{IsFilePackage, FileReadsBack, HasSameSheet};
 
-use xlsx_out_as_markup::written_parts_are_cut_back;
-use xlsx_reads_back::written_packages_read_back;
+use round_trip::written_packages_read_back;
+use xlsx_writer_as_markup::written_parts_are_cut_back;
 use zip_reads_back::written_archives_read_back;
 
 /// The workbook file that is written of a package, as an input, is that package, where its parts
 /// are markup and their names are names of parts.
 pub fn package_files_are_read_back()
     ensures { (parts : List Part) →
-        IsFilePackage parts → package_in (package_file parts) ≡ Some parts }
+        IsFilePackage parts → package_of_input (package_file parts) ≡ Some parts }
 {
     written_archives_read_back();
 }
@@ -37,7 +35,7 @@ pub fn written_files_are_read_back()
         IsPartText name → HaveNoZero WorkbookFile values formulas → IsWritable values formulas →
         length (package_file (written_parts WorkbookFile name (value_pairs values)
         (formula_pairs formulas))) ≤ longest_file →
-        IsReadBack name (value_pairs values) (formula_pairs formulas) }
+        FileReadsBack name (value_pairs values) (formula_pairs formulas) }
 {
     package_files_are_read_back();
     written_parts_are_cut_back();

@@ -1,7 +1,6 @@
 -- Pieces that are divided from the left.
 use Rattle.std.proofs.Common.{◌≡◌, ◌++◌, ◌+◌, ℕ, suc, Bool, true, false, cond, List, [], ◌∷◌}
-use Rattle.std.proofs.Common.{length, take}
-use Rattle.std.proofs.Common.{drop, refl, sym, ap, ◌∙◌, arith, map, append_assoc}
+use Rattle.std.proofs.Common.{length, take, drop, refl, sym, ap, ◌∙◌, arith, map, append_assoc}
 use Rattle.std.specs.Global.{Vec}
 use Rattle.std.specs.List.{onto_first, slice_split, position_or_len}
 use Rattle.std.specs.Prelude.{not}

@@ -1,7 +1,6 @@
 -- What is kept of a code, and the sections that are chosen among what is kept.
 use Rattle.std.proofs.Common.{◌≡◌, ◌<◌, ◌≤◌, ◌&&◌, ℕ, Bool, true, false, cond, List, [], ◌∷◌}
-use Rattle.std.proofs.Common.{length, map}
-use Rattle.std.proofs.Common.{refl, sym, ap, ◌∙◌, arith, rules, Option, Some, None, ℤ}
+use Rattle.std.proofs.Common.{length, map, refl, sym, ap, ◌∙◌, arith, rules, Option, Some, None, ℤ}
 use Rattle.std.specs.Prelude.{is_none, nat_le, not}
 use Rattle.std.specs.Int.{is_negative, is_positive}
 use Rattle.std.specs.Option.{option_map}
@@ -10,16 +9,16 @@ use Rattle.format_codes.specs.declared.piece.CodePiece.{CodePiece}
 use Rattle.format_codes.specs.declared.shown_format.NumberSection.{NumberSection}
 use Rattle.format_codes.specs.declared.shown_format.FormatSections.{FormatSections}
 use Rattle.format_codes.specs.Choosing.{ShownSection, are_supported, chosen, is_supported}
-use Rattle.format_codes.specs.Choosing.{number_section, number_sections, section_for}
-use Rattle.format_codes.specs.Choosing.{shown_of_kind, shown_pieces, text_section, text_section_in}
+use Rattle.format_codes.specs.Choosing.{number_section, number_sections, section_for, shown_of_kind}
+use Rattle.format_codes.specs.Choosing.{shown_pieces, text_section, text_section_in}
 use Rattle.format_codes.specs.Conditions.{condition_in, leaves_sign_out, takes}
-use Rattle.format_codes.specs.Kinds.{kind_of}
+use Rattle.format_codes.specs.Kinds.{section_kind}
 use Rattle.format_codes.specs.Sections.{shown_sections}
 use Rattle.format_codes.specs.ShownFormats.{KeptSection, KeptSections, first_section}
-use Rattle.format_codes.specs.ShownFormats.{kept_if_supported}
-use Rattle.format_codes.specs.ShownFormats.{kept_if_taken, kept_of_code, kept_of_kind, kept_section}
-use Rattle.format_codes.specs.ShownFormats.{kept_section_for, kept_sections, section_kept}
-use Rattle.format_codes.specs.ShownFormats.{sections_kept, shown_by_kept}
+use Rattle.format_codes.specs.ShownFormats.{kept_if_supported, kept_if_taken, kept_of_code}
+use Rattle.format_codes.specs.ShownFormats.{kept_of_kind, kept_section, kept_section_for}
+use Rattle.format_codes.specs.ShownFormats.{kept_sections, section_kept, sections_kept}
+use Rattle.format_codes.specs.ShownFormats.{shown_by_kept}
 
 -- nothing is kept of a code that is too long
 pub too_long : (code : List ℕ) → 1024 < length code → None ≡ kept_of_code code
@@ -70,12 +69,12 @@ taken_kept : (number : ℤ × ℤ) (else_takes else_out : Bool) (section : List 
     first_section (kept_if_taken number else_takes else_out kept) other
     ≡ cond (takes number else_takes (condition_in section)) (chosen else_out section) other
 taken_kept number else_takes else_out section kept other same =
-    let alike = condition_kept (kind_of section) section kept same in
+    let alike = condition_kept (section_kind section) section kept same in
     first_taken (takes number else_takes kept.condition) _ other
     ∙ (ap (λ c. cond (takes number else_takes c)
     (shown_by_kept (leaves_sign_out else_out c) kept) other) alike
     ∙ ap (λ s. cond (takes number else_takes (condition_in section)) s other)
-    (shown_kept (kind_of section) section kept
+    (shown_kept (section_kind section) section kept
     (leaves_sign_out else_out (condition_in section)) same))
 
 -- nothing stands behind the last section
@@ -117,7 +116,7 @@ chosen_same number (a ∷ b ∷ bs) (x ∷ []) same =
 chosen_same number (a ∷ b ∷ []) (x ∷ y ∷ []) same =
     let first = heads _ _ _ _ same in
     let second = heads _ _ _ _ (tails _ _ _ _ same) in
-    let condition = condition_kept (kind_of x) x (section_kept a) first in
+    let condition = condition_kept (section_kind x) x (section_kept a) first in
     taken_kept number (not (is_negative number.0)) false x (section_kept a) _ first
     ∙ ap (λ other. cond (takes number (not (is_negative number.0)) (condition_in x))
     (chosen false x) other)
@@ -137,7 +136,7 @@ chosen_same number (a ∷ b ∷ c ∷ cs) (x ∷ y ∷ z ∷ zs) same =
     (taken_kept number (is_negative number.0) true y (section_kept b) _ second
     ∙ ap (λ other. cond (takes number (is_negative number.0) (condition_in y))
     (chosen true y) other)
-    (shown_kept (kind_of z) z (section_kept c) false third))
+    (shown_kept (section_kind z) z (section_kept c) false third))
 
 -- the section for a number, by whether the code is supported
 number_by : (supported : Bool) (number : ℤ × ℤ) (sections : FormatSections)

@@ -1,13 +1,13 @@
 -- Sections of numbers that are kept, or one that isn't supported.
 use Rattle.std.proofs.Common.{◌≡◌, ◌<◌, ◌&&◌, ℕ, zero, suc, Bool, true, false, List, [], ◌∷◌}
-use Rattle.std.proofs.Common.{length, map}
-use Rattle.std.proofs.Common.{get_or, refl, sym, ap, ◌∙◌, arith, rules, Option, Some, None}
+use Rattle.std.proofs.Common.{length, map, get_or, refl, sym, ap, ◌∙◌, arith, rules, Option, Some}
+use Rattle.std.proofs.Common.{None}
 use Rattle.std.specs.Prelude.{is_some}
 use Rattle.std.specs.Global.{Vec}
 use Rattle.std.specs.List.{list_all}
 use Rattle.format_codes.specs.declared.kind.SectionKind.{SectionKind}
 use Rattle.format_codes.specs.declared.piece.CodePiece.{CodePiece}
-use Rattle.format_codes.specs.Kinds.{kind_of}
+use Rattle.format_codes.specs.Kinds.{section_kind}
 use Rattle.format_codes.specs.ShownFormats.{kept_of_kind, kept_section}
 
 -- nothing is kept of a section without a kind alone
@@ -25,14 +25,14 @@ either_fails false = refl
 pub one_fails : (sections : List (Vec CodePiece)) (i : ℕ) (section : Vec CodePiece) →
     i < length sections → section ≡ get_or sections i section →
     None ≡ kept_section section.items →
-    list_all (λ s. is_some (kind_of s)) (map (λ s. s.items) sections) ≡ false
+    list_all (λ s. is_some (section_kind s)) (map (λ s. s.items) sections) ≡ false
 one_fails [] i section within at none = absurd (omega (arith, within))
 one_fails (first ∷ others) zero section within at none =
-    let fails : is_some (kind_of first.items) ≡ false =
-    ap (λ s. is_some (kind_of s.items)) (sym at)
-    ∙ no_kind (kind_of section.items) section.items none in
-    ap (λ b. b && list_all (λ s. is_some (kind_of s)) (map (λ s. s.items) others)) fails
+    let fails : is_some (section_kind first.items) ≡ false =
+    ap (λ s. is_some (section_kind s.items)) (sym at)
+    ∙ no_kind (section_kind section.items) section.items none in
+    ap (λ b. b && list_all (λ s. is_some (section_kind s)) (map (λ s. s.items) others)) fails
 one_fails (first ∷ others) (suc i) section within at none =
-    ap (λ b. is_some (kind_of first.items) && b)
+    ap (λ b. is_some (section_kind first.items) && b)
     (one_fails others i section (omega (arith, within)) at none)
-    ∙ either_fails (is_some (kind_of first.items))
+    ∙ either_fails (is_some (section_kind first.items))

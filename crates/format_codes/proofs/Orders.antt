@@ -1,7 +1,6 @@
 -- How numbers stand to each other, by their signs and their sizes.
 use Rattle.std.proofs.Common.{◌≡◌, ◌<◌, ◌*◌, ◌^◌, Bool, true, false, rules, ℕ, suc, arith, sym, ◌∙◌}
-use Rattle.std.proofs.Common.{ap}
-use Rattle.std.proofs.Common.{ℤ, pos, negsuc, ◌*ℤ◌, ◌-ℤ◌, nat_abs}
+use Rattle.std.proofs.Common.{ap, ℤ, pos, negsuc, ◌*ℤ◌, ◌-ℤ◌, nat_abs}
 use Rattle.std.proofs.Math.Nat.{one-le-pow}
 use Rattle.std.specs.Int.{is_negative}
 use Rattle.std.specs.Ordering.{nat_cmp, int_cmp, ordering_reverse}

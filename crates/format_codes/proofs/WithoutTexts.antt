@@ -1,13 +1,12 @@
 -- Codes without a section for texts.
 use Rattle.std.proofs.Common.{◌≡◌, ◌<◌, ◌||◌, ◌==◌, ℕ, Bool, true, false, cond, List, [], ◌∷◌}
-use Rattle.std.proofs.Common.{length}
-use Rattle.std.proofs.Common.{refl, ap, ◌∙◌, arith, rules, Option, Some, None}
+use Rattle.std.proofs.Common.{length, refl, ap, ◌∙◌, arith, rules, Option, Some, None}
 use Rattle.std.specs.List.{last_or, onto_first, slice_split}
 use Rattle.format_codes.specs.declared.piece.CodePiece.{CodePiece}
 use Rattle.format_codes.specs.Pieces.{has, is_divider, is_text_place}
 use Rattle.format_codes.specs.Choosing.{is_supported, text_section, text_section_in}
 use Rattle.format_codes.specs.Choosing.{text_section_of}
-use Rattle.format_codes.specs.Sections.{pieces, shown_sections}
+use Rattle.format_codes.specs.Sections.{code_pieces, shown_sections}
 use Rattle.format_codes.specs.Laws.{TextsWantASection}
 
 -- each section is without `@`
@@ -79,4 +78,4 @@ no_section [] few none =
     either_none (is_supported []) (text_section (shown_sections [])) refl
 no_section (b ∷ bs) few none =
     either_none (is_supported (b ∷ bs)) (text_section (shown_sections (b ∷ bs)))
-    (few_sections (b ∷ bs) (pieces (b ∷ bs)) few none)
+    (few_sections (b ∷ bs) (code_pieces (b ∷ bs)) few none)

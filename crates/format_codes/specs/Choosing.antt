@@ -7,10 +7,10 @@ use Rattle.std.specs.List.{list_all, last_or}
 use Rattle.format_codes.specs.declared.kind.SectionKind.{SectionKind}
 use Rattle.format_codes.specs.declared.piece.CodePiece.{CodePiece}
 use Rattle.format_codes.specs.Pieces.{has, is_condition, is_general, is_text_place, is_time}
-use Rattle.format_codes.specs.Pieces.{is_unknown}
+use Rattle.format_codes.specs.Pieces.{is_unsupported_piece}
 use Rattle.format_codes.specs.Sections.{shown_sections}
 use Rattle.format_codes.specs.TimedPieces.{timed_pieces}
-use Rattle.format_codes.specs.Kinds.{is_digit_or_exponent, kind_of}
+use Rattle.format_codes.specs.Kinds.{is_digit_or_exponent, section_kind}
 use Rattle.format_codes.specs.Conditions.{condition_in, leaves_sign_out, takes}
 
 -- the last of so many sections is that of texts: it is the fourth one, or has `@`
@@ -22,24 +22,25 @@ abbrev pub text_section_of : ℕ → Option (List CodePiece) → Option (List Co
 text_section_of count None = None
 text_section_of count (Some section) = if is_for_texts count section then Some section else None
 
--- the section of texts
+-- the section of a format that shows texts
 abbrev pub text_section : List (List CodePiece) → Option (List CodePiece)
 text_section all = text_section_of (length all) (last_or None all)
 
--- the sections of numbers
+-- the sections of a format that show numbers
 abbrev pub number_sections : List (List CodePiece) → List (List CodePiece)
 number_sections all = if is_some (text_section all) then take (length all - 1) all else all
 
 -- what no section of texts has: a place of a digit, a power, a part of a date, a condition, or what
 -- isn't supported
 abbrev pub is_no_text : CodePiece → Bool
-is_no_text p = is_digit_or_exponent p || (is_time p || (is_condition p || is_unknown p))
+is_no_text p = is_digit_or_exponent p || (is_time p || (is_condition p || is_unsupported_piece p))
 
 -- the place of a text, or the word General
 abbrev pub shows_text : CodePiece → Bool
 shows_text p = is_text_place p || is_general p
 
--- a section of texts has nothing else, and shows a text four times at most
+-- a section is sound for texts: it has nothing that no section of texts has, and shows a text four
+-- times at most
 abbrev pub is_sound_for_texts : List CodePiece → Bool
 is_sound_for_texts section =
     not (has is_no_text section) && nat_lt (count_by shows_text section) 5
@@ -53,7 +54,7 @@ is_text_sound (Some section) = is_sound_for_texts section
 abbrev pub are_supported : List (List CodePiece) → Bool
 are_supported all =
     nat_lt (length all) 5 && (is_text_sound (text_section all)
-    && list_all (λ section. is_some (kind_of section)) (number_sections all))
+    && list_all (λ section. is_some (section_kind section)) (number_sections all))
 
 -- a code is supported: its sections are, and it has 1,024 bytes at most
 unfoldable pub is_supported : List ℕ → Bool
@@ -75,10 +76,10 @@ shown_of_kind None section unsigned = None
 shown_of_kind (Some found) section unsigned =
     Some (record { kind = found; pieces = shown_pieces section; unsigned = unsigned })
 
--- a section of a place
+-- a section as it is chosen to show a number, if it is supported
 abbrev pub chosen : Bool → List CodePiece → Option ShownSection
 chosen else_out section =
-    shown_of_kind (kind_of section) section (leaves_sign_out else_out (condition_in section))
+    shown_of_kind (section_kind section) section (leaves_sign_out else_out (condition_in section))
 
 -- the section that shows a number: of one all numbers; of two those from 0 on and the others; of
 -- three those above 0, those below 0 and the others
@@ -92,7 +93,7 @@ section_for number (a ∷ b ∷ []) =
 section_for number (a ∷ b ∷ c ∷ others) =
     if takes number (is_positive number.0) (condition_in a) then chosen false a
     else (if takes number (is_negative number.0) (condition_in b) then chosen true b
-    else shown_of_kind (kind_of c) c false)
+    else shown_of_kind (section_kind c) c false)
 
 -- the section of a code that shows a number, if the code is supported
 unfoldable pub number_section : List ℕ → ℤ × ℤ → Option ShownSection

@@ -1,7 +1,7 @@
 -- The conditions of sections, and which numbers meet them. A number is a pair: a whole number, and
 -- the power of ten that it is taken times.
-use Rattle.std.specs.Prelude.{ℕ, ◌^◌, not, Bool, true, false, List, [], ◌∷◌, Option, Some, None}
-use Rattle.std.specs.Prelude.{ℤ, pos, negsuc, ◌-ℤ◌, ◌*ℤ◌}
+use Rattle.std.specs.Prelude.{ℕ, ◌^◌, not, Bool, true, false, List, [], ◌∷◌, Option, Some, None, ℤ}
+use Rattle.std.specs.Prelude.{pos, negsuc, ◌-ℤ◌, ◌*ℤ◌}
 use Rattle.std.specs.Int.{is_negative, is_positive}
 use Rattle.std.specs.declared.cmp.Ordering.{Ordering}
 use Rattle.std.specs.Ordering.{int_cmp, is_eq, is_ge, is_gt, is_le, is_lt, is_ne, ordering_reverse}
@@ -43,24 +43,25 @@ signed_cmp false true by_size = Greater
 signed_cmp false false by_size = by_size
 
 -- a comparison holds of two numbers, by how the first stands to the second
-abbrev pub holds_by : Comparison → Ordering → Bool
-holds_by compares.Below order = is_lt order
-holds_by compares.UpTo order = is_le order
-holds_by compares.Above order = is_gt order
-holds_by compares.From order = is_ge order
-holds_by compares.Equal order = is_eq order
-holds_by compares.Unequal order = is_ne order
+abbrev pub condition_holds : Comparison → Ordering → Bool
+condition_holds compares.Below order = is_lt order
+condition_holds compares.UpTo order = is_le order
+condition_holds compares.Above order = is_gt order
+condition_holds compares.From order = is_ge order
+condition_holds compares.Equal order = is_eq order
+condition_holds compares.Unequal order = is_ne order
 
--- a number meets a condition
-abbrev pub meets : ℤ × ℤ → Condition → Bool
-meets number condition = holds_by condition.comparison (number_cmp number condition.number)
+-- a number meets the condition of a section: its comparison with the condition's number holds
+abbrev pub meets_condition : ℤ × ℤ → Condition → Bool
+meets_condition number condition = condition_holds condition.comparison
+    (number_cmp number condition.number)
 
 -- a section takes a number: by its condition, or else as its place says
 abbrev pub takes : ℤ × ℤ → Bool → Option Condition → Bool
 takes number else_takes None = else_takes
-takes number else_takes (Some condition) = meets number condition
+takes number else_takes (Some condition) = meets_condition number condition
 
--- a comparison with such a number holds of numbers below 0 alone
+-- a comparison with a number holds of numbers below 0 alone
 abbrev pub holds_below_0 : Comparison → ℤ → Bool
 holds_below_0 compares.Below n = not (is_positive n)
 holds_below_0 compares.UpTo n = is_negative n

@@ -1,13 +1,13 @@
 -- What the groups in brackets of a number format code are: a time that has passed, a currency and a
 -- language, a condition, a color.
-use Rattle.std.specs.Prelude.{ℕ, ◌+◌, ◌-◌, ◌==◌, ◌&&◌, ◌||◌, nat_lt, Bool}
-use Rattle.std.specs.Prelude.{if◌then◌else◌, List, [], ◌∷◌, ◌++◌, length, take, drop, codes, map}
-use Rattle.std.specs.Prelude.{slice_index, Option, Some, None, ℤ}
+use Rattle.std.specs.Prelude.{ℕ, ◌+◌, ◌-◌, ◌==◌, ◌&&◌, ◌||◌, nat_lt, Bool, if◌then◌else◌, List, []}
+use Rattle.std.specs.Prelude.{◌∷◌, ◌++◌, length, take, drop, codes, map, slice_index, Option, Some}
+use Rattle.std.specs.Prelude.{None, ℤ}
 use Rattle.std.specs.Char.{is_ascii_digit, to_ascii_lowercase}
 use Rattle.std.specs.Option.{option_map}
 use Rattle.std.specs.List.{list_all, list_any, before_first, after_first}
 use Rattle.std.specs.Str.{bytes_eq, chars, str_eq_ignore_ascii_case, trim}
-use Rattle.decimals.specs.Decimals.{decimal_of}
+use Rattle.decimals.specs.Words.{decimal_of}
 use Rattle.format_codes.specs.declared.piece.CodePiece.{CodePiece}
 use Rattle.format_codes.specs.declared.piece.CodePiece.TheVariants as piece
 use Rattle.format_codes.specs.declared.piece.Comparison.{Comparison}
@@ -103,12 +103,12 @@ abbrev pub is_numbered_color : List ℕ → Bool
 is_numbered_color text = begins (codes "color") text && is_color_number (trim (drop 5 text))
 
 -- a color: its name, or its number behind the word Color
-abbrev pub is_color : List ℕ → Bool
-is_color text = is_color_name text || is_numbered_color text
+abbrev pub is_color_group : List ℕ → Bool
+is_color_group text = is_color_name text || is_numbered_color text
 
 -- a color, which shows nothing, or what isn't supported
 abbrev pub color_pieces : List ℕ → List CodePiece
-color_pieces text = if is_color text then [] else piece.Unknown ∷ []
+color_pieces text = if is_color_group text then [] else piece.Unknown ∷ []
 
 -- what may stand before the four digits of a language: the usual digits and the usual calendar
 abbrev pub is_usual : List ℕ → Bool
@@ -127,7 +127,7 @@ is_english_number tag =
 abbrev pub is_english_name : List ℕ → Bool
 is_english_name tag = begins (codes "en-") tag || begins (codes "x-sys") tag
 
--- a language other than English
+-- the piece of a language other than English, and none for English
 abbrev pub foreign_unless : Bool → List CodePiece
 foreign_unless english = if english then [] else piece.Foreign ∷ []
 

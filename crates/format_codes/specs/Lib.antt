@@ -7,3 +7,4 @@ pub mod Conditions
 pub mod Choosing
 pub mod ShownFormats
 pub mod Laws
+pub mod Words

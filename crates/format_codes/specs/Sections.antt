@@ -1,7 +1,7 @@
 -- A number format code, cut into sections of pieces (ECMA-376 part 1, 18.8.30 and 18.8.31).
-use Rattle.std.specs.Prelude.{ℕ, ◌≡◌, drop, zero, suc, ◌+◌, ◌==◌, ◌&&◌, ◌||◌, nat_lt}
-use Rattle.std.specs.Prelude.{if◌then◌else◌, List, [], ◌∷◌, ◌++◌, length, take, codes}
-use Rattle.std.specs.Prelude.{slice_index, Option, Some, None}
+use Rattle.std.specs.Prelude.{ℕ, ◌≡◌, drop, zero, suc, ◌+◌, ◌==◌, ◌&&◌, ◌||◌, nat_lt, if◌then◌else◌}
+use Rattle.std.specs.Prelude.{List, [], ◌∷◌, ◌++◌, length, take, codes, slice_index, Option, Some}
+use Rattle.std.specs.Prelude.{None}
 use Rattle.std.specs.Char.{to_ascii_lowercase, is_ascii_digit}
 use Rattle.std.specs.List.{prefix_len, position_or_len, before_first, slice_split}
 use Rattle.format_codes.specs.declared.piece.CodePiece.{CodePiece}
@@ -51,8 +51,8 @@ group_in_front bs =
     }
     else one piece.Unknown (length bs)
 
--- what is found is what was found and such pieces, and the rest is what stands behind them, where
--- they are those in front of this text
+-- pieces in front of a text were cut: they stand behind what was found before, and the rest is what
+-- stands behind them
 pub record IsCut (front : PiecesInFront) (text : List ℕ) (old new : List CodePiece)
     (rest : List ℕ) : Type 0 where
   pub found : new ≡ old ++ front.pieces
@@ -135,24 +135,24 @@ pieces_in_front b bs =
     else sign_or_letter (sign_piece b) b bs)))))
 
 -- the pieces of what stands behind the first `skip` bytes of a code
-abbrev pub pieces_behind : ℕ → List ℕ → List CodePiece
-pieces_behind skip [] = []
-pieces_behind (suc skip) (b ∷ bs) = pieces_behind skip bs
-pieces_behind zero (b ∷ bs) =
-    (pieces_in_front b bs).pieces ++ pieces_behind (pieces_in_front b bs).size bs
+abbrev pub code_pieces_behind : ℕ → List ℕ → List CodePiece
+code_pieces_behind skip [] = []
+code_pieces_behind (suc skip) (b ∷ bs) = code_pieces_behind skip bs
+code_pieces_behind zero (b ∷ bs) =
+    (pieces_in_front b bs).pieces ++ code_pieces_behind (pieces_in_front b bs).size bs
 
 -- the pieces of a code, from its left end
-unfoldable pub pieces : List ℕ → List CodePiece
-pieces code = pieces_behind 0 code
+unfoldable pub code_pieces : List ℕ → List CodePiece
+code_pieces code = code_pieces_behind 0 code
 
 -- the sections of a code, which `;` divides
 unfoldable pub sections : List ℕ → List (List CodePiece)
-sections code = slice_split is_divider (pieces code)
+sections code = slice_split is_divider (code_pieces code)
 
 -- the pieces by which a code shows values: an empty code shows them as General
 abbrev pub shown_by_code : List ℕ → List CodePiece
 shown_by_code [] = piece.General ∷ []
-shown_by_code (b ∷ bs) = pieces (b ∷ bs)
+shown_by_code (b ∷ bs) = code_pieces (b ∷ bs)
 
 -- the sections by which a code shows values
 abbrev pub shown_sections : List ℕ → List (List CodePiece)

@@ -12,10 +12,9 @@ use Rattle.format_codes.specs.declared.shown_format.FormatSections.{FormatSectio
 use Rattle.format_codes.specs.declared.shown_format.NumberSection.{NumberSection}
 use Rattle.format_codes.specs.declared.shown_format.ShownFormat.{ShownFormat}
 use Rattle.format_codes.specs.Choosing.{are_supported, ShownSection, is_supported, number_sections}
-use Rattle.format_codes.specs.Choosing.{shown_pieces}
-use Rattle.format_codes.specs.Choosing.{text_section}
+use Rattle.format_codes.specs.Choosing.{shown_pieces, text_section}
 use Rattle.format_codes.specs.Conditions.{condition_in, leaves_sign_out, takes}
-use Rattle.format_codes.specs.Kinds.{kind_of}
+use Rattle.format_codes.specs.Kinds.{section_kind}
 use Rattle.format_codes.specs.Sections.{shown_sections}
 
 -- what is kept of a section that shows numbers: what it is, its pieces, and its condition
@@ -35,9 +34,9 @@ kept_of_kind (Some kind) section = Some (record {
 
 -- what is to be kept of a section, if it is supported
 abbrev pub kept_section : List CodePiece → Option KeptSection
-kept_section section = kept_of_kind (kind_of section) section
+kept_section section = kept_of_kind (section_kind section) section
 
--- what a section keeps
+-- a section as it is kept, apart from where its pieces lie in memory
 abbrev pub section_kept : NumberSection → KeptSection
 section_kept section = record {
   kind = section.kind;
@@ -61,7 +60,7 @@ kept_sections all = record {
 abbrev pub kept_if_supported : List (List CodePiece) → Option KeptSections
 kept_if_supported all = if are_supported all then Some (kept_sections all) else None
 
--- what sections keep
+-- the sections of a format as they are kept, apart from where their pieces lie in memory
 abbrev pub sections_kept : FormatSections → KeptSections
 sections_kept sections = record {
   numbers = map (λ s. Some (section_kept s)) sections.numbers.items;
@@ -70,10 +69,10 @@ sections_kept sections = record {
 
 -- all sections of numbers are kept, or one of them isn't supported
 abbrev pub KeepsNumbers : Option (List NumberSection) → List (List CodePiece) → Type 0
-KeepsNumbers None sections = list_all (λ section. is_some (kind_of section)) sections ≡ false
+KeepsNumbers None sections = list_all (λ section. is_some (section_kind section)) sections ≡ false
 KeepsNumbers (Some kept) sections =
     (map (λ s. Some (section_kept s)) kept ≡ map kept_section sections)
-    × (list_all (λ section. is_some (kind_of section)) sections ≡ true)
+    × (list_all (λ section. is_some (section_kind section)) sections ≡ true)
 
 -- what a code keeps, if it is supported
 abbrev pub kept_of_code : List ℕ → Option KeptSections

@@ -5,10 +5,9 @@ use Rattle.std.specs.List.{prefix_len}
 use Rattle.format_codes.specs.declared.piece.CodePiece.{CodePiece}
 use Rattle.format_codes.specs.declared.piece.CodePiece.TheVariants as piece
 use Rattle.format_codes.specs.declared.piece.TimeUnit.{TimeUnit}
-use Rattle.format_codes.specs.declared.piece.TimeUnit.TheVariants.{Month, Hour, Minute}
-use Rattle.format_codes.specs.declared.piece.TimeUnit.TheVariants.{Second}
+use Rattle.format_codes.specs.declared.piece.TimeUnit.TheVariants.{Month, Hour, Minute, Second}
 use Rattle.format_codes.specs.declared.timing.TimePlace.{TimePlace}
-use Rattle.format_codes.specs.Pieces.{has, is_passed, is_point, is_zero, unit_of}
+use Rattle.format_codes.specs.Pieces.{has, is_passed, is_point_piece, is_zero_place, unit_of}
 
 -- a unit is that of hours
 abbrev pub is_hour : Option TimeUnit → Bool
@@ -22,7 +21,7 @@ is_second other = false
 
 -- how many zeros stand in front
 abbrev pub zeros_in_front : List CodePiece → ℕ
-zeros_in_front pieces = prefix_len is_zero pieces
+zeros_in_front pieces = prefix_len is_zero_place pieces
 
 -- the first of two units
 abbrev pub first_unit : Option TimeUnit → Option TimeUnit → Option TimeUnit
@@ -45,8 +44,8 @@ minutes_if holds (piece.TimePart Month count) =
 minutes_if holds other = other
 
 -- the place behind a piece
-abbrev pub place_behind : TimePlace → CodePiece → TimePlace
-place_behind place p = record {
+abbrev pub place_after_piece : TimePlace → CodePiece → TimePlace
+place_after_piece place p = record {
   passes = place.passes;
   last = first_unit (unit_of p) place.last;
   behind_seconds = is_second (unit_of p);
@@ -55,7 +54,7 @@ place_behind place p = record {
 -- how many digits of a second are told here: the zeros behind a point that stands behind seconds
 abbrev pub digits_told : TimePlace → CodePiece → List CodePiece → ℕ
 digits_told place p behind =
-    if place.behind_seconds && is_point p then zeros_in_front behind else 0
+    if place.behind_seconds && is_point_piece p then zeros_in_front behind else 0
 
 -- a piece where so many digits of a second are told: these, or the piece with its minutes
 abbrev pub told_piece : TimePlace → ℕ → CodePiece → List CodePiece → CodePiece
@@ -70,23 +69,23 @@ timed_from place skip [] = []
 timed_from place (suc skip) (first ∷ others) = timed_from place skip others
 timed_from place zero (first ∷ others) =
     let digits = digits_told place first others in
-    told_piece place digits first others ∷ timed_from (place_behind place first) digits others
+    told_piece place digits first others ∷ timed_from (place_after_piece place first) digits others
 
 -- the place in front of a section
-abbrev pub first_place : List CodePiece → TimePlace
-first_place section =
+abbrev pub section_start : List CodePiece → TimePlace
+section_start section =
     record { passes = has is_passed section; last = None; behind_seconds = false }
 
 -- a section with its minutes and its digits of seconds
 unfoldable pub timed_pieces : List CodePiece → List CodePiece
-timed_pieces section = timed_from (first_place section) zero section
+timed_pieces section = timed_from (section_start section) zero section
 
 -- how many digits of a second a piece shows
-abbrev pub digits_of : CodePiece → ℕ
-digits_of (piece.SecondDigits count) = count
-digits_of other = 0
+abbrev pub second_digits : CodePiece → ℕ
+second_digits (piece.SecondDigits count) = count
+second_digits other = 0
 
 -- how many digits of a second pieces show
 abbrev pub second_places : List CodePiece → ℕ
 second_places [] = 0
-second_places (first ∷ others) = digits_of first + second_places others
+second_places (first ∷ others) = second_digits first + second_places others

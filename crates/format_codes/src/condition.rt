@@ -2,9 +2,9 @@
 ghost use Rattle.std.specs.Prelude.{◌≡◌, ◌*◌, ◌^◌, ◌-ℤ◌};
 ghost use Rattle.std.specs.Int.{is_negative};
 ghost use Rattle.std.specs.Ordering.{nat_cmp};
-ghost use Rattle.format_codes.specs.Conditions.{condition_in, positive_part, number_cmp, holds_by};
-ghost use Rattle.format_codes.specs.Conditions.{signed_cmp};
-ghost use Rattle.format_codes.specs.Conditions.{meets, takes, holds_below_0, leaves_sign_out};
+ghost use Rattle.format_codes.specs.Conditions.{condition_in, positive_part, number_cmp};
+ghost use Rattle.format_codes.specs.Conditions.{condition_holds, signed_cmp, meets_condition};
+ghost use Rattle.format_codes.specs.Conditions.{takes, holds_below_0, leaves_sign_out};
 
 use crate::piece::{CodePiece, Comparison, Condition};
 use decimals::scaled;
@@ -92,7 +92,7 @@ fn number_cmp(number: (i128, i32), other: (i128, i32)) -> Ordering
 
 /// Whether a comparison holds of two numbers, by how the first stands to the second.
 fn holds_by(comparison: Comparison, order: Ordering) -> bool
-    ensures { result ≡ holds_by comparison order }
+    ensures { result ≡ condition_holds comparison order }
 {
     match comparison {
         Comparison::Below => order.is_lt(),

@@ -5,10 +5,9 @@ ghost use Rattle.std.specs.Char.{to_ascii_lowercase};
 ghost use Rattle.format_codes.specs.Groups.{date_unit};
 ghost use Rattle.format_codes.specs.Sections.{IsCut, IsPieceCut, first_character, character_size};
 ghost use Rattle.format_codes.specs.Sections.{quoted_in_front, group_in_front, sign_piece};
-ghost use Rattle.format_codes.specs.Sections.{sign_or_letter};
-ghost use Rattle.format_codes.specs.Sections.{run_behind, unit_or_other, half_day_or_other};
-ghost use Rattle.format_codes.specs.Sections.{letter_in_front};
-ghost use Rattle.format_codes.specs.Sections.{pieces_in_front, pieces};
+ghost use Rattle.format_codes.specs.Sections.{sign_or_letter, run_behind, unit_or_other};
+ghost use Rattle.format_codes.specs.Sections.{half_day_or_other, letter_in_front, pieces_in_front};
+ghost use Rattle.format_codes.specs.Sections.{code_pieces};
 
 use crate::group::{push_group, push_literal};
 use crate::piece::{CodePiece, Filler, HalfDay, TimeUnit};
@@ -222,8 +221,8 @@ fn split_ascii(text: &str) -> Option<(u8, &str)>
 #[tactic(auto, using(crate::proofs::CodesCut::ascii_cut, crate::proofs::CodesCut::character_cut))]
 fn push_front<'a>(found: &mut Vec<CodePiece>, code: &'a str) -> Result<&'a str, AllocError>
     requires { 0 < length code.now }
-    ensures pieces { IfOk result (λ rest. found.new.items ++ pieces rest.now
-        ≡ found.old.items ++ pieces code.now) }
+    ensures pieces { IfOk result (λ rest. found.new.items ++ code_pieces rest.now
+        ≡ found.old.items ++ code_pieces code.now) }
     ensures shorter { IfOk result (λ rest. length rest.now < length code.now) }
 {
     match split_ascii(code) {
@@ -235,7 +234,7 @@ fn push_front<'a>(found: &mut Vec<CodePiece>, code: &'a str) -> Result<&'a str, 
 /// The pieces of a code, from its left end.
 #[tactic(auto, using(crate::proofs::CodesCut::nothing_left))]
 pub fn cut_pieces(alloc: Global, code: &str) -> Result<Vec<CodePiece>, AllocError>
-    ensures { IfOk result (λ found. found.items ≡ pieces code.now) }
+    ensures { IfOk result (λ found. found.items ≡ code_pieces code.now) }
 {
     let mut found = Vec::new(alloc);
     let mut rest = code;

@@ -2,16 +2,14 @@
 ghost use Rattle.std.specs.Prelude.{◌≡◌, ◌++◌, ◌∷◌, [], IfOk, Some};
 ghost use Rattle.std.specs.Option.{option_map};
 ghost use Rattle.format_codes.specs.Groups.{literal_pieces, passed_unit, passed_piece};
-ghost use Rattle.format_codes.specs.Groups.{condition_by};
-ghost use Rattle.format_codes.specs.Groups.{comparison_in_front, condition_of_group, is_color};
-ghost use Rattle.format_codes.specs.Groups.{all_are};
-ghost use Rattle.std.specs.Char.{is_ascii_digit};
-ghost use Rattle.std.specs.List.{list_all};
-ghost use Rattle.format_codes.specs.Groups.{is_color_name, is_numbered_color};
-ghost use Rattle.format_codes.specs.Groups.{size_of_comparison, is_color_number};
+ghost use Rattle.format_codes.specs.Groups.{condition_by, comparison_in_front, condition_of_group};
+ghost use Rattle.format_codes.specs.Groups.{is_color_group, all_are, is_color_name};
+ghost use Rattle.format_codes.specs.Groups.{is_numbered_color, size_of_comparison, is_color_number};
 ghost use Rattle.format_codes.specs.Groups.{is_usual, is_english_number, is_english_name};
 ghost use Rattle.format_codes.specs.Groups.{language_pieces, currency_pieces, color_pieces};
 ghost use Rattle.format_codes.specs.Groups.{untimed_pieces, group_pieces, foreign_unless};
+ghost use Rattle.std.specs.Char.{is_ascii_digit};
+ghost use Rattle.std.specs.List.{list_all};
 
 use crate::piece::{CodePiece, Comparison, Condition, TimeUnit};
 use crate::text::{around_first, begins, behind_ascii, behind_word, is_word};
@@ -145,7 +143,7 @@ fn is_numbered_color(text: &str) -> bool
 
 /// Whether the content of a group is a color, which shows nothing.
 fn is_color(content: &str) -> bool
-    ensures { result ≡ is_color content.now }
+    ensures { result ≡ is_color_group content.now }
 {
     is_color_name(content.as_bytes()) || is_numbered_color(content)
 }

@@ -2,16 +2,17 @@
 ghost use Rattle.std.specs.Prelude.{◌≡◌, ◌≤◌, ◌+◌, ◌&&◌, ◌||◌, count_by, drop, length, nat_lt, not};
 ghost use Rattle.std.specs.Prelude.{take};
 ghost use Rattle.std.specs.List.{after_first, before_first, list_all, position_or_len, prefix_len};
-ghost use Rattle.format_codes.specs.Kinds.{is_digit_or_exponent, is_not_general};
-ghost use Rattle.format_codes.specs.Kinds.{is_general_sound, shows_name, is_date_sound};
-ghost use Rattle.format_codes.specs.Kinds.{is_power_sound, is_denominator, from_denominator};
-ghost use Rattle.format_codes.specs.Kinds.{denominator_in, is_fixed, is_denominator_sound};
-ghost use Rattle.format_codes.specs.Kinds.{is_point_or_percent, is_fraction_sound, is_fraction};
-ghost use Rattle.format_codes.specs.Kinds.{is_no_number, kind_if, undated_kind};
-ghost use Rattle.format_codes.specs.Pieces.{has, is_digit, is_exponent, is_foreign, is_general};
-ghost use Rattle.format_codes.specs.Pieces.{is_figure, is_point, is_second_digits, is_slash};
-ghost use Rattle.format_codes.specs.Pieces.{is_time, is_zero};
-ghost use Rattle.format_codes.specs.TimedPieces.{digits_of, second_places};
+ghost use Rattle.format_codes.specs.Kinds.{is_digit_or_exponent, is_not_general, is_general_sound};
+ghost use Rattle.format_codes.specs.Kinds.{shows_name, is_date_sound, is_power_sound};
+ghost use Rattle.format_codes.specs.Kinds.{is_denominator, from_denominator, denominator_in};
+ghost use Rattle.format_codes.specs.Kinds.{is_fixed, is_denominator_sound, is_point_or_percent};
+ghost use Rattle.format_codes.specs.Kinds.{is_fraction_sound, is_fraction, is_no_number, kind_if};
+ghost use Rattle.format_codes.specs.Kinds.{undated_kind};
+ghost use Rattle.format_codes.specs.Pieces.{has, is_digit, is_exponent, is_foreign_language};
+ghost use Rattle.format_codes.specs.Pieces.{is_general, is_figure, is_point_piece};
+ghost use Rattle.format_codes.specs.Pieces.{is_second_digits, is_slash_piece, is_time};
+ghost use Rattle.format_codes.specs.Pieces.{is_zero_place};
+ghost use Rattle.format_codes.specs.TimedPieces.{second_digits, second_places};
 
 use crate::piece::{CodePiece, TimeUnit};
 
@@ -111,7 +112,7 @@ fn shows_name(piece: CodePiece) -> bool
 
 /// Whether a language stands among pieces that isn't English.
 fn has_foreign(timed: &[CodePiece]) -> bool
-    ensures { result ≡ has is_foreign timed.now }
+    ensures { result ≡ has is_foreign_language timed.now }
 {
     timed.iter().any(|piece| piece.is_foreign())
 }
@@ -146,7 +147,7 @@ pub fn is_date_sound(timed: &[CodePiece]) -> bool
 
 /// How many digits of a second a piece shows.
 fn digits_of(piece: CodePiece) -> usize
-    ensures { result ≡ digits_of piece }
+    ensures { result ≡ second_digits piece }
 {
     match piece {
         CodePiece::SecondDigits(count) => count,
@@ -180,7 +181,7 @@ fn has_exponent(section: &[CodePiece]) -> bool
 
 /// Whether a point stands among pieces.
 fn has_point(pieces: &[CodePiece]) -> bool
-    ensures { result ≡ has is_point pieces.now }
+    ensures { result ≡ has is_point_piece pieces.now }
 {
     pieces.iter().any(|piece| piece.is_point())
 }
@@ -233,7 +234,7 @@ fn is_power_sound(section: &[CodePiece]) -> bool
 
 /// How many pieces stand before the first `/`, or all.
 fn slash_place(section: &[CodePiece]) -> usize
-    ensures value { result ≡ position_or_len is_slash section.now }
+    ensures value { result ≡ position_or_len is_slash_piece section.now }
     ensures bound { result ≤ length section.now }
 {
     section.iter().take_while(|piece| !piece.is_slash()).count()
@@ -241,7 +242,7 @@ fn slash_place(section: &[CodePiece]) -> usize
 
 /// How often a `/` stands in a section.
 fn slash_count(section: &[CodePiece]) -> usize
-    ensures { result ≡ count_by is_slash section.now }
+    ensures { result ≡ count_by is_slash_piece section.now }
 {
     section.iter().filter(|piece| piece.is_slash()).count()
 }
@@ -304,7 +305,7 @@ pub fn is_fixed(denominator: &[CodePiece]) -> bool
 
 /// Whether each piece is a digit that is given.
 fn all_figures(denominator: &[CodePiece]) -> bool
-    ensures { result ≡ list_all (λ p. is_figure p || is_zero p) denominator.now }
+    ensures { result ≡ list_all (λ p. is_figure p || is_zero_place p) denominator.now }
 {
     denominator
         .iter()

@@ -1,9 +1,10 @@
 ghost use Rattle.std.specs.Prelude.{◌≡◌};
-ghost use Rattle.format_codes.specs.Pieces.{is_figure, is_digit, is_zero, is_point, is_comma};
-ghost use Rattle.format_codes.specs.Pieces.{is_percent, is_slash, is_text_place, is_general};
-ghost use Rattle.format_codes.specs.Pieces.{is_exponent, is_passed, is_second_digits, is_half_day};
-ghost use Rattle.format_codes.specs.Pieces.{is_time, is_condition, is_foreign, is_unknown};
-ghost use Rattle.format_codes.specs.Pieces.{is_divider, unit_of, as_condition};
+ghost use Rattle.format_codes.specs.Pieces.{is_figure, is_digit, is_zero_place, is_point_piece};
+ghost use Rattle.format_codes.specs.Pieces.{is_comma, is_percent, is_slash_piece, is_text_place};
+ghost use Rattle.format_codes.specs.Pieces.{is_general, is_exponent, is_passed, is_second_digits};
+ghost use Rattle.format_codes.specs.Pieces.{is_half_day, is_time, is_condition};
+ghost use Rattle.format_codes.specs.Pieces.{is_foreign_language, is_unsupported_piece, is_divider};
+ghost use Rattle.format_codes.specs.Pieces.{unit_of, as_condition};
 
 /// What the place of a digit shows where a number has no digit for it.
 #[derive(Clone, Copy, Debug, PartialEq, Eq)]
@@ -116,14 +117,14 @@ impl CodePiece {
 
     /// Whether the piece is the place of a digit that is `0`.
     pub fn is_zero(self) -> bool
-        ensures { result ≡ is_zero self }
+        ensures { result ≡ is_zero_place self }
     {
         matches!(self, CodePiece::Digit(Filler::Zero))
     }
 
     /// Whether the piece is the point.
     pub fn is_point(self) -> bool
-        ensures { result ≡ is_point self }
+        ensures { result ≡ is_point_piece self }
     {
         matches!(self, CodePiece::Point)
     }
@@ -144,7 +145,7 @@ impl CodePiece {
 
     /// Whether the piece is `/`.
     pub fn is_slash(self) -> bool
-        ensures { result ≡ is_slash self }
+        ensures { result ≡ is_slash_piece self }
     {
         matches!(self, CodePiece::Slash)
     }
@@ -200,7 +201,7 @@ impl CodePiece {
 
     /// Whether the piece is a language that isn't English.
     pub fn is_foreign(self) -> bool
-        ensures { result ≡ is_foreign self }
+        ensures { result ≡ is_foreign_language self }
     {
         matches!(self, CodePiece::Foreign)
     }
@@ -214,7 +215,7 @@ impl CodePiece {
 
     /// Whether the piece is what isn't supported.
     pub fn is_unknown(self) -> bool
-        ensures { result ≡ is_unknown self }
+        ensures { result ≡ is_unsupported_piece self }
     {
         matches!(self, CodePiece::Unknown)
     }

@@ -3,13 +3,13 @@ ghost use Rattle.std.specs.Prelude.{◌≡◌, ◌≤◌, IfOk, List, Some, ℕ,
 ghost use Rattle.std.specs.List.{position_or_len, slice_split};
 ghost use Rattle.std.specs.Option.{option_map};
 ghost use Rattle.format_codes.specs.Pieces.{has, is_divider, is_text_place};
-ghost use Rattle.format_codes.specs.Kinds.{kind_of};
+ghost use Rattle.format_codes.specs.Kinds.{section_kind};
 ghost use Rattle.format_codes.specs.Choosing.{is_for_texts, is_no_text, is_text_sound};
 ghost use Rattle.format_codes.specs.Choosing.{number_sections, shown_pieces, shows_text};
 ghost use Rattle.format_codes.specs.Choosing.{is_supported, number_section, text_section};
 ghost use Rattle.format_codes.specs.Choosing.{text_section_in};
 ghost use Rattle.format_codes.specs.Sections.{shown_by_code};
-ghost use Rattle.decimals.specs.Decimal.{number_of};
+ghost use Rattle.decimals.specs.Words.{number_of};
 ghost use Rattle.format_codes.specs.ShownFormats.{KeepsNumbers, kept_if_supported, kept_section};
 ghost use Rattle.format_codes.specs.ShownFormats.{section_kept, sections_kept, shown_by};
 ghost use Rattle.format_codes.specs.ShownFormats.{IsFormatOf, kept_if_taken, kept_section_for};
@@ -86,10 +86,10 @@ fn shown_pieces(alloc: Global, section: &[CodePiece]) -> Result<Vec<CodePiece>, 
 }
 
 /// What a section is that shows a number, by the pieces that it shows, too.
-#[tactic(auto, unfolding(crate::specs::Kinds::kind_of))]
+#[tactic(auto, unfolding(crate::specs::Kinds::section_kind))]
 fn kind_of(section: &[CodePiece], shown: &[CodePiece]) -> Option<SectionKind>
     requires { shown.now ≡ shown_pieces section.now }
-    ensures { result ≡ kind_of section.now }
+    ensures { result ≡ section_kind section.now }
 {
     if has_no_number(section) {
         None

@@ -2,9 +2,8 @@
 ghost use Rattle.std.specs.Prelude.{◌≡◌, ◌≤◌, IfOk, length};
 ghost use Rattle.format_codes.specs.Pieces.{has, is_passed};
 ghost use Rattle.format_codes.specs.TimedPieces.{zeros_in_front, next_unit, is_minutes, minutes_if};
-ghost use Rattle.format_codes.specs.TimedPieces.{digits_told, told_piece, place_behind};
-ghost use Rattle.format_codes.specs.TimedPieces.{first_place};
-ghost use Rattle.format_codes.specs.TimedPieces.{timed_pieces};
+ghost use Rattle.format_codes.specs.TimedPieces.{digits_told, told_piece, place_after_piece};
+ghost use Rattle.format_codes.specs.TimedPieces.{section_start, timed_pieces};
 
 use crate::piece::{CodePiece, TimeUnit};
 use std::alloc::{AllocError, Global};
@@ -23,7 +22,7 @@ struct TimePlace {
 impl TimePlace {
     /// The place in front of a section.
     fn first(section: &[CodePiece]) -> TimePlace
-        ensures { result ≡ first_place section.now }
+        ensures { result ≡ section_start section.now }
     {
         TimePlace {
             passes: has_passed(section),
@@ -34,7 +33,7 @@ impl TimePlace {
 
     /// The place behind a piece.
     fn behind(self, piece: CodePiece) -> TimePlace
-        ensures { result ≡ place_behind self piece }
+        ensures { result ≡ place_after_piece self piece }
     {
         let unit = piece.unit();
         TimePlace {

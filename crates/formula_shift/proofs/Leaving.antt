@@ -7,17 +7,17 @@ use Rattle.std.specs.List.{flat_map}
 use Rattle.std.proofs.lemmas.Grind.{flat_map-append}
 use Rattle.formula_shift.specs.declared.reference.Reference.{Reference}
 use Rattle.formula_shift.specs.Pieces.{word_kind, PieceText, pieces, joined_pieces}
-use Rattle.formula_shift.specs.References.{IsInWorksheet, word_reference, displaced}
+use Rattle.formula_shift.specs.References.{IsInWorksheet, word_reference, shifted}
 use Rattle.formula_shift.specs.Relocation.{is_word, is_other, is_name_before, first_byte}
-use Rattle.formula_shift.specs.Relocation.{piece_reference, references, other_of}
-use Rattle.formula_shift.specs.Relocation.{lost_pieces, image, image_or, moved_pieces, moved}
-use Rattle.formula_shift.specs.Relocation.{before_others, joined_others, moved_references}
+use Rattle.formula_shift.specs.Relocation.{piece_reference, references, other_of, lost_pieces}
+use Rattle.formula_shift.specs.Relocation.{image, image_or, shifted_pieces, moved, before_others}
+use Rattle.formula_shift.specs.Relocation.{joined_others, shifted_references}
 use Rattle.formula_shift.proofs.Recutting.{AreCut, are_cut-pieces}
 use Rattle.formula_shift.proofs.Joining.{other_kind_is, both_true, joined_pieces-joined_others}
-use Rattle.formula_shift.proofs.Spellings.{displaced_inside}
+use Rattle.formula_shift.proofs.Spellings.{shifted_inside}
 use Rattle.formula_shift.proofs.Moving.{piece_reference_word, pieces-moved}
 use Rattle.formula_shift.proofs.ReadBack.{IsFormed}
-use Rattle.formula_shift.proofs.Composing.{displaced_twice, piece_reference_alike}
+use Rattle.formula_shift.proofs.Composing.{shifted_twice, piece_reference_alike}
 use Rattle.formula_shift.proofs.Composing.{piece_reference_formed, piece_reference_spelled}
 use Rattle.formula_shift.proofs.Composing.{name_kept}
 
@@ -59,7 +59,7 @@ references-joined_others (p ∷ ps) =
 
 -- the references that one becomes
 abbrev kept : ℤ × ℤ → Reference → List Reference
-kept d r = option_to_list (displaced d r)
+kept d r = option_to_list (shifted d r)
 
 lost_none : (after : List PieceText) → references (lost_pieces ++ after) ≡ references after
 unfolding piece_reference
@@ -79,31 +79,31 @@ module _ (d : ℤ × ℤ) (p : PieceText) (behind : Option ℕ) (after : List Pi
       (piece_reference_word p behind) in
       let formed = subst (λ o. IfSome o (λ r. IsFormed r × (is_name_before behind ≡ false))) is
       (piece_reference_formed p behind) in
-      by_answer (displaced d r) refl known.0 formed.0 formed.1 where
-        by_answer : (a : Option Reference) → displaced d r ≡ a → IsInWorksheet r → IsFormed r →
+      by_answer (shifted d r) refl known.0 formed.0 formed.1 where
+        by_answer : (a : Option Reference) → shifted d r ≡ a → IsInWorksheet r → IsFormed r →
             is_name_before behind ≡ false →
             references (image a ++ after) ≡ (option_to_list a ++ []) ++ references after
         by_answer None there inside formed none = lost_none after
         by_answer (Some s) there inside formed none =
             let inside' : IsInWorksheet s =
-            subst (λ o. IfSome o IsInWorksheet) there (displaced_inside d r inside) in
+            subst (λ o. IfSome o IsInWorksheet) there (shifted_inside d r inside) in
             ap (λ o. option_to_list o ++ references after)
             (piece_reference_spelled s (first_byte (joined_pieces after)) inside'
-            (displaced_twice d d r s there formed).0 (sym alike ∙ none))
+            (shifted_twice d d r s there formed).0 (sym alike ∙ none))
 
-references-moved_pieces : (d : ℤ × ℤ) (ps : List PieceText) → AreCut ps →
-    references (moved_pieces d ps) ≡ flat_map (kept d) (references ps)
-references-moved_pieces d [] cut = refl
-references-moved_pieces d (p ∷ ps) cut =
+references-shifted_pieces : (d : ℤ × ℤ) (ps : List PieceText) → AreCut ps →
+    references (shifted_pieces d ps) ≡ flat_map (kept d) (references ps)
+references-shifted_pieces d [] cut = refl
+references-shifted_pieces d (p ∷ ps) cut =
     let behind = first_byte (joined_pieces ps) in
     let o = piece_reference p behind in
-    front_references d p behind (moved_pieces d ps) (name_kept d ps cut.1) o refl
-    ∙ ap (λ rs. flat_map (kept d) (option_to_list o) ++ rs) (references-moved_pieces d ps cut.1)
+    front_references d p behind (shifted_pieces d ps) (name_kept d ps cut.1) o refl
+    ∙ ap (λ rs. flat_map (kept d) (option_to_list o) ++ rs) (references-shifted_pieces d ps cut.1)
     ∙ sym (flat_map-append (kept d) (option_to_list o) (references ps))
 
 pub references-moved : (text : List ℕ) (offset : ℤ × ℤ) →
-    references (pieces (moved text offset)) ≡ moved_references text offset
+    references (pieces (moved text offset)) ≡ shifted_references text offset
 references-moved text offset =
     ap references (pieces-moved text offset)
-    ∙ references-joined_others (moved_pieces offset (pieces text))
-    ∙ references-moved_pieces offset (pieces text) (are_cut-pieces text)
+    ∙ references-joined_others (shifted_pieces offset (pieces text))
+    ∙ references-shifted_pieces offset (pieces text) (are_cut-pieces text)

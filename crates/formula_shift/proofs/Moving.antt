@@ -9,14 +9,12 @@ use Rattle.std.proofs.lemmas.Grind.{flat_map-append}
 use Rattle.formula_shift.specs.declared.reference.Reference.{Reference}
 use Rattle.formula_shift.specs.Pieces.{PieceKind, string_kind, quoted_kind, group_kind, word_kind}
 use Rattle.formula_shift.specs.Pieces.{other_kind, PieceText, piece_kind, is_word_byte}
-use Rattle.formula_shift.specs.Pieces.{is_other_byte, length_behind}
-use Rattle.formula_shift.specs.Pieces.{pieces, joined_pieces}
-use Rattle.formula_shift.specs.References.{IsInWorksheet, word_reference, displaced}
+use Rattle.formula_shift.specs.Pieces.{is_other_byte, length_behind, pieces, joined_pieces}
+use Rattle.formula_shift.specs.References.{IsInWorksheet, word_reference, shifted}
 use Rattle.formula_shift.specs.Relocation.{is_word, is_other, is_name_before, first_byte}
-use Rattle.formula_shift.specs.Relocation.{piece_reference, word_of, other_of, lost_pieces}
-use Rattle.formula_shift.specs.Relocation.{image, image_or}
-use Rattle.formula_shift.specs.Relocation.{moved_piece, moved_pieces, references, moved}
-use Rattle.formula_shift.specs.Relocation.{joined_others}
+use Rattle.formula_shift.specs.Relocation.{piece_reference, word_of, other_of, lost_pieces, image}
+use Rattle.formula_shift.specs.Relocation.{image_or, shifted_piece, shifted_pieces, references}
+use Rattle.formula_shift.specs.Relocation.{moved, joined_others}
 use Rattle.formula_shift.proofs.Cutting.{joined_pieces-pieces}
 use Rattle.formula_shift.proofs.Recutting.{first_kind, passes, begins, begins_other, is_quoted}
 use Rattle.formula_shift.proofs.Recutting.{quoted_is, word_is, alike_by, word_stops, run_stops}
@@ -25,7 +23,7 @@ use Rattle.formula_shift.proofs.Recutting.{StandsBefore, GrowsBefore, AreCut, ar
 use Rattle.formula_shift.proofs.Recutting.{pieces-joined_pieces}
 use Rattle.formula_shift.proofs.Joining.{joined_pieces-joined_others, before_others-cut}
 use Rattle.formula_shift.proofs.Joining.{first_kind_is, both_true}
-use Rattle.formula_shift.proofs.Spellings.{IsWordText, word_reference_inside, displaced_inside}
+use Rattle.formula_shift.proofs.Spellings.{IsWordText, word_reference_inside, shifted_inside}
 use Rattle.formula_shift.proofs.Spellings.{spelling_is_word}
 
 word_kind_is : (kind : PieceKind) → is_word kind ≡ true → kind ≡ word_kind
@@ -62,13 +60,13 @@ moved_by_reference : (offset : ℤ × ℤ) (p : PieceText) (o : Option Reference
     IfSome o (λ r. IsInWorksheet r × (p.kind ≡ word_kind)) → IsMovedFrom p (image_or p offset o)
 moved_by_reference offset p None inside = inl refl
 moved_by_reference offset p (Some r) inside =
-    inr (inside.1, by_displaced (displaced offset r) (displaced_inside offset r inside.0)) where
+    inr (inside.1, by_displaced (shifted offset r) (shifted_inside offset r inside.0)) where
       by_displaced : (o : Option Reference) → IfSome o IsInWorksheet → IsWordImage (image o)
       by_displaced None there = inl refl
       by_displaced (Some s) there = inr (word_of s, refl, refl, spelling_is_word s there)
 
 pub is_moved : (offset : ℤ × ℤ) (p : PieceText) (behind : Option ℕ) →
-    IsMovedFrom p (moved_piece offset p behind)
+    IsMovedFrom p (shifted_piece offset p behind)
 is_moved offset p behind =
     moved_by_reference offset p (piece_reference p behind) (piece_reference_word p behind)
 
@@ -250,23 +248,23 @@ module _ (p : PieceText) (rest : List ℕ) (qs after : List PieceText) (is_from 
         by_bytes (w ∷ ws) nonempty all = ap Some (word_piece_kind w (first_in_word w ws all))
 
 are_cut-moved : (offset : ℤ × ℤ) (ps : List PieceText) → AreCut ps →
-    AreCut (joined_others (moved_pieces offset ps))
-    × BeginsAlike (joined_pieces ps) (joined_pieces (moved_pieces offset ps))
+    AreCut (joined_others (shifted_pieces offset ps))
+    × BeginsAlike (joined_pieces ps) (joined_pieces (shifted_pieces offset ps))
 are_cut-moved offset [] cut = (tt, inl refl)
 are_cut-moved offset (p ∷ ps) cut =
-    let qs = moved_piece offset p (first_byte (joined_pieces ps)) in
+    let qs = shifted_piece offset p (first_byte (joined_pieces ps)) in
     let is_from : IsMovedFrom p qs = is_moved offset p (first_byte (joined_pieces ps)) in
     let later = are_cut-moved offset ps cut.1 in (
-      cut_moved p (joined_pieces ps) qs (moved_pieces offset ps) is_from cut.0 later.1 later.0,
-      alike_moved p (joined_pieces ps) qs (moved_pieces offset ps) is_from cut.0 later.1,
+      cut_moved p (joined_pieces ps) qs (shifted_pieces offset ps) is_from cut.0 later.1 later.0,
+      alike_moved p (joined_pieces ps) qs (shifted_pieces offset ps) is_from cut.0 later.1,
     )
 
 -- cutting the moved text gives the moved pieces, of which neighbouring Other pieces are one
 pub pieces-moved : (text : List ℕ) (offset : ℤ × ℤ) →
-    pieces (moved text offset) ≡ joined_others (moved_pieces offset (pieces text))
+    pieces (moved text offset) ≡ joined_others (shifted_pieces offset (pieces text))
 unfolding moved
 pieces-moved text offset =
-    let qs = moved_pieces offset (pieces text) in
+    let qs = shifted_pieces offset (pieces text) in
     ap pieces (sym (joined_pieces-joined_others qs))
     ∙ pieces-joined_pieces (joined_others qs)
     (are_cut-moved offset (pieces text) (are_cut-pieces text)).0
@@ -279,29 +277,29 @@ joined_pieces-append ps qs = flat_map-append (λ p. p.bytes) ps qs
 
 pub moved-nil : (text : List ℕ) (offset : ℤ × ℤ) → pieces text ≡ [] → moved text offset ≡ []
 unfolding moved
-moved-nil text offset none = ap (λ ps. joined_pieces (moved_pieces offset ps)) none
+moved-nil text offset none = ap (λ ps. joined_pieces (shifted_pieces offset ps)) none
 
 -- the piece p stands in front of rest, which the code has as `seen`
 pub moved-next : (text rest seen : List ℕ) (offset : ℤ × ℤ) (p : PieceText) →
     pieces text ≡ p ∷ pieces rest → seen ≡ rest →
     moved text offset
-    ≡ joined_pieces (moved_piece offset p (first_byte seen)) ++ moved rest offset
+    ≡ joined_pieces (shifted_piece offset p (first_byte seen)) ++ moved rest offset
 unfolding moved
 moved-next text rest seen offset p next same =
-    ap (λ ps. joined_pieces (moved_pieces offset ps)) next
-    ∙ joined_pieces-append (moved_piece offset p (first_byte (joined_pieces (pieces rest))))
-    (moved_pieces offset (pieces rest))
-    ∙ ap (λ t. joined_pieces (moved_piece offset p (first_byte t)) ++ joined_pieces
-    (moved_pieces offset (pieces rest))) (joined_pieces-pieces rest ∙ sym same)
+    ap (λ ps. joined_pieces (shifted_pieces offset ps)) next
+    ∙ joined_pieces-append (shifted_piece offset p (first_byte (joined_pieces (pieces rest))))
+    (shifted_pieces offset (pieces rest))
+    ∙ ap (λ t. joined_pieces (shifted_piece offset p (first_byte t)) ++ joined_pieces
+    (shifted_pieces offset (pieces rest))) (joined_pieces-pieces rest ∙ sym same)
 
 pub length-moved-next : (text rest seen : List ℕ) (offset : ℤ × ℤ) (p : PieceText) →
     pieces text ≡ p ∷ pieces rest → seen ≡ rest →
     length (moved text offset)
-    ≡ length (joined_pieces (moved_piece offset p (first_byte seen)))
+    ≡ length (joined_pieces (shifted_piece offset p (first_byte seen)))
     + length (moved rest offset)
 length-moved-next text rest seen offset p next same =
     ap length (moved-next text rest seen offset p next same)
-    ∙ length-append (joined_pieces (moved_piece offset p (first_byte seen))) (moved rest offset)
+    ∙ length-append (joined_pieces (shifted_piece offset p (first_byte seen))) (moved rest offset)
 
 -- what stands for a piece has a byte, and at most 25 times as many as the piece
 image_length : (p : PieceText) (rest : List ℕ) (qs : List PieceText) → IsMovedFrom p qs →
@@ -327,26 +325,26 @@ image_length p rest qs is_from stands =
     ]
 
 -- a moved text is at most 25 times as long, and empty only where the text is
-moved_length : (offset : ℤ × ℤ) (ps : List PieceText) → AreCut ps →
-    (length (joined_pieces (moved_pieces offset ps)) ≤ 25 * length (joined_pieces ps))
-    × (0 < length (joined_pieces ps) → 0 < length (joined_pieces (moved_pieces offset ps)))
-moved_length offset [] cut = (omega arith, λ some. some)
-moved_length offset (p ∷ ps) cut =
-    let qs = moved_piece offset p (first_byte (joined_pieces ps)) in
+shifted_length : (offset : ℤ × ℤ) (ps : List PieceText) → AreCut ps →
+    (length (joined_pieces (shifted_pieces offset ps)) ≤ 25 * length (joined_pieces ps))
+    × (0 < length (joined_pieces ps) → 0 < length (joined_pieces (shifted_pieces offset ps)))
+shifted_length offset [] cut = (omega arith, λ some. some)
+shifted_length offset (p ∷ ps) cut =
+    let qs = shifted_piece offset p (first_byte (joined_pieces ps)) in
     let one : (0 < length (joined_pieces qs))
     × (length (joined_pieces qs) ≤ 25 * length p.bytes) =
     image_length p (joined_pieces ps) qs (is_moved offset p (first_byte (joined_pieces ps))) cut.0
     in
-    let whole : length (joined_pieces (qs ++ moved_pieces offset ps))
-    ≡ length (joined_pieces qs) + length (joined_pieces (moved_pieces offset ps)) =
-    ap length (joined_pieces-append qs (moved_pieces offset ps))
-    ∙ length-append (joined_pieces qs) (joined_pieces (moved_pieces offset ps)) in (
+    let whole : length (joined_pieces (qs ++ shifted_pieces offset ps))
+    ≡ length (joined_pieces qs) + length (joined_pieces (shifted_pieces offset ps)) =
+    ap length (joined_pieces-append qs (shifted_pieces offset ps))
+    ∙ length-append (joined_pieces qs) (joined_pieces (shifted_pieces offset ps)) in (
       omega (
         arith,
         whole,
         one.1,
         length-append p.bytes (joined_pieces ps),
-        (moved_length offset ps cut.1).0,
+        (shifted_length offset ps cut.1).0,
       ),
       λ some. omega (arith, whole, one.0),
     )
@@ -355,14 +353,14 @@ pub length-moved-le : (text : List ℕ) (offset : ℤ × ℤ) →
     length (moved text offset) ≤ 25 * length text
 unfolding moved
 length-moved-le text offset =
-    subst (λ t. length (joined_pieces (moved_pieces offset (pieces text))) ≤ 25 * length t)
-    (joined_pieces-pieces text) (moved_length offset (pieces text) (are_cut-pieces text)).0
+    subst (λ t. length (joined_pieces (shifted_pieces offset (pieces text))) ≤ 25 * length t)
+    (joined_pieces-pieces text) (shifted_length offset (pieces text) (are_cut-pieces text)).0
 
 pub moved-some : (text : List ℕ) (offset : ℤ × ℤ) → 0 < length text →
     0 < length (moved text offset)
 unfolding moved
 moved-some text offset some =
-    (moved_length offset (pieces text) (are_cut-pieces text)).1
+    (shifted_length offset (pieces text) (are_cut-pieces text)).1
     (subst (λ t. 0 < length t) (sym (joined_pieces-pieces text)) some)
 
 -- ---- a text without a reference
@@ -373,7 +371,7 @@ none_first None xs none = (refl, none)
 none_first (Some x) xs none = cc
 
 pub no_reference_stays : (offset : ℤ × ℤ) (ps : List PieceText) → references ps ≡ [] →
-    moved_pieces offset ps ≡ ps
+    shifted_pieces offset ps ≡ ps
 no_reference_stays offset [] none = refl
 no_reference_stays offset (p ∷ ps) none =
     let here = none_first (piece_reference p (first_byte (joined_pieces ps)))

@@ -14,7 +14,7 @@ use Rattle.std.proofs.lemmas.Int.Digits.{number_after_ge}
 use Rattle.std.proofs.lemmas.List.{take_more, take-append-drop, map-append, get_or-take}
 use Rattle.std.proofs.lemmas.List.Folds.{list_all_more, length-prefix_len}
 use Rattle.std.proofs.lemmas.List.Sums.{prefix_len_passes}
-use Rattle.cell_refs.specs.A1.{letter_value, letters_value, column_name}
+use Rattle.cell_refs.specs.Words.{letter_value, letters_value, column_name}
 use Rattle.cell_refs.specs.declared.TheConstants.{MAX_ROWS, MAX_COLUMNS}
 use Rattle.cell_refs.proofs.Names.{letters_value_push, column_name_one, column_name_more}
 use Rattle.formula_shift.specs.References.{place_numbered, column_of_letters, row_of_digits}

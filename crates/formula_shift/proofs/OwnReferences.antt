@@ -1,27 +1,26 @@
 -- The references of a moved text that don't stand behind `!` are those of the text, moved, and
 -- those that leave are left out.
 use Rattle.std.proofs.Common.{◌≡◌, ℕ, ◌⊎◌, ◌&&◌, Bool, true, false, cond, not, List, [], ◌∷◌, ◌++◌}
-use Rattle.std.proofs.Common.{Option, None, Some, sym, refl, ap, ◌∙◌, subst, inl, inr}
-use Rattle.std.proofs.Common.{append-nil}
+use Rattle.std.proofs.Common.{Option, None, Some, sym, refl, ap, ◌∙◌, subst, inl, inr, append-nil}
 use Rattle.std.specs.Prelude.{IfSome, ℤ, option_to_list}
 use Rattle.std.specs.List.{flat_map}
 use Rattle.std.proofs.lemmas.Grind.{flat_map-append}
 use Rattle.formula_shift.specs.declared.reference.Reference.{Reference}
 use Rattle.formula_shift.specs.Areas.{last_byte, is_elsewhere, own_references}
-use Rattle.formula_shift.specs.Pieces.{word_kind, PieceText, is_word_byte, length_behind}
-use Rattle.formula_shift.specs.Pieces.{pieces, joined_pieces}
-use Rattle.formula_shift.specs.References.{IsInWorksheet, word_reference, displaced, spelling}
+use Rattle.formula_shift.specs.Pieces.{word_kind, PieceText, is_word_byte, length_behind, pieces}
+use Rattle.formula_shift.specs.Pieces.{joined_pieces}
+use Rattle.formula_shift.specs.References.{IsInWorksheet, word_reference, shifted, spelling}
 use Rattle.formula_shift.specs.Relocation.{is_word, is_other, is_name_before, first_byte}
 use Rattle.formula_shift.specs.Relocation.{piece_reference, word_of, other_of, lost_pieces, image}
-use Rattle.formula_shift.specs.Relocation.{image_or}
-use Rattle.formula_shift.specs.Relocation.{moved_pieces, moved, before_others, joined_others}
+use Rattle.formula_shift.specs.Relocation.{image_or, shifted_pieces, moved, before_others}
+use Rattle.formula_shift.specs.Relocation.{joined_others}
 use Rattle.formula_shift.proofs.Recutting.{begins, run_stops, word_is, StandsBefore, AreCut}
 use Rattle.formula_shift.proofs.Recutting.{are_cut-pieces}
 use Rattle.formula_shift.proofs.Joining.{other_kind_is, both_true, joined_pieces-joined_others}
-use Rattle.formula_shift.proofs.Spellings.{displaced_inside}
+use Rattle.formula_shift.proofs.Spellings.{shifted_inside}
 use Rattle.formula_shift.proofs.Moving.{piece_reference_word, pieces-moved}
 use Rattle.formula_shift.proofs.ReadBack.{IsFormed}
-use Rattle.formula_shift.proofs.Composing.{displaced_twice, piece_reference_alike}
+use Rattle.formula_shift.proofs.Composing.{shifted_twice, piece_reference_alike}
 use Rattle.formula_shift.proofs.Composing.{piece_reference_formed, piece_reference_spelled}
 use Rattle.formula_shift.proofs.Composing.{name_kept}
 
@@ -88,7 +87,7 @@ own_references-joined_others before (p ∷ ps) =
 
 -- the references that one becomes
 abbrev kept : ℤ × ℤ → Reference → List Reference
-kept d r = option_to_list (displaced d r)
+kept d r = option_to_list (shifted d r)
 
 -- whether the first of some pieces is a Word
 abbrev starts_word : List PieceText → Bool
@@ -124,12 +123,12 @@ lost_none : (before : Option ℕ) (ps : List PieceText) →
 unfolding piece_reference
 lost_none before ps = ap (λ rs. rs ++ own_references (Some 33) ps) (own_none before)
 
-kept_own : (d : ℤ × ℤ) (r : Reference) (a : Option Reference) → displaced d r ≡ a →
+kept_own : (d : ℤ × ℤ) (r : Reference) (a : Option Reference) → shifted d r ≡ a →
     (elsewhere : Bool) →
     flat_map (kept d) (cond elsewhere [] (r ∷ [])) ≡ cond elsewhere [] (option_to_list a)
 kept_own d r a there true = refl
 kept_own d r a there false =
-    append-nil (option_to_list (displaced d r)) ∙ ap (λ o. option_to_list o) there
+    append-nil (option_to_list (shifted d r)) ∙ ap (λ o. option_to_list o) there
 
 -- what stands for a piece, in front of others that have these references
 module _ (d : ℤ × ℤ) (p : PieceText) (behind : Option ℕ) (later : List PieceText)
@@ -158,8 +157,8 @@ module _ (d : ℤ × ℤ) (p : PieceText) (behind : Option ℕ) (later : List Pi
       (piece_reference_word p behind) in
       let formed = subst (λ o. IfSome o (λ r. IsFormed r × (is_name_before behind ≡ false))) is
       (piece_reference_formed p behind) in
-      by_answer (displaced d r) refl known.0 known.1 formed.0 formed.1 where
-        by_answer : (a : Option Reference) → displaced d r ≡ a → IsInWorksheet r →
+      by_answer (shifted d r) refl known.0 known.1 formed.0 formed.1 where
+        by_answer : (a : Option Reference) → shifted d r ≡ a → IsInWorksheet r →
             p.kind ≡ word_kind → IsFormed r → is_name_before behind ≡ false →
             own_references after (image a ++ later)
             ≡ flat_map (kept d) (cond (is_elsewhere before) [] (r ∷ [])) ++ rs
@@ -169,31 +168,31 @@ module _ (d : ℤ × ℤ) (p : PieceText) (behind : Option ℕ) (later : List Pi
             (kept_own d r None there (is_elsewhere before) ∙ own_none before))
         by_answer (Some s) there inside word formed none =
             let inside' : IsInWorksheet s =
-            subst (λ o. IfSome o IsInWorksheet) there (displaced_inside d r inside) in
+            subst (λ o. IfSome o IsInWorksheet) there (shifted_inside d r inside) in
             let spelled : piece_reference (word_of s) (first_byte (joined_pieces later)) ≡ Some s =
             piece_reference_spelled s (first_byte (joined_pieces later)) inside'
-            (displaced_twice d d r s there formed).0 (sym alike ∙ none) in
+            (shifted_twice d d r s there formed).0 (sym alike ∙ none) in
             (λ i. own after (spelled i) ++ behind_word word (last_byte after (spelling s)) i)
             ∙ sym (ap (λ first. first ++ rs)
             (kept_own d r (Some s) there (is_elsewhere before)
             ∙ ap (λ elsewhere. cond elsewhere [] (s ∷ [])) (stand_word word)))
 
-own_references-moved_pieces : (d : ℤ × ℤ) (before after : Option ℕ) (ps : List PieceText) →
+own_references-shifted_pieces : (d : ℤ × ℤ) (before after : Option ℕ) (ps : List PieceText) →
     AreCut ps → StandAlike before after ps →
-    own_references after (moved_pieces d ps) ≡ flat_map (kept d) (own_references before ps)
-own_references-moved_pieces d before after [] cut alike = refl
-own_references-moved_pieces d before after (p ∷ ps) cut alike =
+    own_references after (shifted_pieces d ps) ≡ flat_map (kept d) (own_references before ps)
+own_references-shifted_pieces d before after [] cut alike = refl
+own_references-shifted_pieces d before after (p ∷ ps) cut alike =
     let behind = first_byte (joined_pieces ps) in
     let o = piece_reference p behind in
     let last = last_byte before p.bytes in
     let rs = flat_map (kept d) (own_references last ps) in
-    let behind_piece : own_references (last_byte after p.bytes) (moved_pieces d ps) ≡ rs =
-    own_references-moved_pieces d last (last_byte after p.bytes) ps cut.1
+    let behind_piece : own_references (last_byte after p.bytes) (shifted_pieces d ps) ≡ rs =
+    own_references-shifted_pieces d last (last_byte after p.bytes) ps cut.1
     (inl (ap is_elsewhere (last_own p (joined_pieces ps) before after cut.0))) in
     let behind_word : p.kind ≡ word_kind → (b : Option ℕ) →
-    own_references b (moved_pieces d ps) ≡ rs =
-    λ word b. own_references-moved_pieces d last b ps cut.1 (inr (apart p ps word cut)) in
-    front_own d p behind (moved_pieces d ps) before after rs (name_kept d ps cut.1) alike
+    own_references b (shifted_pieces d ps) ≡ rs =
+    λ word b. own_references-shifted_pieces d last b ps cut.1 (inr (apart p ps word cut)) in
+    front_own d p behind (shifted_pieces d ps) before after rs (name_kept d ps cut.1) alike
     behind_piece behind_word o refl
     ∙ sym (flat_map-append (kept d) (own before o) (own_references last ps))
 
@@ -202,5 +201,5 @@ pub own_references-moved : (text : List ℕ) (offset : ℤ × ℤ) →
     ≡ flat_map (kept offset) (own_references None (pieces text))
 own_references-moved text offset =
     ap (own_references None) (pieces-moved text offset)
-    ∙ own_references-joined_others None (moved_pieces offset (pieces text))
-    ∙ own_references-moved_pieces offset None None (pieces text) (are_cut-pieces text) (inl refl)
+    ∙ own_references-joined_others None (shifted_pieces offset (pieces text))
+    ∙ own_references-shifted_pieces offset None None (pieces text) (are_cut-pieces text) (inl refl)

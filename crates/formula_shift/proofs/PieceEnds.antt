@@ -1,7 +1,6 @@
 -- A text that is known to begin with a piece of so many bytes, and the places behind its pieces.
 use Rattle.std.proofs.Common.{◌≡◌, ℕ, suc, ◌+◌, ◌-◌, ◌<◌, ◌≤◌, List, [], ◌∷◌, length, get_or, take}
-use Rattle.std.proofs.Common.{drop}
-use Rattle.std.proofs.Common.{Some, IsUtf8, sym, refl, ap, ◌∙◌, subst, arith, add-one}
+use Rattle.std.proofs.Common.{drop, Some, IsUtf8, sym, refl, ap, ◌∙◌, subst, arith, add-one}
 use Rattle.std.proofs.Common.{length-append}
 use Rattle.std.specs.Str.{IsCharBoundary}
 use Rattle.std.proofs.Math.Seq.{drop-cons}
@@ -9,8 +8,8 @@ use Rattle.std.specs.Prelude.{All}
 use Rattle.std.proofs.lemmas.List.{length-take-le, drop-drop}
 use Rattle.std.proofs.lemmas.List.Elements.{All-nil, All-cons}
 use Rattle.std.proofs.lemmas.Str.{IsUtf8-drop, IsCharBoundary-from_rest}
-use Rattle.formula_shift.specs.Pieces.{PieceText, piece_kind, length_behind, pieces}
-use Rattle.formula_shift.specs.Pieces.{joined_pieces, first_size, piece_ends}
+use Rattle.formula_shift.specs.Pieces.{PieceText, piece_kind, length_behind, pieces, joined_pieces}
+use Rattle.formula_shift.specs.Pieces.{first_size, piece_ends}
 use Rattle.formula_shift.proofs.Cutting.{pieces-nil, pieces-cons, length_behind-le}
 use Rattle.formula_shift.proofs.Cutting.{boundary_behind_piece, next_pieces, joined_pieces-pieces}
 

@@ -8,14 +8,13 @@ use Rattle.std.specs.Str.Parse.{digits_value}
 use Rattle.std.proofs.lemmas.Bool.{cases_Bool}
 use Rattle.std.proofs.lemmas.Bool.Decides.{nat_tests}
 use Rattle.std.proofs.lemmas.List.Sums.{take_while-cons}
-use Rattle.cell_refs.specs.A1.{letters_value, letters_of, behind_letters}
-use Rattle.cell_refs.specs.A1.{corner}
+use Rattle.cell_refs.specs.Words.{letters_value, letters_of, behind_letters, corner}
 use Rattle.cell_refs.proofs.PositionParts.{WritesRow, WritesColumn, corner-ok, corner_from-written}
 use Rattle.cell_refs.proofs.ReadBack.{corner_from_parts}
 use Rattle.formula_shift.specs.declared.corner.Corner.TheVariants.{Cell, Row, Column}
 use Rattle.formula_shift.specs.References.{place_numbered, column_of_letters, row_of_digits}
-use Rattle.formula_shift.specs.References.{has_dollar}
-use Rattle.formula_shift.specs.References.{behind_dollar, cell_corner, corner_by, corner_of}
+use Rattle.formula_shift.specs.References.{has_dollar, behind_dollar, cell_corner, corner_by}
+use Rattle.formula_shift.specs.References.{corner_of}
 use Rattle.formula_shift.proofs.Composing.{cell_parts, mapped_part}
 use Rattle.formula_shift.proofs.ReadBack.{place_numbered_next}
 

@@ -1,7 +1,7 @@
 -- The canonical spelling of a reference reads back as that reference.
-use Rattle.std.proofs.Common.{◌≡◌, ℕ, suc, ◌+◌, ◌<◌, ◌&&◌, Bool, true, false, cond, not}
-use Rattle.std.proofs.Common.{eqb, ltb, List, [], ◌∷◌, ◌++◌, length, take, drop, Option, None, Some}
-use Rattle.std.proofs.Common.{sym, refl, ap, ◌∙◌, arith, add-one, append_assoc, append-nil}
+use Rattle.std.proofs.Common.{◌≡◌, ℕ, suc, ◌+◌, ◌<◌, ◌&&◌, Bool, true, false, cond, not, eqb, ltb}
+use Rattle.std.proofs.Common.{List, [], ◌∷◌, ◌++◌, length, take, drop, Option, None, Some, sym}
+use Rattle.std.proofs.Common.{refl, ap, ◌∙◌, arith, add-one, append_assoc, append-nil}
 use Rattle.std.proofs.Common.{length-append}
 use Rattle.std.specs.Prelude.{All, IfSome, decimal, option_map, position, ◌==◌}
 use Rattle.std.specs.Char.{is_ascii_digit, is_ascii_alphabetic}
@@ -12,7 +12,7 @@ use Rattle.std.proofs.lemmas.Fmt.{decimal_is_IsNumeral, decimal_nonempty}
 use Rattle.std.proofs.lemmas.List.{take_at, drop_at, drop-drop}
 use Rattle.std.proofs.lemmas.List.Elements.{All-head, All-tail}
 use Rattle.std.proofs.lemmas.List.Folds.{list_all-append}
-use Rattle.cell_refs.specs.A1.{IsCapital, letters_of, behind_letters, letters_value, column_name}
+use Rattle.cell_refs.specs.Words.{IsCapital, letters_of, behind_letters, letters_value, column_name}
 use Rattle.cell_refs.specs.declared.TheConstants.{MAX_ROWS, MAX_COLUMNS}
 use Rattle.cell_refs.proofs.References.{digits-decimal}
 use Rattle.cell_refs.proofs.Names.{letters_value-column_name, All-capital-column_name}
@@ -20,11 +20,10 @@ use Rattle.formula_shift.specs.declared.corner.Corner.{Corner}
 use Rattle.formula_shift.specs.declared.corner.Corner.TheVariants.{Cell, Row, Column}
 use Rattle.formula_shift.specs.declared.reference.Reference.{Reference}
 use Rattle.formula_shift.specs.References.{place_numbered, column_of_letters, row_of_digits}
-use Rattle.formula_shift.specs.References.{has_dollar}
-use Rattle.formula_shift.specs.References.{behind_dollar, cell_corner, corner_by, corner_of, alone}
-use Rattle.formula_shift.specs.References.{same_kind, range_of, reference_by, word_reference}
-use Rattle.formula_shift.specs.References.{IsCornerInside, IsInWorksheet, dollar, corner_spelling}
-use Rattle.formula_shift.specs.References.{second_spelling, spelling}
+use Rattle.formula_shift.specs.References.{has_dollar, behind_dollar, cell_corner, corner_by}
+use Rattle.formula_shift.specs.References.{corner_of, alone, same_kind, range_of, reference_by}
+use Rattle.formula_shift.specs.References.{word_reference, IsCornerInside, IsInWorksheet, dollar}
+use Rattle.formula_shift.specs.References.{corner_spelling, second_spelling, spelling}
 use Rattle.formula_shift.proofs.Recutting.{begins}
 use Rattle.formula_shift.proofs.Moving.{run_is}
 

@@ -1,17 +1,15 @@
 -- Pieces that are cut alike: where each piece ends, whatever follows that begins alike.
 use Rattle.std.proofs.Common.{◌≡◌, ℕ, zero, suc, ◌<◌, ◌⊎◌, Bool, true, false, cond, not, ◌||◌, eqb}
-use Rattle.std.proofs.Common.{List, [], ◌∷◌, ◌++◌, length, take, drop}
-use Rattle.std.proofs.Common.{Option, None, Some, sym, refl}
-use Rattle.std.proofs.Common.{ap, ◌∙◌, subst, inl, inr, arith}
+use Rattle.std.proofs.Common.{List, [], ◌∷◌, ◌++◌, length, take, drop, Option, None, Some, sym}
+use Rattle.std.proofs.Common.{refl, ap, ◌∙◌, subst, inl, inr, arith}
 use Rattle.std.proofs.lemmas.Bool.{cases_eq}
 use Rattle.std.proofs.lemmas.Bool.Decides.{nat_tests}
 use Rattle.std.proofs.lemmas.List.{take-append-drop, length-take-le, take_at, drop_at}
 use Rattle.std.specs.List.{prefix_len, list_all}
 use Rattle.formula_shift.specs.Pieces.{PieceKind, string_kind, quoted_kind, group_kind, word_kind}
 use Rattle.formula_shift.specs.Pieces.{other_kind, PieceText, piece_kind, string_length}
-use Rattle.formula_shift.specs.Pieces.{quoted_length}
-use Rattle.formula_shift.specs.Pieces.{group_length, is_word_byte, is_other_byte, length_behind}
-use Rattle.formula_shift.specs.Pieces.{pieces_behind, pieces, joined_pieces}
+use Rattle.formula_shift.specs.Pieces.{quoted_length, group_length, is_word_byte, is_other_byte}
+use Rattle.formula_shift.specs.Pieces.{length_behind, pieces_behind, pieces, joined_pieces}
 use Rattle.formula_shift.specs.Relocation.{is_word, is_other}
 use Rattle.formula_shift.proofs.Cutting.{length_behind-le, joined_pieces-pieces_behind, pieces-nil}
 use Rattle.formula_shift.proofs.Cutting.{pieces-cons}

@@ -12,7 +12,7 @@ use Rattle.std.proofs.lemmas.Bool.Decides.{nat_tests}
 use Rattle.std.proofs.lemmas.List.Elements.{All-head, All-tail}
 use Rattle.std.proofs.lemmas.List.Folds.{list_all-append}
 use Rattle.std.proofs.lemmas.Fmt.{decimal_by_steps, decimal_nonempty, length-decimal-le}
-use Rattle.cell_refs.specs.A1.{IsCapital, letters_of, behind_letters, column_name, letters_value}
+use Rattle.cell_refs.specs.Words.{IsCapital, letters_of, behind_letters, column_name, letters_value}
 use Rattle.cell_refs.specs.declared.TheConstants.{MAX_ROWS, MAX_COLUMNS}
 use Rattle.cell_refs.proofs.Names.{letters_value-column_name, All-capital-column_name}
 use Rattle.formula_shift.specs.declared.corner.Corner.{Corner}
@@ -22,13 +22,12 @@ use Rattle.formula_shift.specs.Pieces.{is_word_byte}
 use Rattle.formula_shift.proofs.Numbers.{length-column_name_one, length-column_name_two}
 use Rattle.formula_shift.proofs.Numbers.{length-column_name_three}
 use Rattle.formula_shift.specs.References.{place_numbered, column_of_letters, row_of_digits}
-use Rattle.formula_shift.specs.References.{has_dollar}
-use Rattle.formula_shift.specs.References.{behind_dollar, cell_corner, corner_by, corner_of, alone}
-use Rattle.formula_shift.specs.References.{same_kind, range_of, reference_by, word_reference}
-use Rattle.formula_shift.specs.References.{IsCornerInside, IsInWorksheet, place_within}
-use Rattle.formula_shift.specs.References.{displaced_place, displaced_corner, both_corners}
-use Rattle.formula_shift.specs.References.{displaced_by, displaced, dollar, corner_spelling}
-use Rattle.formula_shift.specs.References.{second_spelling, spelling}
+use Rattle.formula_shift.specs.References.{has_dollar, behind_dollar, cell_corner, corner_by}
+use Rattle.formula_shift.specs.References.{corner_of, alone, same_kind, range_of, reference_by}
+use Rattle.formula_shift.specs.References.{word_reference, IsCornerInside, IsInWorksheet}
+use Rattle.formula_shift.specs.References.{place_within, shifted_place, shifted_corner}
+use Rattle.formula_shift.specs.References.{both_corners, shifted_by, shifted, dollar}
+use Rattle.formula_shift.specs.References.{corner_spelling, second_spelling, spelling}
 
 -- places are below their limit
 place_numbered_below : (limit number : ℕ) → IfSome (place_numbered limit number) (λ n. n < limit)
@@ -39,10 +38,10 @@ place_within_below : (limit : ℕ) (z : ℤ) → IfSome (place_within limit z) (
 place_within_below limit (pos n) = grind (arith, nat_tests)
 place_within_below limit (negsuc n) = tt
 
-displaced_place_below : (limit : ℕ) (offset : ℤ) (absolute : Bool) (place : ℕ) → place < limit →
-    IfSome (displaced_place limit offset absolute place) (λ n. n < limit)
-displaced_place_below limit offset true place below = below
-displaced_place_below limit offset false place below = place_within_below limit _
+shifted_place_below : (limit : ℕ) (offset : ℤ) (absolute : Bool) (place : ℕ) → place < limit →
+    IfSome (shifted_place limit offset absolute place) (λ n. n < limit)
+shifted_place_below limit offset true place below = below
+shifted_place_below limit offset false place below = place_within_below limit _
 
 row_of_digits_below : (digits : List ℕ) → IfSome (row_of_digits digits) (λ n. n < MAX_ROWS)
 row_of_digits_below digits =
@@ -113,21 +112,21 @@ pub word_reference_inside : (word : List ℕ) → IfSome (word_reference word) I
 unfolding word_reference
 word_reference_inside word = reference_by_inside (position (λ b. b == 58) word) word
 
-displaced_corner_inside : (offset : ℤ × ℤ) (corner : Corner) → IsCornerInside corner →
-    IfSome (displaced_corner offset corner) IsCornerInside
-displaced_corner_inside offset (Cell row col absolute_row absolute_col) inside =
-    cell_inside absolute_row absolute_col (displaced_place MAX_ROWS offset.0 absolute_row row)
-    (displaced_place MAX_COLUMNS offset.1 absolute_col col)
-    (displaced_place_below MAX_ROWS offset.0 absolute_row row inside.0)
-    (displaced_place_below MAX_COLUMNS offset.1 absolute_col col inside.1)
-displaced_corner_inside offset (Row row absolute) inside =
+shifted_corner_inside : (offset : ℤ × ℤ) (corner : Corner) → IsCornerInside corner →
+    IfSome (shifted_corner offset corner) IsCornerInside
+shifted_corner_inside offset (Cell row col absolute_row absolute_col) inside =
+    cell_inside absolute_row absolute_col (shifted_place MAX_ROWS offset.0 absolute_row row)
+    (shifted_place MAX_COLUMNS offset.1 absolute_col col)
+    (shifted_place_below MAX_ROWS offset.0 absolute_row row inside.0)
+    (shifted_place_below MAX_COLUMNS offset.1 absolute_col col inside.1)
+shifted_corner_inside offset (Row row absolute) inside =
     mapped_inside (λ moved. Row moved absolute) MAX_ROWS (λ n h. h)
-    (displaced_place MAX_ROWS offset.0 absolute row)
-    (displaced_place_below MAX_ROWS offset.0 absolute row inside)
-displaced_corner_inside offset (Column col absolute) inside =
+    (shifted_place MAX_ROWS offset.0 absolute row)
+    (shifted_place_below MAX_ROWS offset.0 absolute row inside)
+shifted_corner_inside offset (Column col absolute) inside =
     mapped_inside (λ moved. Column moved absolute) MAX_COLUMNS (λ n h. h)
-    (displaced_place MAX_COLUMNS offset.1 absolute col)
-    (displaced_place_below MAX_COLUMNS offset.1 absolute col inside)
+    (shifted_place MAX_COLUMNS offset.1 absolute col)
+    (shifted_place_below MAX_COLUMNS offset.1 absolute col inside)
 
 first_inside : (o : Option Corner) → IfSome o IsCornerInside →
     IfSome (option_map (λ moved. record { first = moved; second = None }) o) IsInWorksheet
@@ -140,21 +139,21 @@ both_inside (Some first) (Some second) inside inside' = (inside, inside')
 both_inside (Some first) None inside inside' = tt
 both_inside None second inside inside' = tt
 
-displaced_by_inside : (offset : ℤ × ℤ) (first : Corner) (second : Option Corner) →
+shifted_by_inside : (offset : ℤ × ℤ) (first : Corner) (second : Option Corner) →
     IsCornerInside first → IfSome second IsCornerInside →
-    IfSome (displaced_by offset first second) IsInWorksheet
-displaced_by_inside offset first None inside inside' =
-    first_inside (displaced_corner offset first) (displaced_corner_inside offset first inside)
-displaced_by_inside offset first (Some second) inside inside' =
-    both_inside (displaced_corner offset first) (displaced_corner offset second)
-    (displaced_corner_inside offset first inside) (displaced_corner_inside offset second inside')
+    IfSome (shifted_by offset first second) IsInWorksheet
+shifted_by_inside offset first None inside inside' =
+    first_inside (shifted_corner offset first) (shifted_corner_inside offset first inside)
+shifted_by_inside offset first (Some second) inside inside' =
+    both_inside (shifted_corner offset first) (shifted_corner offset second)
+    (shifted_corner_inside offset first inside) (shifted_corner_inside offset second inside')
 
 -- a reference inside, moved, is inside
-pub displaced_inside : (offset : ℤ × ℤ) (reference : Reference) → IsInWorksheet reference →
-    IfSome (displaced offset reference) IsInWorksheet
-unfolding displaced
-displaced_inside offset reference inside =
-    displaced_by_inside offset reference.first reference.second inside.0 inside.1
+pub shifted_inside : (offset : ℤ × ℤ) (reference : Reference) → IsInWorksheet reference →
+    IfSome (shifted offset reference) IsInWorksheet
+unfolding shifted
+shifted_inside offset reference inside =
+    shifted_by_inside offset reference.first reference.second inside.0 inside.1
 
 -- ---- spelling
 

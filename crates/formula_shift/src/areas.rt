@@ -2,7 +2,7 @@
 ghost use Rattle.std.specs.Prelude.{◌≡◌, true};
 ghost use Rattle.formula_shift.specs.References.{IsInWorksheet};
 ghost use Rattle.formula_shift.specs.Areas.{first_named, last_named, area_between, area_named};
-ghost use Rattle.cell_refs.specs.Positions.{is_sheet_area};
+ghost use Rattle.cell_refs.specs.Words.{is_sheet_area};
 
 use crate::corner::Corner;
 use crate::reference::Reference;

@@ -3,11 +3,10 @@ ghost use Rattle.std.specs.Prelude.{string_bytes, string_len, string_capacity};
 ghost use Rattle.std.specs.List.{AllPass, prefix_len};
 ghost use Rattle.std.specs.Char.{is_ascii_alphabetic};
 ghost use Rattle.formula_shift.specs.References.{corner_of, corner_by, column_of_letters};
-ghost use Rattle.formula_shift.specs.References.{row_of_digits};
-ghost use Rattle.formula_shift.specs.References.{has_dollar, behind_dollar, same_kind};
-ghost use Rattle.formula_shift.specs.References.{displaced_place, displaced_corner};
+ghost use Rattle.formula_shift.specs.References.{row_of_digits, has_dollar, behind_dollar};
+ghost use Rattle.formula_shift.specs.References.{same_kind, shifted_place, shifted_corner};
 ghost use Rattle.formula_shift.specs.References.{corner_spelling, IsCornerInside};
-ghost use Rattle.cell_refs.specs.A1.{letters_of, behind_letters};
+ghost use Rattle.cell_refs.specs.Words.{letters_of, behind_letters};
 
 use crate::spelling::{column_len, push_column, push_row, row_len};
 use cell_refs::{MAX_COLUMNS, MAX_ROWS};
@@ -63,9 +62,9 @@ impl Corner {
         }
     }
 
-    pub(crate) fn displaced(self, offset: (i64, i64)) -> Option<Corner>
+    pub(crate) fn shifted(self, offset: (i64, i64)) -> Option<Corner>
         requires { IsCornerInside self }
-        ensures value { result ≡ displaced_corner offset self }
+        ensures value { result ≡ shifted_corner offset self }
         ensures inside { IfSome result IsCornerInside }
     {
         match self {
@@ -75,8 +74,8 @@ impl Corner {
                 absolute_row,
                 absolute_col,
             } => {
-                let row = displaced_place(MAX_ROWS, offset.0, absolute_row, row)?;
-                let col = displaced_place(MAX_COLUMNS, offset.1, absolute_col, col)?;
+                let row = shifted_place(MAX_ROWS, offset.0, absolute_row, row)?;
+                let col = shifted_place(MAX_COLUMNS, offset.1, absolute_col, col)?;
                 Some(Corner::Cell {
                     row,
                     col,
@@ -85,11 +84,11 @@ impl Corner {
                 })
             }
             Corner::Row { row, absolute } => {
-                let row = displaced_place(MAX_ROWS, offset.0, absolute, row)?;
+                let row = shifted_place(MAX_ROWS, offset.0, absolute, row)?;
                 Some(Corner::Row { row, absolute })
             }
             Corner::Column { col, absolute } => {
-                let col = displaced_place(MAX_COLUMNS, offset.1, absolute, col)?;
+                let col = shifted_place(MAX_COLUMNS, offset.1, absolute, col)?;
                 Some(Corner::Column { col, absolute })
             }
         }
@@ -142,8 +141,8 @@ impl Corner {
 }
 
 /// A place with a `$` stays, another one is added the offset; `None` where it leaves the limit.
-fn displaced_place(limit: u32, offset: i64, absolute: bool, place: u32) -> Option<u32>
-    ensures { result ≡ displaced_place limit offset absolute place }
+fn shifted_place(limit: u32, offset: i64, absolute: bool, place: u32) -> Option<u32>
+    ensures { result ≡ shifted_place limit offset absolute place }
 {
     if absolute {
         return Some(place);

@@ -1,9 +1,8 @@
-ghost use Rattle.std.specs.Prelude.{◌≡◌, ◌+◌, ◌<◌, ◌≤◌, ◌++◌, [], length, IfOk, OnOk};
-ghost use Rattle.std.specs.Prelude.{OnErr, IsOk, string_bytes, string_len, string_capacity};
+ghost use Rattle.std.specs.Prelude.{◌≡◌, ◌+◌, ◌<◌, ◌≤◌, ◌++◌, [], length, IfOk, OnOk, OnErr, IsOk};
+ghost use Rattle.std.specs.Prelude.{string_bytes, string_len, string_capacity};
 ghost use Rattle.formula_shift.specs.Pieces.{piece_text, joined_pieces};
-ghost use Rattle.formula_shift.specs.MovedReference.{pieces_found, IsFoundInside};
-ghost use Rattle.formula_shift.specs.Relocation.{offset_between, first_byte};
-ghost use Rattle.formula_shift.specs.Relocation.{moved_piece, moved};
+ghost use Rattle.formula_shift.specs.ShiftedReference.{pieces_found, IsFoundInside};
+ghost use Rattle.formula_shift.specs.Relocation.{offset_between, first_byte, shifted_piece, moved};
 
 use crate::piece::{Piece, Pieces, first_byte};
 use crate::reference::Reference;
@@ -13,7 +12,7 @@ use std::alloc::{AllocError, Global};
 const LOST: &str = "#REF!";
 
 /// What a piece is where a formula is moved.
-enum MovedReference {
+enum ShiftedReference {
     NoReference,
     Moved(Reference),
     /// A reference of which a part leaves the worksheet.
@@ -81,7 +80,7 @@ pub fn expanded_len(formula: &str, start: (u32, u32), end: (u32, u32)) -> u128
     let mut len = 0u128;
     let mut pieces = Pieces::new(formula);
     while let Some(piece) = pieces.next() {
-        len += moved_len(piece, pieces.as_str(), offset) as u128;
+        len += shifted_len(piece, pieces.as_str(), offset) as u128;
     }
     len
 }
@@ -120,44 +119,44 @@ pub(crate) fn push_piece(
     offset: (i64, i64),
 ) -> Result<(), AllocError>
     ensures ok { OnOk result (string_bytes out.new ≡ string_bytes out.old ++ joined_pieces
-        (moved_piece offset (piece_text piece.entry) (first_byte rest.now))) }
+        (shifted_piece offset (piece_text piece.entry) (first_byte rest.now))) }
     ensures len { OnOk result (string_len out.new ≡ string_len out.old + length (joined_pieces
-        (moved_piece offset (piece_text piece.entry) (first_byte rest.now)))) }
+        (shifted_piece offset (piece_text piece.entry) (first_byte rest.now)))) }
     ensures capacity { string_capacity out.old ≤ string_capacity out.new }
     ensures full { OnErr result (string_capacity out.old < string_len out.old + length
-        (joined_pieces (moved_piece offset (piece_text piece.entry) (first_byte rest.now)))) }
+        (joined_pieces (shifted_piece offset (piece_text piece.entry) (first_byte rest.now)))) }
 {
-    match moved_reference(piece, rest, offset) {
-        MovedReference::NoReference => out.push_str(piece.as_str())?,
-        MovedReference::Moved(reference) => reference.push_to(out)?,
-        MovedReference::Leaves => out.push_str(LOST)?,
+    match shifted_reference(piece, rest, offset) {
+        ShiftedReference::NoReference => out.push_str(piece.as_str())?,
+        ShiftedReference::Moved(reference) => reference.push_to(out)?,
+        ShiftedReference::Leaves => out.push_str(LOST)?,
     }
     Ok(())
 }
 
 /// How many bytes `push_piece` appends.
-fn moved_len(piece: Piece<'_>, rest: &str, offset: (i64, i64)) -> usize
+fn shifted_len(piece: Piece<'_>, rest: &str, offset: (i64, i64)) -> usize
     ensures { result ≡ length (joined_pieces
-        (moved_piece offset (piece_text piece.entry) (first_byte rest.now))) }
+        (shifted_piece offset (piece_text piece.entry) (first_byte rest.now))) }
 {
-    match moved_reference(piece, rest, offset) {
-        MovedReference::NoReference => piece.as_str().len(),
-        MovedReference::Moved(reference) => reference.spelled_len(),
-        MovedReference::Leaves => LOST.len(),
+    match shifted_reference(piece, rest, offset) {
+        ShiftedReference::NoReference => piece.as_str().len(),
+        ShiftedReference::Moved(reference) => reference.spelled_len(),
+        ShiftedReference::Leaves => LOST.len(),
     }
 }
 
 /// The reference that a piece is, moved, where it is one that stays in the worksheet.
-fn moved_reference(piece: Piece<'_>, rest: &str, offset: (i64, i64)) -> MovedReference
+fn shifted_reference(piece: Piece<'_>, rest: &str, offset: (i64, i64)) -> ShiftedReference
     ensures pieces { pieces_found (piece_text piece.entry) result
-        ≡ moved_piece offset (piece_text piece.entry) (first_byte rest.now) }
+        ≡ shifted_piece offset (piece_text piece.entry) (first_byte rest.now) }
     ensures inside { IsFoundInside result }
 {
     let Some(reference) = piece.reference(first_byte(rest)) else {
-        return MovedReference::NoReference;
+        return ShiftedReference::NoReference;
     };
-    match reference.displaced(offset) {
-        Some(moved) => MovedReference::Moved(moved),
-        None => MovedReference::Leaves,
+    match reference.shifted(offset) {
+        Some(moved) => ShiftedReference::Moved(moved),
+        None => ShiftedReference::Leaves,
     }
 }

@@ -2,13 +2,12 @@ ghost use Rattle.std.specs.Prelude.{◌≡◌, ◌↔◌, ℕ, false, Some, Ok, 
 ghost use Rattle.std.specs.Prelude.{◌++◌, List, ℤ, length, drop, encode_utf8};
 ghost use Rattle.formula_shift.specs.Pieces.{piece_kind, group_length, length_behind, first_piece};
 ghost use Rattle.formula_shift.specs.Pieces.{pieces, joined_pieces};
-ghost use Rattle.cell_refs.specs.A1.{column_name, corner};
-ghost use Rattle.cell_refs.specs.Reference.{reference, row_reference};
+ghost use Rattle.cell_refs.specs.Words.{column_name, corner, reference, row_reference};
 ghost use Rattle.formula_shift.specs.References.{corner_of, corner_spelling, word_reference};
 ghost use Rattle.formula_shift.specs.References.{spelling};
-ghost use Rattle.formula_shift.specs.Relocation.{NoneLeaves, offset_between, moved_pieces};
+ghost use Rattle.formula_shift.specs.Relocation.{NoneLeaves, offset_between, shifted_pieces};
 ghost use Rattle.formula_shift.specs.Relocation.{joined_others, references, moved};
-ghost use Rattle.formula_shift.specs.Relocation.{moved_references};
+ghost use Rattle.formula_shift.specs.Relocation.{shifted_references};
 
 use crate::Corner;
 
@@ -33,16 +32,16 @@ pub fn apostrophe_takes_a_character(c: char)
 
 /// A moved text is cut into the pieces of the text, where each reference is replaced by the Word
 /// that spells it moved, or by the pieces of `#REF!`, and neighbouring Other pieces are one.
-pub fn moved_text_is_cut_into_the_moved_pieces()
+pub fn shifted_text_is_cut_into_the_shifted_pieces()
     ensures { (text : List ℕ) (offset : ℤ × ℤ) →
-        pieces (moved text offset) ≡ joined_others (moved_pieces offset (pieces text)) }
+        pieces (moved text offset) ≡ joined_others (shifted_pieces offset (pieces text)) }
 {}
 
 /// The references of a moved text are those of the text, moved, in order. Those that leave the
 /// worksheet are left out, and `#REF!` has none.
-pub fn references_of_a_moved_text_are_moved()
+pub fn references_of_a_shifted_text_are_shifted()
     ensures { (text : List ℕ) (offset : ℤ × ℤ) →
-        references (pieces (moved text offset)) ≡ moved_references text offset }
+        references (pieces (moved text offset)) ≡ shifted_references text offset }
 {}
 
 /// A text without a reference is its own expansion.

@@ -2,7 +2,7 @@ ghost use Rattle.std.specs.Prelude.{◌≡◌, ◌==◌, ◌+◌, ◌<◌, ◌�
 ghost use Rattle.std.specs.Prelude.{Some, OnOk, OnErr, is_ok, position, string_bytes, string_len};
 ghost use Rattle.std.specs.Prelude.{string_capacity};
 ghost use Rattle.formula_shift.specs.References.{word_reference, alone, range_of, same_kind};
-ghost use Rattle.formula_shift.specs.References.{displaced, spelling, IsInWorksheet};
+ghost use Rattle.formula_shift.specs.References.{shifted, spelling, IsInWorksheet};
 
 use crate::corner::Corner;
 use std::alloc::AllocError;
@@ -32,15 +32,15 @@ impl Reference {
     }
 
     /// The reference moved by rows and columns; `None` where a part would leave the worksheet.
-    #[tactic(auto, unfolding(crate::specs::References::displaced))]
-    pub fn displaced(self, offset: (i64, i64)) -> Option<Reference>
+    #[tactic(auto, unfolding(crate::specs::References::shifted))]
+    pub fn shifted(self, offset: (i64, i64)) -> Option<Reference>
         requires { IsInWorksheet self }
-        ensures value { result ≡ displaced offset self }
+        ensures value { result ≡ shifted offset self }
         ensures inside { IfSome result IsInWorksheet }
     {
-        let first = self.first.displaced(offset)?;
+        let first = self.first.shifted(offset)?;
         let second = match self.second {
-            Some(corner) => Some(corner.displaced(offset)?),
+            Some(corner) => Some(corner.shifted(offset)?),
             None => None,
         };
         Some(Reference { first, second })

@@ -1,6 +1,6 @@
 ghost use Rattle.std.specs.Prelude.{◌≡◌, ◌+◌, ◌<◌, ◌≤◌, ◌++◌, length, decimal, OnOk, OnErr};
 ghost use Rattle.std.specs.Prelude.{string_bytes, string_len, string_capacity};
-ghost use Rattle.cell_refs.specs.A1.{row_limit, column_limit, column_name};
+ghost use Rattle.cell_refs.specs.Words.{row_limit, column_limit, column_name};
 ghost use Rattle.formula_shift.specs.References.{dollar};
 
 use cell_refs::{push_column_name, push_row_reference};

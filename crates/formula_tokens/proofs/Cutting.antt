@@ -3,11 +3,10 @@ use Rattle.std.proofs.Common.{◌≡◌, ℕ, zero, suc, ◌+◌, ◌<◌, ◌�
 use Rattle.std.proofs.Common.{◌∷◌, length, get_or, drop, IsUtf8, IsTrue, refl, ap, ◌∙◌, sym, subst}
 use Rattle.std.proofs.Common.{add-one, arith, cond, take}
 use Rattle.std.specs.Prelude.{Option, None, Some, MatchOption, option_map}
-use Rattle.std.specs.List.{slice_get}
+use Rattle.std.specs.List.{slice_get, prefix_len}
 use Rattle.std.proofs.lemmas.List.{drop-drop}
 use Rattle.std.proofs.lemmas.Bool.Decides.{same_from_decides, nat_tests}
 use Rattle.std.proofs.lemmas.Slice.Eq.{bytes_eq-Decides}
-use Rattle.std.specs.List.{prefix_len}
 use Rattle.std.specs.Str.{IsCharBoundary, bytes_eq}
 use Rattle.std.proofs.lemmas.List.Sums.{prefix_len-le-length, prefix_len_passes, prefix_len_stops}
 use Rattle.std.proofs.lemmas.Str.{IsCharBoundary-after_ascii, IsCharBoundary-start}

@@ -1,11 +1,11 @@
 -- What a formula mentions, in order: tokens put together.
 use Rattle.std.specs.Prelude.{ℕ, zero, suc, ◌+◌, ◌==◌, ◌||◌, ◌&&◌, not, Bool, true, false}
-use Rattle.std.specs.Prelude.{if◌then◌else◌, List, [], ◌∷◌, ◌++◌, take, drop, codes}
-use Rattle.std.specs.Prelude.{Option, None, Some, position}
+use Rattle.std.specs.Prelude.{if◌then◌else◌, List, [], ◌∷◌, ◌++◌, take, drop, codes, Option, None}
+use Rattle.std.specs.Prelude.{Some, position}
 use Rattle.std.specs.List.{list_all, list_any, slice_get}
 use Rattle.std.specs.Str.{bytes_eq}
 use Rattle.std.specs.Char.{is_ascii_digit}
-use Rattle.formula_shift.specs.References.{corner_of, same_kind}
+use Rattle.formula_shift.specs.Words.{corner_of, same_kind}
 use Rattle.formula_shift.specs.declared.corner.Corner.{Corner}
 use Rattle.formula_shift.specs.declared.corner.Corner.TheVariants.{Cell}
 use Rattle.formula_tokens.specs.Tokens.{TokenText, word, quotes, brackets, lost, failure, literal}
@@ -20,7 +20,7 @@ pub data PlaceText : Type 0 where
   in_book : PlaceText
   elsewhere : List ℕ → PlaceText
 
--- what is named there: cells, by two corners; a reference that is lost; a name; what brackets say
+-- what a mention names: cells, by two corners; a reference that is lost; a name; what brackets say
 -- of a table of a name, or of the one around the formula
 pub data NamedText : Type 0 where
   cells : Corner → Corner → NamedText
@@ -47,13 +47,13 @@ kept_bytes (b ∷ []) = b ∷ []
 kept_bytes (b ∷ c ∷ bs) = if b == 39 then c ∷ kept_bytes bs else b ∷ kept_bytes (c ∷ bs)
 
 -- the sign that a token is, or 0
-abbrev pub sign_of : Option TokenText → ℕ
-sign_of (Some (sign b)) = b
-sign_of _ = 0
+abbrev pub token_sign : Option TokenText → ℕ
+token_sign (Some (sign b)) = b
+token_sign _ = 0
 
 -- the sign that token n is, or 0
 abbrev pub sign_at : ℕ → List TokenText → ℕ
-sign_at n ts = sign_of (slice_get ts n)
+sign_at n ts = token_sign (slice_get ts n)
 
 -- the text of a token that may name a sheet: a word, or a text in apostrophes
 abbrev pub name_of : Option TokenText → Option (List ℕ)
@@ -88,7 +88,7 @@ book_prefix g ts (Some a) (Some b) =
     else (if sign_at 1 ts == 58 && sign_at 3 ts == 33
     then Some (record { place = book_or g (on_sheets a b) a; size = 4 }) else None)
 
--- one sheet, or those around a colon
+-- the place of one sheet, or of the sheets around a colon, by a text and where its colon stands
 abbrev pub parted : List ℕ → Option ℕ → PlaceText
 parted q None = on_sheet (kept_bytes q)
 parted q (Some n) = on_sheets (kept_bytes (take n q)) (kept_bytes (drop (n + 1) q))
@@ -102,7 +102,7 @@ abbrev pub quoted_place : List ℕ → PlaceText
 quoted_place q =
     if is_of_file q then elsewhere (kept_bytes q) else parted q (position (λ b. b == 58) q)
 
--- a corner is a cell
+-- there is a corner, and it is a cell, no whole row or column
 abbrev pub is_cell : Option Corner → Bool
 is_cell (Some (Cell row col absolute_row absolute_col)) = true
 is_cell _ = false
@@ -149,11 +149,11 @@ abbrev pub begins_number : List ℕ → Bool
 begins_number [] = false
 begins_number (b ∷ bs) = is_ascii_digit b || b == 46
 
--- a word is a number
+-- a word is a number: it begins with a digit or a point, and has only bytes of numbers
 abbrev pub is_number_word : List ℕ → Bool
 is_number_word w = begins_number w && list_all is_number_byte w
 
--- a word is a value: a number or a truth value
+-- a word is a value: a number or a boolean
 abbrev pub is_constant_word : List ℕ → Bool
 is_constant_word w =
     is_number_word w || (is_same_name w (codes "TRUE") || is_same_name w (codes "FALSE"))
@@ -238,7 +238,7 @@ abbrev pub behind_place : PlaceText → ℕ → Option ItemCutText → ItemCutTe
 behind_place place size None = record { item = unread (place_text place); size = size }
 behind_place place size (Some cut) = record { item = cut.item; size = size + 1 + cut.size }
 
--- what a sign is
+-- what a sign is among the items of a formula
 abbrev pub sign_item : ℕ → ItemText
 sign_item b =
     if b == 40 then opens else (if b == 41 then closes else (if b == 58 then colon else apart))
@@ -271,6 +271,6 @@ items_behind n [] = []
 items_behind zero (t ∷ ts) = (first_item t ts).item ∷ items_behind (first_item t ts).size ts
 items_behind (suc n) (t ∷ ts) = items_behind n ts
 
--- the items of a formula
-unfoldable pub items : List ℕ → List ItemText
-items text = items_behind 0 (tokens text)
+-- the items of a formula's text, which its tokens make, in order
+unfoldable pub formula_items : List ℕ → List ItemText
+formula_items text = items_behind 0 (tokens text)

@@ -1,7 +1,7 @@
 -- The tokens of a formula. A text is a list of bytes.
-use Rattle.std.specs.Prelude.{ℕ, zero, suc, ◌≡◌, ◌+◌, ◌==◌, ◌||◌, nat_le, Bool, if◌then◌else◌}
-use Rattle.std.specs.Prelude.{List, [], ◌∷◌, take, drop, length, codes, position}
-use Rattle.std.specs.Prelude.{Option, None, Some, option_map}
+use Rattle.std.specs.Prelude.{ℕ, zero, suc, ◌≡◌, ◌+◌, ◌==◌, ◌||◌, nat_le, Bool, if◌then◌else◌, List}
+use Rattle.std.specs.Prelude.{[], ◌∷◌, take, drop, length, codes, position, Option, None, Some}
+use Rattle.std.specs.Prelude.{option_map}
 use Rattle.std.specs.List.{prefix_len}
 use Rattle.std.specs.Str.{str_eq_ignore_ascii_case}
 use Rattle.std.specs.Char.{is_ascii_alphanumeric}
@@ -28,13 +28,14 @@ is_same_name a b = str_eq_ignore_ascii_case a b
 abbrev pub is_begun_by : List ℕ → List ℕ → Bool
 is_begun_by front text = is_same_name (take (length front) text) front
 
--- ASCII letters and digits, \ . _ $ ?, and all bytes of other characters
+-- a byte of a name: an ASCII letter or digit, one of `\`, `.`, `_`, `$` and `?`, or one of another
+-- character
 abbrev pub is_name_byte : ℕ → Bool
 is_name_byte b =
     is_ascii_alphanumeric b || (b == 92) || (b == 46) || (b == 95) || (b == 36) || (b == 63)
     || nat_le 128 b
 
--- a blank, a tab or a line end
+-- a byte is a blank, a tab or a line end
 abbrev pub is_blank_byte : ℕ → Bool
 is_blank_byte b = (b == 32) || (b == 9) || (b == 10) || (b == 13)
 
@@ -96,14 +97,14 @@ word_cut b bs = record {
 abbrev pub colon_cut : List ℕ → TokenCut
 colon_cut bs = record { token = sign 58; size = prefix_len is_blank_byte bs }
 
--- so many blanks more, or the colon behind them
+-- the token of a blank with so many more behind it: blanks, or the colon behind all of them
 abbrev pub blanks_before : ℕ → List ℕ → TokenCut
 blanks_before n [] = record { token = blank; size = n }
 blanks_before n (b ∷ bs) =
     if b == 58 then record { token = sign 58; size = n + 1 + prefix_len is_blank_byte bs }
     else record { token = blank; size = n }
 
--- blanks; those before a colon belong to it
+-- the token of a blank: blanks, or a colon, to which those before it belong
 abbrev pub blank_cut : List ℕ → TokenCut
 blank_cut bs =
     blanks_before (prefix_len is_blank_byte bs) (behind_blanks bs)
@@ -156,6 +157,6 @@ tokens_behind n [] = []
 tokens_behind zero (b ∷ bs) = (first_cut b bs).token ∷ tokens_behind (first_cut b bs).size bs
 tokens_behind (suc n) (b ∷ bs) = tokens_behind n bs
 
--- the tokens of a formula
+-- the tokens of a formula's text, in order
 unfoldable pub tokens : List ℕ → List TokenText
 tokens text = tokens_behind 0 text

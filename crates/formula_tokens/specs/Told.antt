@@ -89,5 +89,5 @@ abbrev pub cut_told : ItemCut → ItemCutText
 cut_told found = record { item = item_text found.item; size = found.size }
 
 -- the items that an iterator has still to give
-abbrev pub items_left : Items → List ItemText
-items_left it = items_behind 0 (tokens_left it.tokens)
+abbrev pub formula_items_left : Items → List ItemText
+formula_items_left it = items_behind 0 (tokens_left it.tokens)

@@ -1,7 +1,7 @@
 //! The items of a formula, from the left.
 ghost use Rattle.std.specs.Prelude.{◌≡◌};
-ghost use Rattle.formula_tokens.specs.Items.{items};
-ghost use Rattle.formula_tokens.specs.Told.{items_left};
+ghost use Rattle.formula_tokens.specs.Items.{formula_items};
+ghost use Rattle.formula_tokens.specs.Told.{formula_items_left};
 
 use crate::item::Item;
 use crate::token::Tokens;
@@ -15,9 +15,9 @@ pub struct Items<'a> {
 
 impl<'a> Items<'a> {
     /// The items of this formula, of which none was taken yet.
-    #[tactic(auto, unfolding(crate::specs::Items::items))]
+    #[tactic(auto, unfolding(crate::specs::Items::formula_items))]
     pub fn new(formula: &'a str) -> Items<'a>
-        ensures { items_left result ≡ items formula.now }
+        ensures { formula_items_left result ≡ formula_items formula.now }
     {
         Items {
             tokens: Tokens::new(formula),
@@ -27,13 +27,13 @@ impl<'a> Items<'a> {
 
 impl<'a> Iterator for Items<'a> {
     ghost use Rattle.std.specs.Iterator.{YieldsFirstBy, item_count};
-    ghost use Rattle.formula_tokens.specs.Told.{item_text, items_left};
+    ghost use Rattle.formula_tokens.specs.Told.{item_text, formula_items_left};
 
     type Item = Item<'a>;
 
-    ghost next_gives = { YieldsFirstBy item_text items_left };
+    ghost next_gives = { YieldsFirstBy item_text formula_items_left };
 
-    ghost remaining = { item_count items_left };
+    ghost remaining = { item_count formula_items_left };
 
     fn next(&mut self) -> Option<Item<'a>> {
         let first = self.tokens.next()?;

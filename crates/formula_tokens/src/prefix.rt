@@ -1,7 +1,7 @@
 //! The place that tokens begin with.
 ghost use Rattle.std.specs.Prelude.{◌≡◌, ◌==◌, ◌+◌, ◌≤◌, true, false, IfSome, option_map, position};
 ghost use Rattle.std.specs.Option.{option_map_or};
-ghost use Rattle.formula_shift.specs.References.{corner_of};
+ghost use Rattle.formula_shift.specs.Words.{corner_of};
 ghost use Rattle.formula_tokens.specs.Items.{sign_at, name_at, book_or, book_prefix, is_of_file};
 ghost use Rattle.formula_tokens.specs.Items.{parted, quoted_place, is_cell, span_prefix};
 ghost use Rattle.formula_tokens.specs.Items.{word_prefix, quotes_prefix, prefix_of};

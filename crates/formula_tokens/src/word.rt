@@ -1,12 +1,11 @@
 //! What words are, and what stands behind places.
 ghost use Rattle.std.specs.Prelude.{◌≡◌, ◌≤◌, IfSome, option_map, drop};
-ghost use Rattle.formula_shift.specs.References.{corner_of, same_kind};
+ghost use Rattle.formula_shift.specs.Words.{corner_of, same_kind};
 ghost use Rattle.formula_tokens.specs.Items.{is_number_byte, begins_number, is_number_word};
-ghost use Rattle.formula_tokens.specs.Items.{is_constant_word};
-ghost use Rattle.formula_tokens.specs.Items.{corner_at, corners_around, table_or_name};
-ghost use Rattle.formula_tokens.specs.Items.{cell_or_name, brackets_in, word_item, placed_item};
-ghost use Rattle.formula_tokens.specs.Items.{behind_place, sign_item, plain_item, item_by};
-ghost use Rattle.formula_tokens.specs.Items.{first_item};
+ghost use Rattle.formula_tokens.specs.Items.{is_constant_word, corner_at, corners_around};
+ghost use Rattle.formula_tokens.specs.Items.{table_or_name, cell_or_name, brackets_in, word_item};
+ghost use Rattle.formula_tokens.specs.Items.{placed_item, behind_place, sign_item, plain_item};
+ghost use Rattle.formula_tokens.specs.Items.{item_by, first_item};
 ghost use Rattle.formula_tokens.specs.Told.{token_text, tokens_left, name_text, place_told};
 ghost use Rattle.formula_tokens.specs.Told.{prefix_told, cut_told, item_text};
 ghost use Rattle.std.specs.List.{list_all, slice_get};
@@ -55,7 +54,7 @@ fn is_number_word(word: &[u8]) -> bool
     begins_number(word) && all_of_numbers(word)
 }
 
-/// Whether the word is a number or a truth value.
+/// Whether the word is a number or a boolean.
 fn is_constant_word(word: &[u8]) -> bool
     ensures { result ≡ is_constant_word word.now }
 {

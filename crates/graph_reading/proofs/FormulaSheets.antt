@@ -4,17 +4,15 @@ use Rattle.std.proofs.Common.{refl, ap, subst, arith, cond, Bool, Option, Some, 
 use Rattle.std.specs.Prelude.{nat_lt, option_map, string_bytes}
 use Rattle.std.proofs.lemmas.List.{length-map}
 use Rattle.std.proofs.lemmas.List.Elements.{filter-append}
-use Rattle.cell_refs.specs.Positions.{last_of_each}
+use Rattle.cell_refs.specs.Words.{last_of_each}
 use Rattle.cell_refs.specs.declared.dimensions.Dimensions.{Dimensions}
-use Rattle.part_events.specs.Package.{Part}
-use Rattle.xlsx_parts.specs.PartSaid.{all_said, put_together}
-use Rattle.xlsx_parts.specs.SheetPaths.{SheetPath}
+use Rattle.part_events.specs.Words.{Part}
+use Rattle.xlsx_parts.specs.Words.{all_said, put_together, SheetPath}
 use Rattle.xlsx_tables.specs.TableParts.{TableSaid}
-use Rattle.xlsx_workbook.specs.declared.paths.KeptPath.{KeptPath}
+use Rattle.xlsx_workbook.specs.declared.paths.PartPath.{PartPath}
 use Rattle.xlsx_workbook.specs.declared.sheet.Sheet.{Sheet}
-use Rattle.xlsx_core.specs.FormulaList.{FormulaSaid, formula_on, numbered_from, path_formulas}
-use Rattle.xlsx_core.specs.FormulaList.{sheet_formulas, workbook_formulas}
-use Rattle.xlsx_core.specs.Merges.{sheet_paths, sheets_of_book}
+use Rattle.xlsx_core.specs.Words.{FormulaSaid, formula_on, sheets_from, path_formulas}
+use Rattle.xlsx_core.specs.Words.{sheet_formulas, workbook_formulas, sheet_paths, sheets_of_book}
 use Rattle.xlsx_core.specs.declared.xlsx.Xlsx.{Xlsx}
 use Rattle.graph_reading.specs.BookRead.{book_of}
 use Rattle.graph_reading.specs.GraphRead.{on_sheets}
@@ -55,18 +53,18 @@ on_both count (Some own) (Some more) said in_first in_others is =
 
 on_from : (parts : List Part) (count number : ℕ) (sheets : List SheetPath)
     (said : List FormulaSaid) → number + length sheets ≤ count
-    → all_said (sheet_formulas parts) (numbered_from number sheets) ≡ Some said
+    → all_said (sheet_formulas parts) (sheets_from number sheets) ≡ Some said
     → on_sheets count said ≡ said
 on_from parts count number [] said within is =
     let same : [] ≡ said = cc in
     subst (λ (rest : List FormulaSaid). on_sheets count rest ≡ rest) same refl
 on_from parts count number (sheet ∷ sheets) said within is =
     on_both count (sheet_formulas parts (record { number = number; path = sheet.path }))
-    (all_said (sheet_formulas parts) (numbered_from (suc number) sheets)) said
+    (all_said (sheet_formulas parts) (sheets_from (suc number) sheets)) said
     (λ own. on_said count number (path_formulas parts sheet.path) own (omega (arith, within)))
     (λ own. on_from parts count (suc number) sheets own (omega (arith, within))) is
 
-paths_within : (sheets : List Sheet) (paths : List KeptPath)
+paths_within : (sheets : List Sheet) (paths : List PartPath)
     → length (sheet_paths sheets paths) ≤ length sheets
 paths_within [] paths = omega arith
 paths_within (sheet ∷ sheets) [] = omega arith
@@ -78,8 +76,8 @@ pub on_sheets_of_book : {P : Type 0} (xlsx : Xlsx P) (parts : List Part)
     → workbook_formulas parts (sheets_of_book xlsx) ≡ Some said
     → on_sheets (length (book_of xlsx tables).sheets) said ≡ said
 on_sheets_of_book xlsx parts tables said is =
-    let sheets = xlsx.metadata.sheets.items in
-    let paths = xlsx.paths.items in
+    let sheets = xlsx.workbook.metadata.sheets.items in
+    let paths = xlsx.workbook.paths.items in
     let size = length-map sheets (λ (sheet : Sheet). string_bytes sheet.name) in
     on_from parts (length (book_of xlsx tables).sheets) 0 (sheet_paths sheets paths) said
     (omega (arith, size, paths_within sheets paths)) is

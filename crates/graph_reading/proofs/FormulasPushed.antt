@@ -1,14 +1,13 @@
 -- Formulas that are put behind others, one after the other.
-use Rattle.std.proofs.Common.{◌≡◌, ◌∙◌, ◌<◌, List, [], ◌∷◌, ◌++◌, length, map, true, sym, ap}
-use Rattle.std.proofs.Common.{subst, cond, Bool, Result, Ok, Err, lt-ltb}
+use Rattle.std.proofs.Common.{◌≡◌, ◌∙◌, ◌<◌, List, [], ◌∷◌, ◌++◌, length, map, true, sym, ap, subst}
+use Rattle.std.proofs.Common.{cond, Bool, Result, Ok, Err, lt-ltb}
 use Rattle.std.specs.Prelude.{nat_lt, IfErr}
 use Rattle.std.proofs.lemmas.List.{map-append}
 use Rattle.std.proofs.lemmas.List.Elements.{filter-append}
 use Rattle.book_names.specs.Book.{Book}
-use Rattle.xlsx_core.specs.FormulaList.{FormulaSaid}
-use Rattle.xlsx_graph.specs.Gathered.{Gathered, GathersOr, IsMeasured, is_too_large}
-use Rattle.xlsx_graph.specs.Graph.{GraphFormula}
-use Rattle.xlsx_graph.specs.Kept.{WhenTooLarge}
+use Rattle.xlsx_core.specs.Words.{FormulaSaid}
+use Rattle.xlsx_graph.specs.Words.{Gathered, GathersOr, IsMeasured, is_too_large, GraphFormula}
+use Rattle.xlsx_graph.specs.Words.{WhenTooLarge}
 use Rattle.xlsx_graph.specs.declared.error.NamingError.{NamingError}
 use Rattle.xlsx_graph.proofs.Adding.{when_also}
 use Rattle.xlsx_graph.proofs.Gathering.{over_is_too_large}

@@ -1,29 +1,23 @@
 -- The tables of a workbook are read, and then its formulas: what is kept, what it makes, and when
 -- it is refused.
-use Rattle.std.proofs.Common.{◌≡◌, ◌∙◌, ◌+◌, ◌≤◌, ℕ, List, length, map, refl, sym, ap, subst}
-use Rattle.std.proofs.Common.{arith, inl, inr, Some, true}
+use Rattle.std.proofs.Common.{◌≡◌, ◌∙◌, ◌+◌, ◌≤◌, ℕ, List, length, map, refl, sym, ap, subst, arith}
+use Rattle.std.proofs.Common.{inl, inr, Some, true}
 use Rattle.book_names.specs.Book.{Book}
-use Rattle.part_events.specs.Package.{Part, PackageState, SameParts, LeavesPackage}
-use Rattle.part_events.specs.Package.{CountsUp}
+use Rattle.part_events.specs.Words.{Part, PackageState, SameParts, LeavesPackage, CountsUp}
 use Rattle.xlsx_error.specs.declared.error.XlsxError.{XlsxError}
 use Rattle.xlsx_error.specs.declared.error.XlsxError.TheVariants as workbook
-use Rattle.xlsx_sections.specs.Failing.{FailsBy}
+use Rattle.xlsx_sections.specs.Words.{FailsBy}
 use Rattle.xlsx_sections.proofs.Failing.{fails_by_weaker, same_parts}
-use Rattle.xlsx_parts.specs.SheetPaths.{SheetPath}
+use Rattle.xlsx_parts.specs.Words.{SheetPath}
 use Rattle.xlsx_tables.specs.TableParts.{TableSaid}
-use Rattle.xlsx_core.specs.FormulaList.{FormulaSaid, FormulasCause, all_formulas_ask}
-use Rattle.xlsx_core.specs.FormulaList.{workbook_formulas}
-use Rattle.xlsx_core.specs.Merges.{sheets_of_book}
-use Rattle.xlsx_core.specs.NumberedTables.{AllTablesCause, all_numbered_tables_ask}
-use Rattle.xlsx_core.specs.NumberedTables.{numbered_tables}
-use Rattle.xlsx_core.specs.Worksheets.{KeepsBook, KeepsWorkbook}
+use Rattle.xlsx_core.specs.Words.{FormulaSaid, FormulasCause, all_formulas_ask, workbook_formulas}
+use Rattle.xlsx_core.specs.Words.{sheets_of_book, AllTablesCause, all_numbered_tables_ask}
+use Rattle.xlsx_core.specs.Words.{numbered_tables, KeepsWorkbook}
 use Rattle.xlsx_core.specs.declared.xlsx.Xlsx.{Xlsx}
-use Rattle.xlsx_graph.specs.Gathered.{is_too_large}
-use Rattle.xlsx_graph.specs.Graph.{GraphFormula}
-use Rattle.xlsx_graph.specs.Kept.{WhenTooLarge}
+use Rattle.xlsx_graph.specs.Words.{is_too_large, GraphFormula, WhenTooLarge}
 use Rattle.xlsx_graph.specs.declared.error.NamingError.{NamingError}
 use Rattle.xlsx_graph.specs.declared.error.NamingError.TheVariants as naming
-use Rattle.graph_reading.specs.BookRead.{BookCause, HasFormulas, NamesTooMuch, book_formula}
+use Rattle.graph_reading.specs.BookRead.{GraphCause, HasBookFormulas, NamesTooMuch, book_formula}
 use Rattle.graph_reading.specs.BookRead.{book_of}
 use Rattle.graph_reading.specs.GraphError.{of_naming, of_reading}
 use Rattle.graph_reading.specs.GraphRead.{GraphFails, graph_events, graph_sections, on_sheets}
@@ -36,12 +30,12 @@ use Rattle.graph_reading.proofs.FormulaSheets.{on_sheets_of_book}
 -- the sheets of a workbook that is kept have the same paths
 pub same_sheets : {P : Type 0} (old new : Xlsx P) → KeepsWorkbook old new
     → sheets_of_book new ≡ sheets_of_book old
-same_sheets old new keeps = rw (keeps.book.metadata, keeps.book.paths) refl
+same_sheets old new keeps = rw keeps refl
 
 -- and its names are the same
 same_book : {P : Type 0} (old new : Xlsx P) (tables : List (ℕ × TableSaid))
-    → KeepsBook old new → book_of new tables ≡ book_of old tables
-same_book old new tables keeps = rw (keeps.metadata, keeps.scopes) refl
+    → KeepsWorkbook old new → book_of new tables ≡ book_of old tables
+same_book old new tables keeps = rw keeps refl
 
 -- ---- how many events are taken
 
@@ -87,7 +81,7 @@ leaves_reading error less leaves = record {
 -- ---- when it is refused
 
 refused : {P : Type 0} (xlsx : Xlsx P) (old new : PackageState) (error : XlsxError)
-    → FailsBy (BookCause old.parts (sheets_of_book xlsx)) old new error
+    → FailsBy (GraphCause old.parts (sheets_of_book xlsx)) old new error
     → GraphFails xlsx old new (of_reading error)
 refused xlsx old new workbook.OutOfMemory fails = tt
 refused xlsx old new error fails = fails
@@ -99,19 +93,19 @@ pub tables_refused : {P : Type 0} (xlsx : Xlsx P) (old new : PackageState) (erro
 tables_refused xlsx old new error fails =
     let sheets = sheets_of_book xlsx in
     refused xlsx old new error
-    (fails_by_weaker (BookCause old.parts sheets) (AllTablesCause old.parts sheets) new error
+    (fails_by_weaker (GraphCause old.parts sheets) (AllTablesCause old.parts sheets) new error
     (same_parts old) (λ told cause. inl cause) fails)
 
 -- by its formulas, behind its tables
 pub formulas_refused : {P : Type 0} (xlsx : Xlsx P) (sheets : List SheetPath)
     (old mid new : PackageState) (tables : List (ℕ × TableSaid)) (error : XlsxError)
     → sheets ≡ sheets_of_book xlsx → SameParts old mid
-    → (old.is_told ≡ true → numbered_tables old.parts (sheets_of_book xlsx) ≡ Some tables)
+    → (old.is_visible ≡ true → numbered_tables old.parts (sheets_of_book xlsx) ≡ Some tables)
     → FailsBy (FormulasCause mid.parts sheets) mid new error
     → GraphFails xlsx old new (of_reading error)
 formulas_refused xlsx sheets old mid new tables error alike same said fails =
     refused xlsx old new error
-    (fails_by_weaker (BookCause old.parts (sheets_of_book xlsx)) (FormulasCause mid.parts sheets)
+    (fails_by_weaker (GraphCause old.parts (sheets_of_book xlsx)) (FormulasCause mid.parts sheets)
     new error same
     (λ told cause. inr (
       tables,
@@ -135,7 +129,7 @@ said_behind old mid before after said keeps same is =
 pub book_behind : {P : Type 0} (old mid new : Xlsx P) (tables : List (ℕ × TableSaid))
     → KeepsWorkbook old mid → KeepsWorkbook mid new → book_of new tables ≡ book_of old tables
 book_behind old mid new tables first second =
-    same_book mid new tables second.book ∙ same_book old mid tables first.book
+    same_book mid new tables second ∙ same_book old mid tables first
 
 module _ {P : Type 0} (xlsx : Xlsx P) (parts : List Part) (tables : List (ℕ × TableSaid))
     (said : List FormulaSaid)
@@ -143,7 +137,7 @@ module _ {P : Type 0} (xlsx : Xlsx P) (parts : List Part) (tables : List (ℕ ×
     (has_formulas : workbook_formulas parts (sheets_of_book xlsx) ≡ Some said) where
   -- the formulas of the workbook, with what they name
   pub formulas_made : (book : Book) (formulas : List GraphFormula) → book ≡ book_of xlsx tables
-      → formulas ≡ named_formulas book said → HasFormulas xlsx parts book formulas
+      → formulas ≡ named_formulas book said → HasBookFormulas xlsx parts book formulas
   formulas_made book formulas is_book are = record {
     tables = tables;
     said = said;
@@ -168,7 +162,7 @@ module _ {P : Type 0} (xlsx : Xlsx P) (parts : List Part) (tables : List (ℕ ×
 
 -- the formulas are refused for what they name
 pub names_refused : {P : Type 0} (xlsx : Xlsx P) (old new : PackageState) (error : NamingError)
-    (large : Type 0) → (old.is_told ≡ true → large → NamesTooMuch xlsx old.parts)
+    (large : Type 0) → (old.is_visible ≡ true → large → NamesTooMuch xlsx old.parts)
     → WhenTooLarge error large → GraphFails xlsx old new (of_naming error)
 names_refused xlsx old new naming.TooLarge large because is = λ told. because told is
 names_refused xlsx old new naming.OutOfMemory large because is = tt

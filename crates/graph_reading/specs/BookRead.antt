@@ -1,21 +1,19 @@
 -- The names of a workbook as they are read, and its formulas with what they name.
 use Rattle.std.specs.Prelude.{◌≡◌, ◌⊎◌, ℕ, List, [], ◌∷◌, ◌++◌, map, None, Some, string_bytes, true}
-use Rattle.attr_text.specs.Text.{unescaped}
+use Rattle.attr_text.specs.Words.{unescaped}
 use Rattle.book_names.specs.Book.{Book, BookName, BookTable}
-use Rattle.part_events.specs.Package.{Part}
+use Rattle.part_events.specs.Words.{Part}
 use Rattle.xlsx_error.specs.declared.error.XlsxError.{XlsxError}
-use Rattle.xlsx_parts.specs.SheetPaths.{SheetPath}
+use Rattle.xlsx_parts.specs.Words.{SheetPath}
 use Rattle.xlsx_tables.specs.TableParts.{TableSaid}
-use Rattle.xlsx_workbook.specs.KeptContents.{pair_of}
+use Rattle.xlsx_workbook.specs.Words.{pair_of}
 use Rattle.xlsx_workbook.specs.declared.name_scope.NameScope.{NameScope}
 use Rattle.xlsx_workbook.specs.declared.name_scope.NameScope.TheVariants as scope
 use Rattle.xlsx_workbook.specs.declared.sheet.Sheet.{Sheet}
-use Rattle.xlsx_core.specs.FormulaList.{FormulaSaid, FormulasCause, workbook_formulas}
-use Rattle.xlsx_core.specs.Merges.{sheets_of_book}
-use Rattle.xlsx_core.specs.NumberedTables.{AllTablesCause, numbered_tables}
+use Rattle.xlsx_core.specs.Words.{FormulaSaid, FormulasCause, workbook_formulas, sheets_of_book}
+use Rattle.xlsx_core.specs.Words.{AllTablesCause, numbered_tables}
 use Rattle.xlsx_core.specs.declared.xlsx.Xlsx.{Xlsx}
-use Rattle.xlsx_graph.specs.Gathered.{formula_of, is_too_large}
-use Rattle.xlsx_graph.specs.Graph.{GraphFormula}
+use Rattle.xlsx_graph.specs.Words.{gathered_formula, is_too_large, GraphFormula}
 use Rattle.xlsx_graph.specs.declared.named.Standing.{Standing}
 
 -- a defined name with its scope; one whose scope can't be read no sheet sees
@@ -57,8 +55,8 @@ book_with sheets names scopes tables = record {
 -- the names of an open workbook with these tables
 abbrev pub book_of : {P : Type 0} → Xlsx P → List (ℕ × TableSaid) → Book
 book_of xlsx tables =
-    book_with (map (λ (sheet : Sheet). string_bytes sheet.name) xlsx.metadata.sheets.items)
-    (map pair_of xlsx.metadata.names.items) xlsx.scopes.items tables
+    book_with (map (λ (sheet : Sheet). string_bytes sheet.name) xlsx.workbook.metadata.sheets.items)
+    (map pair_of xlsx.workbook.metadata.names.items) xlsx.workbook.scopes.items tables
 
 -- a formula of the workbook, with what it names
 abbrev pub book_formula : Book → FormulaSaid → GraphFormula
@@ -68,10 +66,10 @@ book_formula book said =
       row = said.position.0;
       column = said.position.1;
     } in
-    formula_of book cell said.covers said.text
+    gathered_formula book cell said.covers said.text
 
--- the formulas of these sheets by the parts: their tables are read, which give the names, then their
--- formulas, and each of these names what it does among the names
+-- the formulas of these sheets by the parts: their tables are read, which give the names, then
+-- their formulas, and each of these names what it does among the names
 pub record AreFormulas (named : List (ℕ × TableSaid) → Book) (parts : List Part)
     (sheets : List SheetPath) (book : Book) (formulas : List GraphFormula) : Type 0 where
   pub tables : List (ℕ × TableSaid)
@@ -82,23 +80,23 @@ pub record AreFormulas (named : List (ℕ × TableSaid) → Book) (parts : List 
   pub are_formulas : formulas ≡ map (book_formula book) said
 
 -- the formulas of an open workbook
-abbrev pub HasFormulas :
+abbrev pub HasBookFormulas :
     {P : Type 0} → Xlsx P → List Part → Book → List GraphFormula → Type 0
-HasFormulas xlsx parts book formulas =
+HasBookFormulas xlsx parts book formulas =
     AreFormulas (book_of xlsx) parts (sheets_of_book xlsx) book formulas
 
 -- ---- why they aren't read
 
--- the tables can't be read, or they can, and a formula can't
-abbrev pub BookCause : List Part → List SheetPath → XlsxError → Type 0
-BookCause parts sheets error =
+-- why a workbook's graph isn't read: its tables can't be, or they can, and a formula can't
+abbrev pub GraphCause : List Part → List SheetPath → XlsxError → Type 0
+GraphCause parts sheets error =
     AllTablesCause parts sheets error
     ⊎ ((tables : List (ℕ × TableSaid)) × (numbered_tables parts sheets ≡ Some tables)
     × FormulasCause parts sheets error)
 
--- the formulas are read, and they name more than there is room for
+-- the formulas of a workbook are read, and they name more than there is room for
 pub record NamesTooMuch {P : Type 0} (xlsx : Xlsx P) (parts : List Part) : Type 0 where
   pub book : Book
   pub formulas : List GraphFormula
-  pub has : HasFormulas xlsx parts book formulas
+  pub has : HasBookFormulas xlsx parts book formulas
   pub large : is_too_large formulas ≡ true

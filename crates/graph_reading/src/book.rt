@@ -1,9 +1,9 @@
 //! The names of a workbook, in which the words of its formulas are looked up.
 ghost use Rattle.std.specs.Prelude.{◌≡◌, ◌++◌, map, string_bytes, IfOk, OnOk};
-ghost use Rattle.attr_text.specs.Text.{unescaped};
+ghost use Rattle.attr_text.specs.Words.{unescaped};
 ghost use Rattle.book_names.specs.Told.{name_told, table_told};
 ghost use Rattle.xlsx_tables.specs.Tables.{loaded_of};
-ghost use Rattle.xlsx_workbook.specs.KeptContents.{pair_of};
+ghost use Rattle.xlsx_workbook.specs.Words.{pair_of};
 ghost use Rattle.graph_reading.specs.BookRead.{book_of, book_table, scoped_name, scoped_names};
 
 use attr_text::unescaped;

@@ -1,16 +1,11 @@
 //! The graph of an open workbook.
-ghost use Rattle.std.specs.Prelude.{◌≡◌, ◌++◌, ◌∷◌, [], List, length, map, true, false};
-ghost use Rattle.std.specs.Prelude.{IfOk, IfErr, OnOk};
-ghost use Rattle.part_events.specs.Package.{Uses};
+ghost use Rattle.std.specs.Prelude.{◌≡◌, ◌++◌, ◌∷◌, [], List, length, map, true, false, IfOk};
+ghost use Rattle.std.specs.Prelude.{IfErr, OnOk};
+ghost use Rattle.part_events.specs.Words.{Uses};
 ghost use Rattle.xlsx_error.specs.declared.error.XlsxError.TheVariants.{Io};
 ghost use Rattle.xlsx_tables.specs.Tables.{loaded_of};
-ghost use Rattle.xlsx_core.specs.FormulaList.{formula_read};
-ghost use Rattle.xlsx_core.specs.Merges.{sheets_of_book};
-ghost use Rattle.xlsx_core.specs.SheetReading.{TakesExactly};
-ghost use Rattle.xlsx_core.specs.Worksheets.{KeepsWorkbook};
-ghost use Rattle.xlsx_graph.specs.Gathered.{IsMeasured, is_too_large};
-ghost use Rattle.xlsx_graph.specs.Graph.{GraphFormula};
-ghost use Rattle.xlsx_graph.specs.Kept.{WhenTooLarge};
+ghost use Rattle.xlsx_core.specs.Words.{formula_read, sheets_of_book, TakesExactly, KeepsWorkbook};
+ghost use Rattle.xlsx_graph.specs.Words.{IsMeasured, is_too_large, GraphFormula, WhenTooLarge};
 ghost use Rattle.graph_reading.specs.BookRead.{book_of};
 ghost use Rattle.graph_reading.specs.GraphRead.{GraphFails, IsGraph, IsGraphError, graph_events};
 ghost use Rattle.graph_reading.specs.GraphRead.{graph_sections, named_formulas};
@@ -108,8 +103,8 @@ fn graph_of<P: Package>(
 /// # Errors
 ///
 /// `Workbook` where a table can't be read, as `Xlsx::load_tables` says it, or else a formula of the
-/// first sheet that is refused, as `Xlsx::read_formulas` does. `TooLarge` exactly where the formulas
-/// name more, or cover more cells, than there is room for (`WorkbookGraph::push`).
+/// first sheet that is refused, as `Xlsx::read_formulas` does. `TooLarge` exactly where the
+/// formulas name more, or cover more cells, than there is room for (`WorkbookGraph::push`).
 pub fn read_graph<P: Package>(alloc: Global, xlsx: &mut Xlsx<P>) -> Result<BookGraph, GraphError>
     ensures uses { let most = graph_events xlsx.old.xml.source.parts (sheets_of_book xlsx.old) in
         Uses most (Workbook Io) result xlsx.old.xml.source xlsx.new.xml.source }
@@ -117,7 +112,7 @@ pub fn read_graph<P: Package>(alloc: Global, xlsx: &mut Xlsx<P>) -> Result<BookG
         graph_sections xlsx.old.xml.source.parts (sheets_of_book xlsx.old) in
         TakesExactly count result xlsx.old.xml.source xlsx.new.xml.source }
     ensures rest { KeepsWorkbook xlsx.old xlsx.new }
-    ensures reads { xlsx.old.xml.source.is_told ≡ true →
+    ensures reads { xlsx.old.xml.source.is_visible ≡ true →
         IfOk result (IsGraph xlsx.old xlsx.old.xml.source.parts) }
     ensures err { IfErr result
         (GraphFails xlsx.old xlsx.old.xml.source xlsx.new.xml.source) }

@@ -1,13 +1,12 @@
 -- The package that an input is: a workbook file, or the package that a package text spells.
-use Rattle.std.specs.Prelude.{◌≡◌, ◌||◌, ℕ, List, [], ◌∷◌, take, Bool, true, false}
-use Rattle.std.specs.Prelude.{if◌then◌else◌, Option, None, Err, option_map}
+use Rattle.std.specs.Prelude.{◌≡◌, ◌||◌, ℕ, List, [], ◌∷◌, take, Bool, true, false, if◌then◌else◌}
+use Rattle.std.specs.Prelude.{Option, None, Err, option_map}
 use Rattle.std.specs.Result.{result_ok}
 use Rattle.std.specs.Str.{bytes_eq}
-use Rattle.part_events.specs.Package.{Part}
+use Rattle.part_events.specs.Words.{Part}
 use Rattle.package_text.specs.PackageText.{package_in as package_in_text}
 use Rattle.workbook_file.specs.FileParts.{file_parts}
-use Rattle.zip_archive.specs.Entries.{archive_of, compound_mark}
-use Rattle.zip_archive.specs.Kept.{ArchiveFile}
+use Rattle.zip_archive.specs.Words.{archive_of, compound_mark, ArchiveFile}
 use Rattle.zip_archive.specs.declared.fault.ArchiveFault.{ArchiveFault}
 use Rattle.input_package.specs.declared.reading.InputError.{InputError}
 use Rattle.input_package.specs.declared.reading.InputError.TheVariants.{NotAPackage, OutOfMemory}
@@ -38,25 +37,25 @@ parts_of_file bytes =
 
 -- The parts of the package that an input is. Bytes that begin as a file are a workbook file or
 -- nothing.
-unfoldable pub package_in : List ℕ → Option (List Part)
-package_in bytes =
+unfoldable pub package_of_input : List ℕ → Option (List Part)
+package_of_input bytes =
     if begins_as_file bytes then parts_of_file bytes else package_in_text bytes
 
 -- bytes that begin as a file are no workbook file, for this fault
-pub record IsFaulty (bytes : List ℕ) (fault : ArchiveFault) : Type 0 where
+pub record IsFaultyFile (bytes : List ℕ) (fault : ArchiveFault) : Type 0 where
   pub begins : begins_as_file bytes ≡ true
   pub fault_is : archive_of bytes ≡ Err fault
-  pub none : package_in bytes ≡ None
+  pub none : package_of_input bytes ≡ None
 
 -- bytes that begin as no file spell no package
 pub record IsNoText (bytes : List ℕ) : Type 0 where
   pub begins : begins_as_file bytes ≡ false
-  pub none : package_in bytes ≡ None
+  pub none : package_of_input bytes ≡ None
 
 -- why these bytes were not read: they are no package, or memory is wanting
 abbrev pub IsNoPackage : List ℕ → InputError → Type 0
 IsNoPackage bytes NotAPackage = IsNoText bytes
-IsNoPackage bytes (NotAWorkbookFile fault) = IsFaulty bytes fault
+IsNoPackage bytes (NotAWorkbookFile fault) = IsFaultyFile bytes fault
 IsNoPackage bytes OutOfMemory = Unit {0}
 
 -- why a package text spells none

@@ -1,7 +1,7 @@
 //! A package that a command is given, whatever it was read from.
 ghost use Rattle.std.specs.Prelude.{◌≡◌, IfOk, IfErr};
 ghost use Rattle.input_package.specs.declared.reading.InputError.TheVariants.{OutOfMemory};
-ghost use Rattle.part_events.specs.Memory.{state_of};
+ghost use Rattle.part_events.specs.Words.{state_of};
 ghost use Rattle.workbook_file.specs.Contents.{file_state};
 ghost use Rattle.input_package.specs.Told.{told_of, told_state};
 

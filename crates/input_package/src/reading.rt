@@ -3,11 +3,11 @@ ghost use Rattle.std.specs.Prelude.{◌≡◌, ◌<◌, ◌^◌, length, take, S
 ghost use Rattle.package_text.specs.PackageText.{package_in as package_in_text, package_of};
 ghost use Rattle.serde_json.specs.View.{view};
 ghost use Rattle.workbook_file.specs.FileParts.{file_parts};
-ghost use Rattle.input_package.specs.Reading.{package_in, parts_of_file, begins_as_archive};
-ghost use Rattle.input_package.specs.Reading.{begins_as_file, longest_input};
-ghost use Rattle.input_package.specs.Reading.{IsNoArchive, IsNoPackage, SpellsNone};
+ghost use Rattle.input_package.specs.Reading.{package_of_input, parts_of_file, begins_as_archive};
+ghost use Rattle.input_package.specs.Reading.{begins_as_file, longest_input, IsNoArchive};
+ghost use Rattle.input_package.specs.Reading.{IsNoPackage, SpellsNone};
 ghost use Rattle.std.specs.Str.{bytes_eq};
-ghost use Rattle.zip_archive.specs.Entries.{compound_mark};
+ghost use Rattle.zip_archive.specs.Words.{compound_mark};
 
 use crate::input::InputPackage;
 use package_text::package_from_json;
@@ -137,10 +137,10 @@ fn workbook_file_of(alloc: Global, bytes: Vec<u8>) -> Result<WorkbookFile, Input
 ///
 /// Refused exactly where it is no package, want of memory aside: as `NotAWorkbookFile` where it
 /// begins as a file does, and else as `NotAPackage`.
-#[tactic(auto, unfolding(crate::specs::Reading::package_in))]
+#[tactic(auto, unfolding(crate::specs::Reading::package_of_input))]
 pub fn read_package(alloc: Global, bytes: Vec<u8>) -> Result<InputPackage, InputError>
     requires { length bytes.items < 2 ^ 56 }
-    ensures ok { IfOk result (λ held. package_in bytes.items ≡ Some held.parts) }
+    ensures ok { IfOk result (λ held. package_of_input bytes.items ≡ Some held.parts) }
     ensures err { IfErr result (IsNoPackage bytes.items) }
 {
     if begins_as_file(&bytes) {

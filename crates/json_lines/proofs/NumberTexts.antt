@@ -1,9 +1,8 @@
 -- The text of a decimal is a number of JSON.
-use Rattle.std.proofs.Common.{◌≡◌, ℕ, zero, suc, ◌+◌, ◌-◌, ◌%◌, ◌^◌, ◌<◌, ◌≤◌, ◌==◌}
-use Rattle.std.proofs.Common.{Bool, true, false, cond, ◌||◌, List, [], ◌∷◌, ◌++◌, length, take}
-use Rattle.std.proofs.Common.{drop, get_or, replicate, Some, None, ℤ, pos, negsuc, refl, sym}
-use Rattle.std.proofs.Common.{ap, ◌∙◌, arith, subst, length-append, length-drop}
-use Rattle.std.proofs.Common.{decimal, option_and_then}
+use Rattle.std.proofs.Common.{◌≡◌, ℕ, zero, suc, ◌+◌, ◌-◌, ◌%◌, ◌^◌, ◌<◌, ◌≤◌, ◌==◌, Bool, true}
+use Rattle.std.proofs.Common.{false, cond, ◌||◌, List, [], ◌∷◌, ◌++◌, length, take, drop, get_or}
+use Rattle.std.proofs.Common.{replicate, Some, None, ℤ, pos, negsuc, refl, sym, ap, ◌∙◌, arith}
+use Rattle.std.proofs.Common.{subst, length-append, length-drop, decimal, option_and_then}
 use Rattle.std.specs.Prelude.{nat_lt, nat_le, FitsSigned}
 use Rattle.std.specs.Char.{is_ascii_digit}
 use Rattle.std.specs.Fmt.{signed_decimal}
@@ -17,10 +16,10 @@ use Rattle.std.proofs.lemmas.Fmt.{decimal_digit, decimal_is_IsNumeral_wide, deci
 use Rattle.std.proofs.lemmas.List.{append-nil, length-replicate, take-append-drop}
 use Rattle.std.proofs.Math.ListN.{get_or-append}
 use Rattle.std.proofs.lemmas.Str.Parse.{tells_digits, tells_all_ascii_digits}
-use Rattle.decimals.specs.Decimals.{with_point, with_point_in, with_exponent, printed_digits}
+use Rattle.decimals.specs.Words.{with_point, with_point_in, with_exponent, printed_digits}
 use Rattle.decimals.specs.Decimals.{printed}
-use Rattle.json.specs.Word.{head, after_digits, after_sign, after_whole}
-use Rattle.json.specs.Word.{after_fraction, after_exponent, after_number}
+use Rattle.json.specs.Word.{head, after_digits, after_sign, after_whole, after_fraction}
+use Rattle.json.specs.Word.{after_exponent, after_number}
 use Rattle.json.specs.Print.{IsNumber}
 use Rattle.json_lines.specs.JsonLines.{IsOfDecimal}
 
@@ -202,7 +201,8 @@ pointed_long ds places all above few some =
     let whole = whole_of (take at ds) parts.0 (front_above ds at longer above) in
     let rest : 0 < length (drop at ds) = omega (arith, length-drop at ds, few, some) in
     let known = whole_and_fraction (take at ds) (drop at ds) whole parts.1 rest in
-    subst IsUnsigned (sym (ap (λ zeros. with_point_in places (replicate zeros 48 ++ ds)) none)) known
+    subst IsUnsigned (sym (ap (λ zeros. with_point_in places (replicate zeros 48 ++ ds))
+    none)) known
 
 -- no more than these
 pointed_short : (ds : List ℕ) (places : ℕ) → all_ascii_digits ds ≡ true → 0 < length ds →

@@ -6,11 +6,11 @@ use Rattle.json.specs.Json.{Json, Members, member, document, max_depth}
 use Rattle.json.specs.Print.{print}
 use Rattle.json.specs.Tree.{json_tokens, depth, HasNumbers}
 
--- the text of a value, without a space
+-- the text of a value of JSON, without a space
 abbrev pub json_text : Json → List ℕ
 json_text value = print (json_tokens value)
 
--- the line of a value
+-- the line of a value of JSON: its text and a line feed
 abbrev pub json_line : Json → List ℕ
 json_line value = json_text value ++ codes "\n"
 

@@ -1,7 +1,6 @@
 ghost use Rattle.std.specs.Prelude.{◌≡◌, ◌++◌, [], ◌∷◌, codes, IfOk};
 ghost use Rattle.std.specs.Str.{IsUtf8};
-ghost use Rattle.decimals.specs.Decimal.{number_of};
-ghost use Rattle.decimals.specs.Decimals.{printed};
+ghost use Rattle.decimals.specs.Words.{number_of, printed};
 ghost use Rattle.json.specs.Print.{print, IsNumber};
 ghost use Rattle.json.specs.Token.{number, key, string};
 

@@ -1,7 +1,6 @@
 -- A number that a decimal has is again one of a decimal once it is rounded.
-use Rattle.std.proofs.Common.{◌≡◌, ℕ, ◌<◌, ◌≤◌, ◌^◌, ◌%◌, ◌==◌, Bool, true, false, ◌&&◌}
-use Rattle.std.proofs.Common.{List, Option, Some, None, ℤ, pos, negsuc, refl, sym, ◌∙◌, ap, subst}
-use Rattle.std.proofs.Common.{arith}
+use Rattle.std.proofs.Common.{◌≡◌, ℕ, ◌<◌, ◌≤◌, ◌^◌, ◌%◌, ◌==◌, Bool, true, false, ◌&&◌, List}
+use Rattle.std.proofs.Common.{Option, Some, None, ℤ, pos, negsuc, refl, sym, ◌∙◌, ap, subst, arith}
 use Rattle.std.specs.Prelude.{FitsSigned, IfSome, if◌then◌else◌, nat_abs}
 use Rattle.std.specs.Fmt.{decimal}
 use Rattle.std.specs.Int.{is_negative, w32, w64, w128}
@@ -12,16 +11,17 @@ use Rattle.std.proofs.lemmas.Bool.Decides.{nat_tests}
 use Rattle.std.proofs.lemmas.Int.{ints}
 use Rattle.std.proofs.lemmas.Option.{none-some}
 use Rattle.std.proofs.Math.Nat.{mul-le-mul_left}
-use Rattle.decimals.specs.Decimals.{has_bits, in_one_form, with_sign, decimal_from}
-use Rattle.decimals.specs.Decimals.{without_trailing_zeros}
-use Rattle.decimals.specs.Rounding.{rounded_number, nearest, digits_behind}
+use Rattle.decimals.specs.Words.{has_bits, in_one_form, with_sign, without_trailing_zeros, nearest}
+use Rattle.decimals.specs.Words.{digits_behind}
+use Rattle.decimals.specs.Decimals.{decimal_from}
+use Rattle.decimals.specs.Rounding.{rounded_number}
 use Rattle.decimals.proofs.Nearest.{near_up, some as unit_some}
 use Rattle.decimals.proofs.OneForm.{zeros_gone}
 use Rattle.decimals.proofs.Parts.{abs_small}
 use Rattle.decimals.proofs.ReadsBack.{decimal_writes}
 use Rattle.decimals.proofs.Rounded.{size_signed}
 use Rattle.json_lines.specs.JsonLines.{IsOfDecimal}
-use Rattle.xlsx_rows.specs.RowsText.{shown_number}
+use Rattle.csv_rows.specs.RowsText.{shown_number}
 
 -- where the whole number is 0, so is the power
 abbrev IsZeroPlain : ℤ × ℤ → Type 0

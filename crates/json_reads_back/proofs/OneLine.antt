@@ -1,8 +1,8 @@
 -- No line feed stands in the text of a value.
-use Rattle.std.proofs.Common.{◌≡◌, ◌≢◌, ◌∙◌, ℕ, zero, suc, ◌+◌, ◌<◌, ◌==◌, ◌&&◌, ◌||◌}
-use Rattle.std.proofs.Common.{Bool, true, false, cond, List, [], ◌∷◌, ◌++◌, drop, map}
-use Rattle.std.proofs.Common.{Option, Some, None, refl, sym, ap, subst, arith, inl, inr}
-use Rattle.std.proofs.Common.{append_assoc, append-nil, option_and_then}
+use Rattle.std.proofs.Common.{◌≡◌, ◌≢◌, ◌∙◌, ℕ, zero, suc, ◌+◌, ◌<◌, ◌==◌, ◌&&◌, ◌||◌, Bool, true}
+use Rattle.std.proofs.Common.{false, cond, List, [], ◌∷◌, ◌++◌, drop, map, Option, Some, None, refl}
+use Rattle.std.proofs.Common.{sym, ap, subst, arith, inl, inr, append_assoc, append-nil}
+use Rattle.std.proofs.Common.{option_and_then}
 use Rattle.std.specs.Prelude.{not}
 use Rattle.std.specs.Char.{is_ascii_digit}
 use Rattle.std.specs.List.{flat_map, prefix_len, AllByRecursion}
@@ -14,8 +14,8 @@ use Rattle.json.specs.Print.{print_from, IsNumber, IsPrintable, ArePrintable}
 use Rattle.json.specs.Token as token
 use Rattle.json.specs.Token.{Token}
 use Rattle.json.specs.Tree.{json_tokens, HasNumbers}
-use Rattle.json.specs.Word.{after_digits, after_minus, after_sign, after_whole}
-use Rattle.json.specs.Word.{after_fraction, after_exponent, after_number}
+use Rattle.json.specs.Word.{after_digits, after_minus, after_sign, after_whole, after_fraction}
+use Rattle.json.specs.Word.{after_exponent, after_number}
 use Rattle.json.proofs.Printed.Strings.{escape_byte_plain}
 use Rattle.json.proofs.Printed.Trees.{ArePrintable-json_tokens}
 use Rattle.json_lines.specs.JsonLines.{json_text, json_line}

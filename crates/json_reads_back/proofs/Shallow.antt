@@ -1,46 +1,42 @@
 -- The values of lines nest no deeper than a reader goes, and their numbers are numbers of JSON.
-use Rattle.std.proofs.Common.{◌≡◌, ◌≤◌, ◌<◌, ◌^◌, ℕ, List, [], ◌∷◌, true, false}
-use Rattle.std.proofs.Common.{Option, Some, None, ℤ, pos, negsuc, Bool, arith, refl}
+use Rattle.std.proofs.Common.{◌≡◌, ◌≤◌, ◌<◌, ◌^◌, ℕ, List, [], ◌∷◌, true, false, Option, Some, None}
+use Rattle.std.proofs.Common.{ℤ, pos, negsuc, Bool, arith, refl}
 use Rattle.std.specs.Prelude.{FitsSigned, option_map, if◌then◌else◌}
 use Rattle.std.specs.Int.{w64}
 use lib.Signed.{mag}
-use Rattle.cell_data.specs.CellValue.{CellValue, nothing, integer, number, text, shared_text, truth}
-use Rattle.cell_data.specs.CellValue.{time, iso_time, failure}
-use Rattle.excel_dates.specs.Moments.{moment_of, is_told}
-use Rattle.json.specs.Json.{Json, string, array, object, Members, no_members}
-use Rattle.json.specs.Json.{member}
+use Rattle.cell_data.specs.Words.{CellValue, nothing, integer, number, text, shared_text, truth}
+use Rattle.cell_data.specs.Words.{time, iso_time, failure}
+use Rattle.excel_dates.specs.Words.{moment_of, has_moment, iso_text}
+use Rattle.json.specs.Json.{Json, string, array, object, Members, no_members, member}
+use Rattle.json.specs.Json.{number as number_of}
 use Rattle.json.specs.Tree.{depth, items_depth, members_depth, HasNumbers, ItemsHaveNumbers}
 use Rattle.json.specs.Tree.{MembersHaveNumbers}
 use Rattle.json.proofs.Printed.Decimals.{IsNumber-signed_decimal}
 use Rattle.json.proofs.Printed.Trees.{document-print}
-use Rattle.json_lines.specs.JsonLines.{optional_member}
+use Rattle.json_lines.specs.JsonLines.{optional_member, IsOfDecimal}
 use Rattle.json_lines.proofs.NumberTexts.{printed_number}
-use Rattle.list_lines.specs.Fields.{Field, Value, Series, nothing as no_series, texts, areas}
-use Rattle.list_lines.specs.Fields.{word, text as text_of, marked, optional, position, area}
+use Rattle.list_lines.specs.Fields.{Field, Value, Series, nothing as no_series, texts, areas, word}
+use Rattle.list_lines.specs.Fields.{text as text_of, marked, optional, position, area}
 use Rattle.list_lines.specs.Fields.{optional_area, value_json, field_members, string_items}
 use Rattle.list_lines.specs.Fields.{series_members}
-use Rattle.sheet_listing.specs.CellObjects.{date_json}
-use Rattle.sheet_listing.specs.CellObjects.{formula_json, fill_json}
-use Rattle.sheet_listing.specs.CellObjects.{value_json as cell_json}
-use Rattle.json_reads_back.specs.LinesRead.{IsReadBack, IsHeld, AreListsReadBack, AreCellsReadBack}
-use Rattle.json_reads_back.specs.LinesRead.{AreRowsReadBack}
+use Rattle.sheet_listing.specs.CellObjects.{date_json, formula_json, fill_json}
+use Rattle.sheet_listing.specs.CellObjects.{cell_value_json as cell_json}
+use Rattle.json_reads_back.specs.LinesRead.{IsReadBack, IsHeldValue, AreListsReadBack}
+use Rattle.json_reads_back.specs.LinesRead.{AreCellsReadBack, AreRowsReadBack}
 use Rattle.json_reads_back.proofs.HeldNumbers.{shown_held, whole_held}
-use Rattle.json.specs.Json.{number as number_of}
 use Rattle.json.specs.Print.{IsNumber}
 use Rattle.json_rows.specs.RowObjects.{row_members}
 use Rattle.json_rows.specs.RowValues.{item_json, row_json}
 use Rattle.std.specs.Fmt.{signed_decimal}
 use Rattle.std.specs.List.{AllByRecursion}
 use Rattle.std.specs.Prelude.{IfSome}
-use Rattle.decimals.specs.Decimals.{decimal_from, printed}
-use Rattle.excel_dates.specs.IsoText.{iso_text}
-use Rattle.json_lines.specs.JsonLines.{IsOfDecimal}
-use Rattle.xlsx_rows.specs.RowsText.{digits_of, integer_field, rounded_or, shown_number}
-use Rattle.xlsx_rows.specs.declared.options.CsvOptions.{CsvOptions}
+use Rattle.decimals.specs.Words.{decimal_from, printed}
+use Rattle.csv_rows.specs.RowsText.{digits_of, integer_field, rounded_or, shown_number}
+use Rattle.csv_rows.specs.declared.options.CsvOptions.{CsvOptions}
 
 -- ---- values that are no array and no object
 
--- a value, if there is one, that is a number of JSON, a text or a truth value
+-- a value, if there is one, that is a number of JSON, a text or a boolean
 record IsPlain (value : Json) : Type 0 where
   shallow : depth value ≡ 0
   numbers : HasNumbers value
@@ -124,7 +120,7 @@ whole_plain : (n : ℤ) → FitsSigned w64 n → mag n < 2 ^ 63
 whole_plain (pos n) fits = omega (arith, fits)
 whole_plain (negsuc n) fits = omega (arith, fits)
 
-cell_plain : (value : CellValue) → IsHeld value → IsPlainIfThere (cell_json value)
+cell_plain : (value : CellValue) → IsHeldValue value → IsPlainIfThere (cell_json value)
 cell_plain nothing held = tt
 cell_plain (integer n) held =
     record { shallow = refl; numbers = IsNumber-signed_decimal n (whole_plain n held) }
@@ -150,7 +146,7 @@ date_plain (number decimal) = tt
 date_plain (text bytes) = tt
 date_plain (shared_text place) = tt
 date_plain (truth holds) = tt
-date_plain (time days kind is_1904) = if_plain (is_told (moment_of days kind is_1904)) _
+date_plain (time days kind is_1904) = if_plain (has_moment (moment_of days kind is_1904)) _
 date_plain (iso_time bytes) = plain_text bytes
 date_plain (failure error) = tt
 
@@ -198,7 +194,7 @@ days_plain true true shown exact days one two = plain_text shown
 days_plain true false shown exact days one two = plain_number exact one
 days_plain false told shown exact days one two = plain_number days two
 
-item_plain : (options : CsvOptions) (value : CellValue) → IsHeld value
+item_plain : (options : CsvOptions) (value : CellValue) → IsHeldValue value
     → IsPlain (item_json options value)
 item_plain options nothing held = record { shallow = refl; numbers = tt }
 item_plain options (integer n) held =
@@ -210,7 +206,7 @@ item_plain options (text bytes) held = plain_text bytes
 item_plain options (shared_text place) held = record { shallow = refl; numbers = tt }
 item_plain options (truth holds) held = record { shallow = refl; numbers = tt }
 item_plain options (time days kind is_1904) held =
-    days_plain options.dates (is_told (moment_of days kind is_1904)) (iso_text days kind is_1904)
+    days_plain options.dates (has_moment (moment_of days kind is_1904)) (iso_text days kind is_1904)
     (printed days) (printed (shown_number (digits_of options.digits) days))
     (printed_number days held)
     (printed_number (shown_number (digits_of options.digits) days)
@@ -219,7 +215,7 @@ item_plain options (iso_time bytes) held = plain_text bytes
 item_plain options (failure error) held = plain_text _
 
 row_plain : (options : CsvOptions) (values : List CellValue)
-    → AllByRecursion IsHeld values
+    → AllByRecursion IsHeldValue values
     → (items_depth (row_json options values) ≡ 0) × ItemsHaveNumbers (row_json options values)
 row_plain options [] held = (refl, tt)
 row_plain options (value ∷ values) held =
@@ -228,7 +224,7 @@ row_plain options (value ∷ values) held =
     (omega (arith, own.shallow, rest.0), (own.numbers, rest.1))
 
 row_flat : (options : CsvOptions) (keys : List (List ℕ)) (values : List CellValue)
-    → AllByRecursion IsHeld values → AreFlat (row_members options keys values)
+    → AllByRecursion IsHeldValue values → AreFlat (row_members options keys values)
 row_flat options [] values held = none_flat
 row_flat options (key ∷ keys) [] held = none_flat
 row_flat options (key ∷ keys) (value ∷ values) held =
@@ -236,7 +232,7 @@ row_flat options (key ∷ keys) (value ∷ values) held =
     (item_plain options value held.0) (row_flat options keys values held.1)
 
 array_back : (options : CsvOptions) (values : List CellValue)
-    → AllByRecursion IsHeld values → IsReadBack (array (row_json options values))
+    → AllByRecursion IsHeldValue values → IsReadBack (array (row_json options values))
 array_back options values held =
     let plain = row_plain options values held in
     document-print (array (row_json options values)) plain.1 (omega (arith, plain.0))

@@ -1,8 +1,7 @@
 -- Keys that are looked at one behind the other, and members that none is left of.
 use Rattle.std.proofs.Common.{◌≡◌, ◌∙◌, ℕ, ◌+◌, ◌<◌, ◌||◌, Bool, true, false, cond, List, [], ◌∷◌}
 use Rattle.std.proofs.Common.{length, drop, get_or, map, refl, sym, ap, String, Global}
-use Rattle.std.proofs.Common.{string_bytes}
-use Rattle.std.proofs.Common.{Some, Bor}
+use Rattle.std.proofs.Common.{string_bytes, Some, Bor}
 use Rattle.std.specs.Prelude.{not, if◌then◌else◌}
 use Rattle.std.specs.BTreeMap.{is_at}
 use Rattle.std.specs.Cmp.Lexicographic.{slice_cmp}
@@ -12,7 +11,7 @@ use Rattle.std.proofs.lemmas.List.{drop_more}
 use Rattle.std.proofs.lemmas.Map.Text.{is_eq-slice_cmp}
 use Rattle.json.specs.Json.{no_members}
 use Rattle.json_rows.specs.RowObjects.{is_among, double_behind, row_members}
-use Rattle.xlsx_rows.specs.declared.options.CsvOptions.{CsvOptions}
+use Rattle.csv_rows.specs.declared.options.CsvOptions.{CsvOptions}
 
 either : (one other : Bool) → cond one true other ≡ (one || other)
 either true other = refl

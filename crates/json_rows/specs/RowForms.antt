@@ -1,6 +1,6 @@
 -- What a row is written as: an array, or an object under keys.
 use Rattle.std.specs.Prelude.{ℕ, List, map, string_bytes}
-use Rattle.cell_data.specs.CellValue.{CellValue, value_of_data}
+use Rattle.cell_data.specs.Words.{CellValue, value_of_data}
 use Rattle.cell_data.specs.declared.value.Data.{Data}
 use Rattle.json.specs.Json.{Json, array, object}
 use Rattle.json_lines.specs.JsonLines.{json_line}
@@ -8,9 +8,9 @@ use Rattle.json_rows.specs.RowObjects.{row_members}
 use Rattle.json_rows.specs.RowValues.{row_json}
 use Rattle.json_rows.specs.declared.rows.RowForm.{RowForm}
 use Rattle.json_rows.specs.declared.rows.RowForm.TheVariants.{Array, Object}
-use Rattle.xlsx_rows.specs.declared.options.CsvOptions.{CsvOptions}
+use Rattle.csv_rows.specs.declared.options.CsvOptions.{CsvOptions}
 
--- the value that a row is written as
+-- the value of JSON that a row is written as: an array, or an object under keys
 abbrev pub form_json : RowForm → CsvOptions → List CellValue → Json
 form_json Array options values = array (row_json options values)
 form_json (Object keys) options values =

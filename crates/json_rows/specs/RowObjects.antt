@@ -1,17 +1,17 @@
 -- The rows of a range as JSON under keys: an object for each row, with a member for each column.
-use Rattle.std.specs.Prelude.{◌≡◌, ⊤, ℕ, List, [], ◌∷◌, map, if◌then◌else◌, Bool}
-use Rattle.std.specs.Prelude.{Option, Some, None, string_bytes}
+use Rattle.std.specs.Prelude.{◌≡◌, ⊤, ℕ, List, [], ◌∷◌, map, if◌then◌else◌, Bool, Option, Some}
+use Rattle.std.specs.Prelude.{None, string_bytes}
 use Rattle.std.specs.List.{flat_map, list_any}
 use Rattle.std.specs.Str.{bytes_eq}
-use Rattle.cell_data.specs.CellValue.{CellValue, value_of_data}
+use Rattle.cell_data.specs.Words.{CellValue, value_of_data}
 use Rattle.cell_data.specs.declared.value.Data.{Data}
 use Rattle.json.specs.Json.{object, Members, no_members, member}
 use Rattle.json_lines.specs.JsonLines.{json_line}
 use Rattle.json_rows.specs.RowValues.{item_json}
 use Rattle.json_rows.specs.declared.error.ObjectsError.{ObjectsError}
 use Rattle.json_rows.specs.declared.error.ObjectsError.TheVariants.{TwoColumns}
-use Rattle.xlsx_rows.specs.RowsText.{data_field}
-use Rattle.xlsx_rows.specs.declared.options.CsvOptions.{CsvOptions}
+use Rattle.csv_rows.specs.RowsText.{data_field}
+use Rattle.csv_rows.specs.declared.options.CsvOptions.{CsvOptions}
 
 -- ---- keys
 
@@ -43,12 +43,12 @@ row_members options (key ∷ keys) (value ∷ values) =
     member key (item_json options value) (row_members options keys values)
 
 -- the line of a row under these keys
-abbrev pub object_line : CsvOptions → List (List ℕ) → List CellValue → List ℕ
-object_line options keys values = json_line (object (row_members options keys values))
+abbrev pub row_object_line : CsvOptions → List (List ℕ) → List CellValue → List ℕ
+row_object_line options keys values = json_line (object (row_members options keys values))
 
 -- the line of a row of a range under these keys
 abbrev pub data_object : CsvOptions → List (List ℕ) → List Data → List ℕ
-data_object options keys row = object_line options keys (map value_of_data row)
+data_object options keys row = row_object_line options keys (map value_of_data row)
 
 -- the lines of rows under these keys
 unfoldable pub object_lines : CsvOptions → List (List ℕ) → List (List Data) → List ℕ
@@ -59,7 +59,7 @@ abbrev pub keys_over : CsvOptions → List (List Data) → List (List ℕ)
 keys_over options [] = []
 keys_over options (header ∷ rows) = header_keys options header
 
--- the rows behind the first
+-- the rows behind the first, which gives the keys
 abbrev pub rows_behind : List (List Data) → List (List Data)
 rows_behind [] = []
 rows_behind (header ∷ rows) = rows

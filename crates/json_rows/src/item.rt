@@ -1,20 +1,19 @@
 //! The value at a position.
 ghost use Rattle.std.specs.Prelude.{◌≡◌, ◌++◌, OnOk, pos};
 ghost use Rattle.std.specs.Fmt.{signed_decimal};
-ghost use Rattle.cell_data.specs.CellValue.{value_of_data, time_value};
-ghost use Rattle.decimals.specs.Decimal.{number_of};
-ghost use Rattle.decimals.specs.Decimals.{printed, decimal_from};
+ghost use Rattle.cell_data.specs.Words.{value_of_data, time_value};
+ghost use Rattle.decimals.specs.Words.{number_of, printed, decimal_from};
 ghost use Rattle.json.specs.Json.{number};
 ghost use Rattle.json.specs.Tree.{json_tokens};
 ghost use Rattle.json_rows.specs.RowValues.{item_json};
-ghost use Rattle.xlsx_rows.specs.RowsText.{shown_number, integer_field, rounded_or};
+ghost use Rattle.csv_rows.specs.RowsText.{shown_number, integer_field, rounded_or};
 
 use cell_data::{Data, Decimal, ExcelDateTime};
+use csv_rows::{CsvOptions, shown_number};
 use excel_dates::ExcelDates;
 use json::Writer;
 use json_lines::write_decimal;
 use std::alloc::AllocError;
-use xlsx_rows::{CsvOptions, shown_number};
 
 /// Writes a number, rounded where digits are asked for.
 fn write_number(
@@ -80,7 +79,7 @@ fn write_time(
     if !options.dates {
         return write_number(writer, scratch, &time.value, options.digit_count());
     }
-    if !time.is_told() {
+    if !time.has_moment() {
         return write_decimal(writer, scratch, &time.value);
     }
     scratch.clear();

@@ -1,15 +1,15 @@
 //! The keys of rows.
 ghost use Rattle.std.specs.Prelude.{◌≡◌, map, string_bytes, IfOk, OnOk, IfErr, None, Err, ◌≢◌};
 ghost use Rattle.std.specs.Option.{option_copied};
-ghost use Rattle.cell_data.specs.RangeItems.{row_left};
+ghost use Rattle.cell_data.specs.Words.{row_left};
 ghost use Rattle.json_rows.specs.RowObjects.{first_double, header_keys, IsOfKeys};
 ghost use Rattle.json_rows.specs.declared.error.ObjectsError.TheVariants.{BoxTooLarge, NoHeader};
 
 use crate::error::ObjectsError;
 use cell_data::{Data, RowCells};
+use csv_rows::{CsvOptions, push_field};
 use std::alloc::{AllocError, Global};
 use std::collections::BTreeSet;
-use xlsx_rows::{CsvOptions, push_field};
 
 /// The first key that is one of those before it.
 fn first_double(alloc: Global, keys: &[String]) -> Result<Option<&str>, AllocError>

@@ -4,7 +4,7 @@
 //! are equal), `rows` (a row, all rows, and what is written of a range) and `error`
 //! (`ObjectsError`).
 //! Numbers, dates, the fields of a header and the limit of an area are those of the rows as CSV
-//! (`xlsx_rows`), and the tokens are written by the kit's `json`.
+//! (`csv_rows`), and the tokens are written by the kit's `json`.
 #![tactic(auto)]
 
 mod error;

@@ -2,26 +2,25 @@
 ghost use Rattle.std.specs.Prelude.{◌≡◌, ◌≢◌, ◌<◌, ◌++◌, ◌↔◌, length, map, string_bytes, None};
 ghost use Rattle.std.specs.Prelude.{OnOk, IfOk, IfErr, IfSome, Some, Err};
 ghost use Rattle.std.specs.List.{flat_map};
-ghost use Rattle.cell_data.specs.CellValue.{value_of_data};
-ghost use Rattle.cell_data.specs.Range.{bounds_of, height_of, width_of};
-ghost use Rattle.cell_data.specs.RangeItems.{box_count, row_items, row_left, rows_left};
+ghost use Rattle.cell_data.specs.Words.{value_of_data, bounds_of, height_of, width_of, box_count};
+ghost use Rattle.cell_data.specs.Words.{row_items, row_left, rows_left};
 ghost use Rattle.json.specs.Tree.{items_tokens, members_tokens, json_tokens};
 ghost use Rattle.json_rows.specs.RowForms.{form_json, form_line};
-ghost use Rattle.json_rows.specs.RowObjects.{row_members, first_double, object_lines};
-ghost use Rattle.json_rows.specs.RowObjects.{keys_over, headed_lines, IsOfKeys};
+ghost use Rattle.json_rows.specs.RowObjects.{row_members, first_double, object_lines, keys_over};
+ghost use Rattle.json_rows.specs.RowObjects.{headed_lines, IsOfKeys};
 ghost use Rattle.json_rows.specs.RowValues.{row_json, array_lines};
 ghost use Rattle.json_rows.specs.declared.error.ObjectsError.TheVariants.{BoxTooLarge, NoHeader};
-ghost use Rattle.xlsx_rows.specs.declared.error.CsvError.TheVariants as csv;
+ghost use Rattle.csv_rows.specs.declared.error.CsvError.TheVariants as csv;
 
 use crate::error::ObjectsError;
 use crate::item::write_item;
 use crate::keys::{check_keys, header_keys};
 use cell_data::{Data, Range, RowCells, Rows};
+use csv_rows::{CsvError, CsvOptions, MOST_CELLS};
 use json::Writer;
 use json_lines::end_line;
 use std::alloc::{AllocError, Global};
 use std::mem;
-use xlsx_rows::{CsvError, CsvOptions, MOST_CELLS};
 
 /// What lines are made in: the bytes of one, and a text in it.
 #[derive(Drop)]

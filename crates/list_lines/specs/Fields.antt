@@ -1,14 +1,14 @@
 -- A line is a list of fields, each with a key: as text the fields have tabs between them, and as
 -- JSON the line is an object of the keys.
-use Rattle.std.specs.Prelude.{ℕ, List, [], ◌∷◌, ◌++◌, codes, map, string_bytes}
-use Rattle.std.specs.Prelude.{Option, Some, None, option_map}
+use Rattle.std.specs.Prelude.{ℕ, List, [], ◌∷◌, ◌++◌, codes, map, string_bytes, Option, Some, None}
+use Rattle.std.specs.Prelude.{option_map}
 use Rattle.std.specs.List.{flat_map}
 use Rattle.std.specs.Option.{option_copied}
-use Rattle.cell_refs.specs.Reference.{reference}
+use Rattle.cell_refs.specs.Words.{reference}
 use Rattle.cell_refs.specs.declared.dimensions.Dimensions.{Dimensions}
 use Rattle.escaped_text.specs.Escaped.{escaped}
-use Rattle.json.specs.Json.{Json, string, array, object, Items, no_items, item}
-use Rattle.json.specs.Json.{Members, no_members, member}
+use Rattle.json.specs.Json.{Json, string, array, object, Items, no_items, item, Members, no_members}
+use Rattle.json.specs.Json.{member}
 use Rattle.json_lines.specs.JsonLines.{json_line, optional_member}
 use Rattle.list_lines.specs.declared.content.Content.{Content}
 use Rattle.list_lines.specs.declared.content.Content.TheVariants as held
@@ -18,7 +18,7 @@ use Rattle.list_lines.specs.declared.content.LineForm.{LineForm}
 use Rattle.list_lines.specs.declared.content.LineForm.TheVariants.{Text, Json as AsJson}
 use Rattle.list_lines.specs.declared.field.Field.{Field as HeldField}
 
--- what a field is of
+-- what a field of a line is of: what it holds
 pub data Value : Type 0 where
   -- a word of the program, as it is
   word : List ℕ → Value
@@ -58,7 +58,7 @@ next_field field = codes "\t" ++ field
 abbrev pub text_field : List ℕ → List ℕ
 text_field own = codes "=" ++ escaped own
 
--- one that may be missing
+-- the field of a text that may be missing: `-` where it is
 abbrev pub optional_field : Option (List ℕ) → List ℕ
 optional_field None = codes "-"
 optional_field (Some own) = text_field own
@@ -131,18 +131,18 @@ series_members (texts key own) = member key (array (string_items own)) no_member
 series_members (areas key own) =
     member key (array (string_items (map area_field own))) no_members
 
--- the value of a line
+-- the value of JSON that a line is: an object of its fields, and of what ends it
 abbrev pub line_value : List Field → Series → Json
 line_value fields series = object (field_members fields (series_members series))
 
--- the line of fields
+-- the line of fields in a form, as text or as JSON, with what ends it
 abbrev pub line : LineForm → List Field → Series → List ℕ
 line Text fields series = text_line fields series
 line AsJson fields series = json_line (line_value fields series)
 
 -- ---- what the code holds
 
--- what is held by a field
+-- what a field of a line holds, as definitions see it
 abbrev pub value_meant : Content → Value
 value_meant (held.Word own) = word own.now
 value_meant (held.Text own) = text own.now
@@ -152,11 +152,11 @@ value_meant (held.Position own) = position own
 value_meant (held.Area own) = area own
 value_meant (held.OptionalArea own) = optional_area own
 
--- a field that is held
+-- a field of a line that is held, as definitions see it
 abbrev pub field_meant : HeldField → Field
 field_meant own = keyed own.key.now (value_meant own.content)
 
--- what is held behind the fields
+-- what is held behind the fields of a line, as definitions see it
 abbrev pub series_meant : Listed → Series
 series_meant held_list.Nothing = nothing
 series_meant (held_list.Texts key own) = texts key.now (map string_bytes own.now)

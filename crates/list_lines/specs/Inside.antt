@@ -2,8 +2,7 @@
 use Rattle.std.specs.Prelude.{◌≡◌, ⊤, ◌<◌, ℕ, Some, None, true}
 use Rattle.std.specs.Coded.{×_prop, Unit-prop, le_prop}
 use Rattle.std.specs.List.{list_all}
-use Rattle.cell_refs.specs.A1.{row_limit, column_limit}
-use Rattle.cell_refs.specs.Positions.{is_sheet_area}
+use Rattle.cell_refs.specs.Words.{row_limit, column_limit, is_sheet_area}
 use Rattle.cell_refs.specs.declared.dimensions.Dimensions.{Dimensions}
 use Rattle.list_lines.specs.declared.content.Content.{Content}
 use Rattle.list_lines.specs.declared.content.Content.TheVariants.{Word, Text, Marked, Optional}
@@ -15,7 +14,7 @@ use Rattle.list_lines.specs.declared.content.Listed.TheVariants.{Areas}
 abbrev pub IsCellOfWorksheet : ℕ × ℕ → Type 0
 IsCellOfWorksheet position = (position.0 < row_limit) × (position.1 < column_limit)
 
--- both corners of an area are such cells
+-- both corners of an area are cells of a worksheet
 abbrev pub LiesInWorksheet : Dimensions → Type 0
 LiesInWorksheet area = IsCellOfWorksheet area.start × IsCellOfWorksheet area.end
 
@@ -33,7 +32,7 @@ cell_inside-one position = ×_prop le_prop le_prop
 area_inside-one : (area : Dimensions) → IsProp (LiesInWorksheet area)
 area_inside-one area = ×_prop (cell_inside-one area.start) (cell_inside-one area.end)
 
--- what a field holds lies inside in one way at most
+-- what a field holds lies inside a worksheet in one way at most
 pub inside-one : (content : Content) → IsProp (LiesInside content)
 inside-one (Word own) = Unit-prop
 inside-one (Text own) = Unit-prop
@@ -44,7 +43,7 @@ inside-one (Area area) = area_inside-one area
 inside-one (OptionalArea (Some area)) = area_inside-one area
 inside-one (OptionalArea None) = Unit-prop
 
--- so do the areas that are listed
+-- the areas that end a line lie in a worksheet
 abbrev pub AreInside : Listed → Type 0
 AreInside (Areas key areas) = list_all is_sheet_area areas.now ≡ true
 AreInside _ = ⊤

@@ -15,8 +15,8 @@ sheet_line form name typ state =
     nothing
 
 -- the line of a text alone: of the name of a part
-abbrev pub text_line : List ℕ → List ℕ
-text_line own = line Text (keyed (codes "text") (text own) ∷ []) nothing
+abbrev pub lone_text_line : List ℕ → List ℕ
+lone_text_line own = line Text (keyed (codes "text") (text own) ∷ []) nothing
 
 -- the line of a defined name: the name and what it stands for
 abbrev pub name_line : LineForm → List ℕ → List ℕ → List ℕ
@@ -30,7 +30,7 @@ pivot_line form sheet name =
     line form
     (keyed (codes "sheet") (text sheet) ∷ keyed (codes "name") (text name) ∷ []) nothing
 
--- the line of an area
+-- the line of an area, such as one of merged cells
 abbrev pub area_line : LineForm → Dimensions → List ℕ
 area_line form own = line form (keyed (codes "area") (area own) ∷ []) nothing
 

@@ -1,7 +1,6 @@
 //! A field of each kind.
-ghost use Rattle.std.specs.Prelude.{◌≡◌};
+ghost use Rattle.std.specs.Prelude.{◌≡◌, IfSome};
 ghost use Rattle.std.specs.Option.{option_copied};
-ghost use Rattle.std.specs.Prelude.{IfSome};
 ghost use Rattle.list_lines.specs.Fields.{keyed, field_meant, word, text, marked, optional};
 ghost use Rattle.list_lines.specs.Fields.{position, area, optional_area};
 ghost use Rattle.list_lines.specs.Inside.{IsCellOfWorksheet, LiesInWorksheet};

@@ -1,13 +1,13 @@
 ghost use Rattle.std.specs.Prelude.{◌≡◌, ◌++◌, map, string_bytes, OnOk, OnErr, IfSome, true};
 ghost use Rattle.std.specs.Option.{option_copied};
 ghost use Rattle.std.specs.List.{list_all};
-ghost use Rattle.cell_refs.specs.Positions.{is_sheet_area};
-ghost use Rattle.escaped_text.specs.Escaped.{Extends};
+ghost use Rattle.cell_refs.specs.Words.{is_sheet_area};
+ghost use Rattle.escaped_text.specs.Escaped.{AddsBehind};
 ghost use Rattle.list_lines.specs.Fields.{field_meant, series_meant, line};
 ghost use Rattle.list_lines.specs.Inside.{IsCellOfWorksheet, LiesInWorksheet, AreInside};
 ghost use Rattle.list_lines.specs.Lines.{sheet_line, name_line, pivot_line, area_line, link_line};
 ghost use Rattle.list_lines.specs.Lines.{comment_line, property_line, custom_line, table_line};
-ghost use Rattle.list_lines.specs.Lines.{position_line, position_areas_line, text_line};
+ghost use Rattle.list_lines.specs.Lines.{position_line, position_areas_line, lone_text_line};
 
 use crate::content::{LineForm, Listed};
 use crate::field::Field;
@@ -27,7 +27,7 @@ fn push_form(
     requires { AreInside listed }
     ensures ok { let printed = line form (map field_meant fields.now) (series_meant listed.entry) in
         OnOk result (string_bytes out.new ≡ string_bytes out.old ++ printed) }
-    ensures err { OnErr result (Extends (string_bytes out.old) (string_bytes out.new)) }
+    ensures err { OnErr result (AddsBehind (string_bytes out.old) (string_bytes out.new)) }
 {
     match form {
         LineForm::Text => push_text_form(out, fields, listed),
@@ -78,7 +78,8 @@ pub fn push_sheet_line(
 
 /// Appends the line of a text alone: of the name of a part. A refusal leaves the text as it was.
 pub fn push_text_line(out: &mut String, text: &str) -> Result<(), AllocError>
-    ensures ok { OnOk result (string_bytes out.new ≡ string_bytes out.old ++ text_line text.now) }
+    ensures ok { OnOk result (string_bytes out.new ≡ string_bytes out.old
+        ++ lone_text_line text.now) }
     ensures err { OnErr result (string_bytes out.new ≡ string_bytes out.old) }
 {
     let fields = [Field::text("text", text)];

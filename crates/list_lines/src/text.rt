@@ -2,8 +2,8 @@
 ghost use Rattle.std.specs.Prelude.{◌≡◌, ◌++◌, map, string_bytes, OnOk, OnErr, true};
 ghost use Rattle.std.specs.List.{flat_map, list_all};
 ghost use Rattle.std.specs.Option.{option_copied};
-ghost use Rattle.cell_refs.specs.Positions.{is_sheet_area};
-ghost use Rattle.escaped_text.specs.Escaped.{Extends, escaped};
+ghost use Rattle.cell_refs.specs.Words.{is_sheet_area};
+ghost use Rattle.escaped_text.specs.Escaped.{AddsBehind, escaped};
 ghost use Rattle.list_lines.specs.Fields.{value_text, further_texts, field_texts, series_text};
 ghost use Rattle.list_lines.specs.Fields.{value_meant, field_meant, series_meant, text_line};
 ghost use Rattle.list_lines.specs.Fields.{optional_field, area_field, next_field};
@@ -19,7 +19,7 @@ use std::alloc::AllocError;
 fn push_marked(out: &mut String, mark: &str, text: &str) -> Result<(), AllocError>
     ensures ok { OnOk result
         (string_bytes out.new ≡ string_bytes out.old ++ (mark.now ++ escaped text.now)) }
-    ensures err { OnErr result (Extends (string_bytes out.old) (string_bytes out.new)) }
+    ensures err { OnErr result (AddsBehind (string_bytes out.old) (string_bytes out.new)) }
 {
     out.push_str(mark)?;
     push_escaped(out, text)
@@ -29,7 +29,7 @@ fn push_marked(out: &mut String, mark: &str, text: &str) -> Result<(), AllocErro
 fn push_optional(out: &mut String, text: Option<&str>) -> Result<(), AllocError>
     ensures ok { OnOk result (string_bytes out.new
         ≡ string_bytes out.old ++ optional_field (option_copied text.entry)) }
-    ensures err { OnErr result (Extends (string_bytes out.old) (string_bytes out.new)) }
+    ensures err { OnErr result (AddsBehind (string_bytes out.old) (string_bytes out.new)) }
 {
     match text {
         Some(text) => push_marked(out, "=", text),
@@ -42,7 +42,7 @@ pub fn push_area(out: &mut String, area: Dimensions) -> Result<(), AllocError>
     requires { LiesInWorksheet area }
     ensures ok { OnOk result
         (string_bytes out.new ≡ string_bytes out.old ++ area_field area) }
-    ensures err { OnErr result (Extends (string_bytes out.old) (string_bytes out.new)) }
+    ensures err { OnErr result (AddsBehind (string_bytes out.old) (string_bytes out.new)) }
 {
     push_reference(out, area.start.0, area.start.1)?;
     out.push_str(":")?;
@@ -54,7 +54,7 @@ fn push_content(out: &mut String, content: Content<'_>) -> Result<(), AllocError
     requires { LiesInside content }
     ensures ok { OnOk result (string_bytes out.new
         ≡ string_bytes out.old ++ value_text (value_meant content.entry)) }
-    ensures err { OnErr result (Extends (string_bytes out.old) (string_bytes out.new)) }
+    ensures err { OnErr result (AddsBehind (string_bytes out.old) (string_bytes out.new)) }
 {
     match content {
         Content::Word(word) => out.push_str(word),
@@ -72,7 +72,7 @@ fn push_content(out: &mut String, content: Content<'_>) -> Result<(), AllocError
 fn push_further(out: &mut String, fields: &[Field<'_>]) -> Result<(), AllocError>
     ensures ok { let printed = further_texts (map field_meant fields.now) in
         OnOk result (string_bytes out.new ≡ string_bytes out.old ++ printed) }
-    ensures err { OnErr result (Extends (string_bytes out.old) (string_bytes out.new)) }
+    ensures err { OnErr result (AddsBehind (string_bytes out.old) (string_bytes out.new)) }
 {
     for field in fields {
         out.push_str("\t")?;
@@ -85,7 +85,7 @@ fn push_further(out: &mut String, fields: &[Field<'_>]) -> Result<(), AllocError
 fn push_fields(out: &mut String, fields: &[Field<'_>]) -> Result<(), AllocError>
     ensures ok { let printed = field_texts (map field_meant fields.now) in
         OnOk result (string_bytes out.new ≡ string_bytes out.old ++ printed) }
-    ensures err { OnErr result (Extends (string_bytes out.old) (string_bytes out.new)) }
+    ensures err { OnErr result (AddsBehind (string_bytes out.old) (string_bytes out.new)) }
 {
     match fields {
         [first, others @ ..] => {
@@ -101,7 +101,7 @@ fn push_texts(out: &mut String, texts: &[String]) -> Result<(), AllocError>
     ensures ok { let printed = flat_map (λ one. next_field (escaped one))
         (map string_bytes texts.now) in
         OnOk result (string_bytes out.new ≡ string_bytes out.old ++ printed) }
-    ensures err { OnErr result (Extends (string_bytes out.old) (string_bytes out.new)) }
+    ensures err { OnErr result (AddsBehind (string_bytes out.old) (string_bytes out.new)) }
 {
     for text in texts {
         out.push_str("\t")?;
@@ -115,7 +115,7 @@ fn push_areas(out: &mut String, areas: &[Dimensions]) -> Result<(), AllocError>
     requires { list_all is_sheet_area areas.now ≡ true }
     ensures ok { let printed = flat_map (λ one. next_field (area_field one)) areas.now in
         OnOk result (string_bytes out.new ≡ string_bytes out.old ++ printed) }
-    ensures err { OnErr result (Extends (string_bytes out.old) (string_bytes out.new)) }
+    ensures err { OnErr result (AddsBehind (string_bytes out.old) (string_bytes out.new)) }
 {
     for area in areas {
         out.push_str("\t")?;
@@ -128,7 +128,7 @@ fn push_listed(out: &mut String, listed: Listed<'_>) -> Result<(), AllocError>
     requires { AreInside listed }
     ensures ok { OnOk result (string_bytes out.new
         ≡ string_bytes out.old ++ series_text (series_meant listed.entry)) }
-    ensures err { OnErr result (Extends (string_bytes out.old) (string_bytes out.new)) }
+    ensures err { OnErr result (AddsBehind (string_bytes out.old) (string_bytes out.new)) }
 {
     match listed {
         Listed::Nothing => Ok(()),
@@ -146,7 +146,7 @@ pub fn push_text_form(
     requires { AreInside listed }
     ensures ok { let printed = text_line (map field_meant fields.now) (series_meant listed.entry) in
         OnOk result (string_bytes out.new ≡ string_bytes out.old ++ printed) }
-    ensures err { OnErr result (Extends (string_bytes out.old) (string_bytes out.new)) }
+    ensures err { OnErr result (AddsBehind (string_bytes out.old) (string_bytes out.new)) }
 {
     push_fields(out, fields)?;
     push_listed(out, listed)?;

@@ -1,18 +1,16 @@
 //! A line as an object of JSON.
-ghost use Rattle.std.specs.Prelude.{◌≡◌, ◌++◌, [], ◌∷◌, map, string_bytes, IfOk, OnOk};
-ghost use Rattle.std.specs.Prelude.{OnErr, true};
+ghost use Rattle.std.specs.Prelude.{◌≡◌, ◌++◌, [], ◌∷◌, map, string_bytes, IfOk, OnOk, OnErr, true};
 ghost use Rattle.std.specs.List.{list_all};
-ghost use Rattle.cell_refs.specs.Positions.{is_sheet_area};
-ghost use Rattle.escaped_text.specs.Escaped.{Extends};
+ghost use Rattle.cell_refs.specs.Words.{is_sheet_area, reference};
+ghost use Rattle.escaped_text.specs.Escaped.{AddsBehind};
 ghost use Rattle.json.specs.Json.{Members};
 ghost use Rattle.json.specs.Token.{key, string, begin_array};
 ghost use Rattle.json.specs.Tree.{members_tokens, items_tokens};
 ghost use Rattle.json_lines.specs.JsonLines.{json_line, optional_member};
 ghost use Rattle.list_lines.specs.Fields.{value_json, field_members, string_items, series_members};
-ghost use Rattle.list_lines.specs.Fields.{line_value, area_field};
-ghost use Rattle.list_lines.specs.Fields.{value_meant, field_meant, series_meant};
+ghost use Rattle.list_lines.specs.Fields.{line_value, area_field, value_meant, field_meant};
+ghost use Rattle.list_lines.specs.Fields.{series_meant};
 ghost use Rattle.list_lines.specs.Inside.{LiesInWorksheet, IsCellOfWorksheet, AreInside};
-ghost use Rattle.cell_refs.specs.Reference.{reference};
 ghost use Rattle.std.specs.Str.{IsUtf8};
 
 use crate::content::{Content, Listed};
@@ -148,7 +146,8 @@ fn value_line(
     listed: Listed<'_>,
 ) -> Result<Vec<u8>, AllocError>
     requires { AreInside listed }
-    ensures line { let value = line_value (map field_meant fields.now) (series_meant listed.entry) in
+    ensures line { let value = line_value (map field_meant fields.now)
+        (series_meant listed.entry) in
         IfOk result (λ out. out.items ≡ json_line value) }
     ensures utf8 { IfOk result (λ out. IsUtf8 out.items) }
 {
@@ -169,7 +168,7 @@ pub fn push_json_form(
     requires { AreInside listed }
     ensures ok { let value = line_value (map field_meant fields.now) (series_meant listed.entry) in
         OnOk result (string_bytes out.new ≡ string_bytes out.old ++ json_line value) }
-    ensures err { OnErr result (Extends (string_bytes out.old) (string_bytes out.new)) }
+    ensures err { OnErr result (AddsBehind (string_bytes out.old) (string_bytes out.new)) }
 {
     let bytes = value_line(*out.allocator(), fields, listed)?;
     // Safety: what the writer of JSON writes is UTF-8.

@@ -7,13 +7,14 @@ use Rattle.std.proofs.lemmas.Bool.{cond-true, cond-false, or_parts, and_parts, e
 use Rattle.std.proofs.lemmas.Bool.{false≢true, not-true, and_from, or_left}
 use Rattle.std.proofs.lemmas.List.{append_assoc, length-append, get_or-append-add}
 use Rattle.std.proofs.Math.Seq.{take-append_seam, drop-append_seam, get_or-append_seam}
-use Rattle.part_events.specs.Event.{Tag, Event, start, end, leaf, text, char_data, entity_ref}
-use Rattle.part_events.specs.Event.{other, flaw}
+use Rattle.part_events.specs.Words.{Tag, Event, start, end, leaf, text, char_data, entity_ref}
+use Rattle.part_events.specs.Words.{other, flaw}
 use Rattle.markup.specs.Marks.{ends_name, begins_no_name, is_space, is_bracket, is_mark, byte_at}
-use Rattle.markup.specs.Marks.{is_reference_end, bracket_place, place_of, without_space_behind}
-use Rattle.markup.specs.Front.{Piece, one, empty, piece, front_of, markup_front}
-use Rattle.markup.specs.Front.{start_front, reference_front, tagged}
-use Rattle.markup.specs.Front.{attributed, is_behind_name, span_front, last_byte}
+use Rattle.markup.specs.Marks.{is_reference_end, bracket_place, first_place_of}
+use Rattle.markup.specs.Marks.{without_space_behind}
+use Rattle.markup.specs.Front.{Piece, one, empty, piece, front_in_markup, markup_front, start_front}
+use Rattle.markup.specs.Front.{reference_front, tagged, attributed, is_behind_name, span_front}
+use Rattle.markup.specs.Front.{last_byte_or_zero}
 use Rattle.markup.specs.Markup.{markup_events, events_from, events_of_piece}
 use Rattle.markup.specs.Spelled.{spelled, spelled_piece, are_spellable, is_spellable, is_words}
 use Rattle.markup.specs.Spelled.{begin_with_words, is_tag_name, is_attribute_text, is_end_name}
@@ -23,7 +24,7 @@ use Rattle.markup.proofs.Runs.{bracket_behind, name_ends_before, kept_whole, dat
 
 -- the events of a text that begins with a piece are its own and those of what follows
 cut_first : (first : Piece) (b : ℕ) (own more : List ℕ)
-    → front_of b (own ++ more) ≡ piece first (suc (length own))
+    → front_in_markup b (own ++ more) ≡ piece first (suc (length own))
     → markup_events (b ∷ (own ++ more)) ≡ events_of_piece first ++ markup_events more
 cut_first first b own more is =
     let size : suc (length own) - 1 ≡ length own = omega arith in
@@ -92,10 +93,10 @@ behind_empty (b ∷ []) is = (and_parts _ _ is).0
 behind_empty (b ∷ c ∷ bytes) is = (and_parts _ _ is).0
 
 start_cut : (name attributes more : List ℕ) → is_tag_name name ≡ true
-    → is_attribute_text attributes ≡ true → (last_byte attributes == 47) ≡ false
+    → is_attribute_text attributes ≡ true → (last_byte_or_zero attributes == 47) ≡ false
     → markup_events (60 ∷ ((name ++ (attributes ++ 62 ∷ [])) ++ more))
     ≡ start (record { name = name; attributes = attributes }) ∷ markup_events more
-unfolding front_of bracket_place
+unfolding front_in_markup bracket_place
 start_cut [] attributes more is fits slash = absurd (false≢true is)
 start_cut (n ∷ name) attributes more is fits slash =
     let own : List ℕ = (n ∷ name) ++ (attributes ++ 62 ∷ []) in
@@ -123,7 +124,7 @@ empty_cut : (name attributes more : List ℕ) → is_tag_name name ≡ true
     → is_attribute_text attributes ≡ true
     → markup_events (60 ∷ ((name ++ (attributes ++ 47 ∷ 62 ∷ [])) ++ more))
     ≡ start (record { name = name; attributes = attributes }) ∷ end name ∷ markup_events more
-unfolding front_of bracket_place
+unfolding front_in_markup bracket_place
 empty_cut [] attributes more is fits = absurd (false≢true is)
 empty_cut (n ∷ name) attributes more is fits =
     let own : List ℕ = (n ∷ name) ++ (attributes ++ 47 ∷ 62 ∷ []) in
@@ -143,7 +144,7 @@ empty_cut (n ∷ name) attributes more is fits =
     ap (bracket_place None) slashed ∙ bracket_behind attributes (47 ∷ 62 ∷ more) fits
     ∙ omega arith in
     let before : length inner - 1 ≡ length attributes = omega arith in
-    let slash : (last_byte inner == 47) ≡ true =
+    let slash : (last_byte_or_zero inner == 47) ≡ true =
     eq-eqb _ _ (ap (byte_at inner) before ∙ get_or-append_seam attributes 47 [] 0) in
     let kept : take (length inner - 1) inner ≡ attributes =
     ap (λ k. take k inner) before ∙ take-append_seam attributes (47 ∷ []) in
@@ -163,7 +164,7 @@ empty_cut (n ∷ name) attributes more is fits =
 
 end_cut : (name more : List ℕ) → is_end_name name ≡ true
     → markup_events (60 ∷ ((47 ∷ (name ++ 62 ∷ [])) ++ more)) ≡ end name ∷ markup_events more
-unfolding front_of
+unfolding front_in_markup
 end_cut [] more is = absurd (false≢true is)
 end_cut (n ∷ name) more is =
     let tests = and_parts _ _ is in
@@ -195,7 +196,7 @@ end_cut (n ∷ name) more is =
 text_cut : (content more : List ℕ) → not (length content == 0) ≡ true
     → list_any is_mark content ≡ false → position_or_len is_mark more ≡ 0
     → markup_events (content ++ more) ≡ leaf (text content) ∷ markup_events more
-unfolding front_of
+unfolding front_in_markup
 text_cut [] more some plain stop = absurd (false≢true some)
 text_cut (b ∷ content) more some plain stop =
     let whole : List ℕ = (b ∷ content) ++ more in
@@ -209,10 +210,10 @@ text_cut (b ∷ content) more some plain stop =
     ∙ ap (λ (t : List ℕ). piece (one (leaf (text t))) (length (b ∷ content)))
     (take-append_seam (b ∷ content) more))
 
-data_cut : (content more : List ℕ) → place_of (93 ∷ 93 ∷ 62 ∷ []) content ≡ None
+data_cut : (content more : List ℕ) → first_place_of (93 ∷ 93 ∷ 62 ∷ []) content ≡ None
     → markup_events (60 ∷ ((33 ∷ 91 ∷ 67 ∷ 68 ∷ 65 ∷ 84 ∷ 65 ∷ 91 ∷ (content ++ 93 ∷ 93 ∷ 62 ∷ []))
     ++ more)) ≡ leaf (char_data content) ∷ markup_events more
-unfolding front_of
+unfolding front_in_markup
 data_cut content more none =
     let behind : List ℕ = content ++ 93 ∷ 93 ∷ 62 ∷ [] in
     let own : List ℕ = 33 ∷ 91 ∷ 67 ∷ 68 ∷ 65 ∷ 84 ∷ 65 ∷ 91 ∷ behind in
@@ -221,7 +222,8 @@ data_cut content more none =
     let long : length content + 12 ≡ suc (length own) =
     omega (arith, length-append content (93 ∷ 93 ∷ 62 ∷ [])) in
     cut_first (one (leaf (char_data content))) 60 own more
-    (ap (λ (t : List ℕ). span_front (λ c. char_data c) 12 t (place_of (93 ∷ 93 ∷ 62 ∷ []) t)) apart
+    (ap (λ (t : List ℕ). span_front (λ c. char_data c) 12 t (first_place_of (93 ∷ 93 ∷ 62 ∷ [])
+    t)) apart
     ∙ ap (span_front (λ c. char_data c) 12 whole) (data_over content more none)
     ∙ ap (λ (t : List ℕ). piece (one (leaf (char_data t))) (length content + 12))
     (take-append_seam content (93 ∷ 93 ∷ 62 ∷ more))
@@ -229,7 +231,7 @@ data_cut content more none =
 
 reference_cut : (name more : List ℕ) → list_any is_reference_end name ≡ false
     → markup_events (38 ∷ ((name ++ 59 ∷ []) ++ more)) ≡ leaf (entity_ref name) ∷ markup_events more
-unfolding front_of
+unfolding front_in_markup
 reference_cut name more plain =
     let own : List ℕ = name ++ 59 ∷ [] in
     let whole : List ℕ = name ++ 59 ∷ more in
@@ -252,7 +254,7 @@ reference_cut name more plain =
 comment_cut : (more : List ℕ)
     → markup_events (60 ∷ ((33 ∷ 45 ∷ 45 ∷ 45 ∷ 45 ∷ 62 ∷ []) ++ more))
     ≡ leaf other ∷ markup_events more
-unfolding front_of place_of
+unfolding front_in_markup first_place_of
 comment_cut more = cut_first (one (leaf other)) 60 (33 ∷ 45 ∷ 45 ∷ 45 ∷ 45 ∷ 62 ∷ []) more refl
 
 -- ---- pieces in a row

@@ -4,7 +4,8 @@ use Rattle.std.proofs.Common.{get_or, drop, Some, None, refl, ap, ◌∙◌, ari
 use Rattle.std.specs.Option.{option_map, option_and_then}
 use Rattle.std.proofs.lemmas.Bool.{cond-true, cond-false}
 use Rattle.std.proofs.lemmas.List.{at_drop_more, drop-drop, drop_all}
-use Rattle.markup.specs.Front.{doctype_place, passed_over, begins_span, inner_behind, closes}
+use Rattle.markup.specs.Front.{doctype_place, passed_over, begins_span, inner_behind}
+use Rattle.markup.specs.Front.{closes_doctype}
 use Rattle.markup.proofs.Places.{shifted, shifted-zero, shifted-suc, suc-shifted, shifted-shifted}
 
 -- behind what is passed over the search goes on
@@ -56,7 +57,7 @@ doctype_open bytes i inner within is passed =
 
 pub doctype_closed : (bytes : List ℕ) (i inner : ℕ) → i < length bytes
     → begins_span (get_or bytes i 0) (drop (i + 1) bytes) ≡ false
-    → closes (get_or bytes i 0) inner ≡ true
+    → closes_doctype (get_or bytes i 0) inner ≡ true
     → shifted i (doctype_place (drop i bytes) 0 inner) ≡ Some i
 unfolding doctype_place
 doctype_closed bytes i inner within not is =
@@ -66,7 +67,7 @@ doctype_closed bytes i inner within not is =
 
 pub doctype_next : (bytes : List ℕ) (i inner : ℕ) → i < length bytes
     → begins_span (get_or bytes i 0) (drop (i + 1) bytes) ≡ false
-    → closes (get_or bytes i 0) inner ≡ false
+    → closes_doctype (get_or bytes i 0) inner ≡ false
     → shifted i (doctype_place (drop i bytes) 0 inner)
     ≡ shifted (i + 1) (doctype_place (drop (i + 1) bytes) 0 (inner_behind (get_or bytes i 0) inner))
 unfolding doctype_place

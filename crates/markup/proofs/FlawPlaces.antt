@@ -3,7 +3,7 @@ use Rattle.std.proofs.Common.{◌≡◌, ℕ, zero, suc, ◌+◌, ◌-◌, ◌<�
 use Rattle.std.proofs.Common.{Some, None, true, false, refl, sym, ap, ◌∙◌, arith}
 use Rattle.std.specs.Option.{option_map}
 use Rattle.std.proofs.lemmas.List.{drop-drop, drop_all, length-drop}
-use Rattle.markup.specs.Front.{front_of}
+use Rattle.markup.specs.Front.{front_in_markup}
 use Rattle.markup.specs.Marks.{byte_at}
 use Rattle.markup.specs.Markup.{flaw_from, flaw_behind}
 use Rattle.markup.specs.Found.{seen, Stands}
@@ -50,7 +50,7 @@ flaw_over bytes at size some =
     ∙ sym (flaw_shifted bytes (at + size))
 
 flaw_by_front : (rest : List ℕ) (found : Found) → 0 < length rest
-    → seen rest found ≡ front_of (byte_at rest 0) (drop 1 rest)
+    → seen rest found ≡ front_in_markup (byte_at rest 0) (drop 1 rest)
     → flaw_behind rest 0 ≡ flaw_from (flaw_behind (drop 1 rest)) (seen rest found)
 unfolding flaw_behind
 flaw_by_front [] found some front = absurd (omega arith)
@@ -74,7 +74,8 @@ flaw_by_found bytes at (Other size) stands = flaw_over bytes at size (omega (ari
 
 -- a step over what was found
 pub flaw_passed : (bytes : List ℕ) (at : ℕ) (found : Found) → at < length bytes
-    → seen (drop at bytes) found ≡ front_of (byte_at (drop at bytes) 0) (drop 1 (drop at bytes))
+    → seen (drop at bytes) found ≡ front_in_markup (byte_at (drop at bytes) 0)
+    (drop 1 (drop at bytes))
     → Stands (drop at bytes) found → flaw_behind bytes at
     ≡ flaw_left bytes (place_behind at (length bytes) found) (held_at at found)
 flaw_passed bytes at found within front stands =

@@ -1,31 +1,28 @@
 -- What every front tells: no flaw among its events, and no more events than it has bytes.
 use Rattle.std.proofs.Common.{◌≡◌, ℕ, zero, suc, ◌+◌, ◌-◌, ◌<◌, ◌≤◌, false, List, [], ◌∷◌, ◌++◌}
+use Rattle.std.proofs.Common.{length, take, drop, Option, Some, None, refl, sym, ap, ◌∙◌, arith}
 use Rattle.std.specs.Prelude.{⊤, Bool, if◌then◌else◌, ◌==◌, ◌&&◌, ◌||◌, not, codes}
 use Rattle.std.proofs.Math.Bool.{cond}
-use Rattle.std.proofs.Common.{length, take, drop, Option, Some, None, refl, sym, ap, ◌∙◌, arith}
 use Rattle.std.specs.List.{list_any, position_or_len, before_first}
 use Rattle.std.proofs.lemmas.Bool.{cond_both, true≢false, or_from}
-use Rattle.part_events.specs.Event.{Event, Leaf, leaf, text, char_data, flaw, is_flaw}
+use Rattle.part_events.specs.Words.{Event, Leaf, leaf, text, char_data, flaw, is_flaw}
 use Rattle.markup.specs.Marks.{bracket_place, byte_at, begins_with, begins_no_name, ends_name}
-use Rattle.markup.specs.Marks.{is_mark}
-use Rattle.markup.specs.Marks.{place_of}
-use Rattle.markup.specs.Front.{Piece, one, empty, Front, flawed, piece, front_of, markup_front}
-use Rattle.markup.specs.Front.{start_front, end_front, reference_front, tagged}
+use Rattle.markup.specs.Marks.{is_mark, first_place_of}
+use Rattle.markup.specs.Front.{Piece, one, empty, MarkupFront, flawed, piece, front_in_markup}
+use Rattle.markup.specs.Front.{markup_front, start_front, end_front, reference_front, tagged}
 use Rattle.markup.specs.Front.{attributed, as_other, ends_in_slash, span_front, declared_front}
-use Rattle.markup.specs.Front.{doctype_front, doctype_place}
-use Rattle.markup.specs.Front.{is_behind_name}
-use Rattle.markup.specs.Markup.{events_from, events_behind, markup_events}
-use Rattle.markup.specs.Markup.{is_flaw_event}
+use Rattle.markup.specs.Front.{doctype_front, doctype_place, is_behind_name}
+use Rattle.markup.specs.Markup.{events_from, events_behind, markup_events, is_flaw_event}
 use Rattle.part_events.specs.declared.flaw.Flaw.{Flaw}
 use Rattle.part_events.specs.declared.flaw.Flaw.TheVariants.{Malformed}
 
 -- a front behind whose first byte these stand
-abbrev Fits : List ℕ → Front → Type 0
+abbrev Fits : List ℕ → MarkupFront → Type 0
 Fits bytes flawed = ⊤
 Fits bytes (piece (one event) size) = is_flaw_event event ≡ false
 Fits bytes (piece (empty tag) size) = (2 ≤ size) × (0 < length bytes)
 
-record Tells (bytes : List ℕ) (front : Front) : Type 0 where
+record Tells (bytes : List ℕ) (front : MarkupFront) : Type 0 where
   fits : Fits bytes front
 
 flaw_tells : (bytes : List ℕ) → Tells bytes flawed
@@ -36,7 +33,7 @@ event_tells : (bytes : List ℕ) (event : Event) (size : ℕ) → is_flaw_event 
 event_tells bytes event size plain = record { fits = plain }
 
 -- one of two fronts
-either : (bytes : List ℕ) (test : Bool) (first second : Front) → Tells bytes first
+either : (bytes : List ℕ) (test : Bool) (first second : MarkupFront) → Tells bytes first
     → Tells bytes second → Tells bytes (cond test first second)
 either bytes test first second a b =
     cond_both test first second (Tells bytes) (λ _. a) (λ _. b)
@@ -91,9 +88,9 @@ doctype_tells whole (Some place) = event_tells whole _ _ refl
 declared_tells : (whole bytes : List ℕ) → Tells whole (declared_front bytes)
 declared_tells whole bytes =
     let comment = span_tells whole as_other 7 (drop 2 bytes)
-    (place_of (codes "-->") (drop 2 bytes)) (λ c. refl) in
+    (first_place_of (codes "-->") (drop 2 bytes)) (λ c. refl) in
     let section = span_tells whole (λ content. char_data content) 12 (drop 7 bytes)
-    (place_of (codes "]]>") (drop 7 bytes)) (λ c. refl) in
+    (first_place_of (codes "]]>") (drop 7 bytes)) (λ c. refl) in
     let doctype = doctype_tells whole (doctype_place (drop 7 bytes) 0 0) in
     either whole (begins_with (codes "--") bytes) _ _ comment
     (either whole (begins_with (codes "[CDATA[") bytes) _ _ section
@@ -102,15 +99,15 @@ declared_tells whole bytes =
 markup_tells : (bytes : List ℕ) → Tells bytes (markup_front bytes)
 markup_tells [] = flaw_tells []
 markup_tells (b ∷ bytes) =
-    let instruction = span_tells (b ∷ bytes) as_other 4 bytes (place_of (codes "?>") bytes)
+    let instruction = span_tells (b ∷ bytes) as_other 4 bytes (first_place_of (codes "?>") bytes)
     (λ c. refl) in
     either (b ∷ bytes) (b == 47) _ _ (end_tells (b ∷ bytes) bytes)
     (either (b ∷ bytes) (b == 63) _ _ instruction
     (either (b ∷ bytes) (b == 33) _ _ (declared_tells (b ∷ bytes) bytes)
     (start_tells (b ∷ bytes))))
 
-front_tells : (b : ℕ) (bytes : List ℕ) → Tells bytes (front_of b bytes)
-unfolding front_of
+front_tells : (b : ℕ) (bytes : List ℕ) → Tells bytes (front_in_markup b bytes)
+unfolding front_in_markup
 front_tells b bytes =
     either bytes (b == 60) _ _ (markup_tells bytes)
     (either bytes (b == 38) _ _ (reference_tells bytes bytes)
@@ -118,7 +115,7 @@ front_tells b bytes =
 
 -- ---- no more events than bytes
 
-front_bounded : (bytes : List ℕ) (front : Front) → Tells bytes front
+front_bounded : (bytes : List ℕ) (front : MarkupFront) → Tells bytes front
     → ((n : ℕ) → length (events_behind bytes n) ≤ length bytes - n)
     → length (events_from (events_behind bytes) front) ≤ suc (length bytes)
 front_bounded bytes flawed tells more = omega arith
@@ -131,8 +128,9 @@ unfolding events_behind
 behind_bounded [] n = omega arith
 behind_bounded (b ∷ bytes) (suc n) = omega (arith, behind_bounded bytes n)
 behind_bounded (b ∷ bytes) zero =
-    let own : length (events_from (events_behind bytes) (front_of b bytes)) ≤ suc (length bytes) =
-    front_bounded bytes (front_of b bytes) (front_tells b bytes) (behind_bounded bytes) in
+    let own : length (events_from (events_behind bytes) (front_in_markup b bytes)) ≤ suc
+    (length bytes) =
+    front_bounded bytes (front_in_markup b bytes) (front_tells b bytes) (behind_bounded bytes) in
     omega arith
 
 pub bounded : (bytes : List ℕ) → length (markup_events bytes) ≤ length bytes
@@ -168,7 +166,7 @@ none_last : HasFlawLast []
 none_last [] behind why is = absurd cc
 none_last (first ∷ before) behind why is = absurd cc
 
-front_last : (bytes : List ℕ) (front : Front) → Tells bytes front
+front_last : (bytes : List ℕ) (front : MarkupFront) → Tells bytes front
     → ((n : ℕ) → HasFlawLast (events_behind bytes n))
     → HasFlawLast (events_from (events_behind bytes) front)
 front_last bytes flawed tells more = alone
@@ -182,7 +180,7 @@ unfolding events_behind
 behind_last [] n = none_last
 behind_last (b ∷ bytes) (suc n) = behind_last bytes n
 behind_last (b ∷ bytes) zero =
-    front_last bytes (front_of b bytes) (front_tells b bytes) (behind_last bytes)
+    front_last bytes (front_in_markup b bytes) (front_tells b bytes) (behind_last bytes)
 
 pub flaw_last : (bytes : List ℕ) → HasFlawLast (markup_events bytes)
 unfolding markup_events

@@ -1,10 +1,10 @@
 -- Where a text first stands in another.
-use Rattle.std.proofs.Common.{◌≡◌, ℕ, suc, ◌+◌, ◌<◌, true, false, List, [], length}
-use Rattle.std.proofs.Common.{drop, Option, Some, None, refl, sym, ap, ◌∙◌, arith}
+use Rattle.std.proofs.Common.{◌≡◌, ℕ, suc, ◌+◌, ◌<◌, true, false, List, [], length, drop, Option}
+use Rattle.std.proofs.Common.{Some, None, refl, sym, ap, ◌∙◌, arith}
 use Rattle.std.specs.Option.{option_map}
 use Rattle.std.proofs.lemmas.Bool.{cond-true, cond-false}
 use Rattle.std.proofs.lemmas.List.{at_drop_more, drop_more}
-use Rattle.markup.specs.Marks.{begins_with, place_of}
+use Rattle.markup.specs.Marks.{begins_with, first_place_of}
 
 -- the place of a search that began at another
 abbrev pub shifted : ℕ → Option ℕ → Option ℕ
@@ -31,23 +31,24 @@ shifted-shifted first second both (Some n) is = ap Some (omega arith)
 
 -- the search at a place where the text stands, where it doesn't, and at the end
 pub place_here : (needle bytes : List ℕ) (i : ℕ) → i < length bytes
-    → begins_with needle (drop i bytes) ≡ true → shifted i (place_of needle (drop i bytes)) ≡ Some i
-unfolding place_of
+    → begins_with needle (drop i bytes) ≡ true → shifted i (first_place_of needle (drop i bytes))
+    ≡ Some i
+unfolding first_place_of
 place_here needle bytes i within is =
-    ap (shifted i) (at_drop_more (place_of needle) bytes i 0 within
+    ap (shifted i) (at_drop_more (first_place_of needle) bytes i 0 within
     ∙ cond-true _ _ _ (ap (begins_with needle) (sym (drop_more bytes i 0 within)) ∙ is))
     ∙ ap Some (omega arith)
 
 pub place_later : (needle bytes : List ℕ) (i : ℕ) → i < length bytes
     → begins_with needle (drop i bytes) ≡ false
-    → shifted i (place_of needle (drop i bytes))
-    ≡ shifted (i + 1) (place_of needle (drop (i + 1) bytes))
-unfolding place_of
+    → shifted i (first_place_of needle (drop i bytes))
+    ≡ shifted (i + 1) (first_place_of needle (drop (i + 1) bytes))
+unfolding first_place_of
 place_later needle bytes i within is =
-    ap (shifted i) (at_drop_more (place_of needle) bytes i 0 within
+    ap (shifted i) (at_drop_more (first_place_of needle) bytes i 0 within
     ∙ cond-false _ _ _ (ap (begins_with needle) (sym (drop_more bytes i 0 within)) ∙ is))
-    ∙ shifted-suc i (place_of needle (drop (i + 1) bytes))
+    ∙ shifted-suc i (first_place_of needle (drop (i + 1) bytes))
 
-pub place_nowhere : (needle : List ℕ) (i : ℕ) → shifted i (place_of needle []) ≡ None
-unfolding place_of
+pub place_nowhere : (needle : List ℕ) (i : ℕ) → shifted i (first_place_of needle []) ≡ None
+unfolding first_place_of
 place_nowhere needle i = refl

@@ -8,9 +8,10 @@ use Rattle.std.proofs.lemmas.Bool.{cond-true, cond-false, or_parts, and_parts, c
 use Rattle.std.proofs.lemmas.Bool.{true≢false, false≢true, and_right}
 use Rattle.std.proofs.lemmas.List.Sums.{suffix_len_is}
 use Rattle.std.proofs.Math.Seq.{take-length}
-use Rattle.markup.specs.Marks.{ends_name, is_space, is_bracket, is_quote, bracket_place, ends_tag}
-use Rattle.markup.specs.Marks.{quote_behind, place_of, begins_with, without_space_behind}
-use Rattle.markup.specs.Front.{last_byte}
+use Rattle.markup.specs.Marks.{ends_name, is_space, is_bracket, is_quote_mark, bracket_place}
+use Rattle.markup.specs.Marks.{ends_tag, quote_behind, first_place_of, begins_with}
+use Rattle.markup.specs.Marks.{without_space_behind}
+use Rattle.markup.specs.Front.{last_byte_or_zero}
 use Rattle.markup.specs.Spelled.{is_attribute_text}
 
 pub neither : (x y : Bool) → x ≡ false → y ≡ false → not (x || y) ≡ true
@@ -39,13 +40,13 @@ stops_at test b more is = cond-false _ _ _ (ap not is)
 pub record IsPlain (b : ℕ) : Type 0 where
   pub space : is_space b ≡ false
   pub bracket : is_bracket b ≡ false
-  pub quote : is_quote b ≡ false
+  pub quote : is_quote_mark b ≡ false
   pub slash : b == 47 ≡ false
 
 pub plain_byte : (b : ℕ) → ends_name b ≡ false → IsPlain b
 plain_byte b none =
-    let last = or_parts (is_space b || is_bracket b || is_quote b) (b == 47) none in
-    let third = or_parts (is_space b || is_bracket b) (is_quote b) last.0 in
+    let last = or_parts (is_space b || is_bracket b || is_quote_mark b) (b == 47) none in
+    let third = or_parts (is_space b || is_bracket b) (is_quote_mark b) last.0 in
     let second = or_parts (is_space b) (is_bracket b) third.0 in
     record { space = second.0; bracket = second.1; quote = third.1; slash = last.1 }
 
@@ -106,7 +107,7 @@ name_ends_before (first ∷ bytes) b more is ends =
 
 -- ---- an end
 
-pub kept_whole : (name : List ℕ) → is_space (last_byte name) ≡ false
+pub kept_whole : (name : List ℕ) → is_space (last_byte_or_zero name) ≡ false
     → without_space_behind name ≡ name
 kept_whole name none =
     let spaces : suffix_len is_space name ≡ 0 =
@@ -136,18 +137,19 @@ not_yet b [] more not = and_right _ _ refl
 not_yet b (c ∷ []) more not = and_right _ _ (and_right _ _ refl)
 not_yet b (c ∷ d ∷ content) more not = not
 
-pub data_over : (content more : List ℕ) → place_of (93 ∷ 93 ∷ 62 ∷ []) content ≡ None
-    → place_of (93 ∷ 93 ∷ 62 ∷ []) (content ++ 93 ∷ 93 ∷ 62 ∷ more) ≡ Some (length content)
-unfolding place_of
+pub data_over : (content more : List ℕ) → first_place_of (93 ∷ 93 ∷ 62 ∷ []) content ≡ None
+    → first_place_of (93 ∷ 93 ∷ 62 ∷ []) (content ++ 93 ∷ 93 ∷ 62 ∷ more) ≡ Some (length content)
+unfolding first_place_of
 data_over [] more none = refl
 data_over (b ∷ content) more none = elim (cases_Bool (begins_with closing (b ∷ content))) [
   | inl here ↦
-      let found : place_of closing (b ∷ content) ≡ Some 0 = cond-true _ _ _ here in
+      let found : first_place_of closing (b ∷ content) ≡ Some 0 = cond-true _ _ _ here in
       absurd cc
   | inr there ↦
-      let own : place_of closing (b ∷ content) ≡ option_map suc (place_of closing content) =
+      let own : first_place_of closing (b ∷ content)
+      ≡ option_map suc (first_place_of closing content) =
       cond-false _ _ _ there in
       let later = data_over content more
-      (none_behind (place_of closing content) (sym own ∙ none)) in
+      (none_behind (first_place_of closing content) (sym own ∙ none)) in
       cond-false _ _ _ (not_yet b content more there) ∙ ap (option_map suc) later
 ]

@@ -1,7 +1,6 @@
 -- What a search for bytes answers is the first place of the definitions.
 use Rattle.std.proofs.Common.{◌≡◌, ℕ, ◌<◌, ◌≤◌, Bool, true, List, Option, Some, None, length}
-use Rattle.std.proofs.Common.{get_or}
-use Rattle.std.proofs.Common.{sym, arith, subst}
+use Rattle.std.proofs.Common.{get_or, sym, arith, subst}
 use Rattle.std.proofs.lemmas.Bool.Decides.{nat_tests}
 use Rattle.markup.specs.Marks.{is_mark, is_reference_end, is_bracket, ends_name}
 use Rattle.std.specs.Option.{unwrap_or}

@@ -1,19 +1,18 @@
 -- What is at hand of a text by its places, and what follows it.
-use Rattle.std.proofs.Common.{◌≡◌, ℕ, suc, ◌+◌, ◌-◌, ◌<◌, ◌≤◌, List, [], ◌∷◌, ◌++◌, length}
-use Rattle.std.proofs.Common.{take, drop, refl, sym, ap, ◌∙◌, arith, subst, inl, inr}
+use Rattle.std.proofs.Common.{◌≡◌, ℕ, suc, ◌+◌, ◌-◌, ◌<◌, ◌≤◌, List, [], ◌∷◌, ◌++◌, length, take}
+use Rattle.std.proofs.Common.{drop, refl, sym, ap, ◌∙◌, arith, subst, inl, inr}
 use Rattle.std.proofs.lemmas.Bool.{cases_lt}
 use Rattle.std.proofs.lemmas.List.{drop-drop, length-drop, get_or-drop, drop_all}
 use Rattle.std.proofs.lemmas.Str.{IsCharBoundary-before_ascii, IsCharBoundary-after_ascii}
 use Rattle.std.proofs.lemmas.Str.{IsCharBoundary-end, IsCharBoundary-start}
 use Rattle.std.specs.Str.{IsCharBoundary, IsUtf8}
-use Rattle.part_events.specs.Event.{Event, leaf, flaw}
-use Rattle.markup.specs.Front.{front_of}
+use Rattle.part_events.specs.Words.{Event, leaf, flaw, between}
+use Rattle.markup.specs.Front.{front_in_markup}
 use Rattle.markup.specs.Marks.{byte_at}
 use Rattle.markup.specs.Markup.{events_from, markup_events}
 use Rattle.markup.specs.Found.{seen, Stands, HasAscii, EndsAt}
-use Rattle.markup.specs.Cutting.{held_at, place_behind, held_event, end_to_come, Lies}
-use Rattle.part_events.specs.Stored.{between}
-use Rattle.markup.specs.Cutting.{to_come, events_left, IsCutting, has_event}
+use Rattle.markup.specs.Cutting.{held_at, place_behind, held_event, end_to_come, Lies, to_come}
+use Rattle.markup.specs.Cutting.{events_left, IsCutting, has_cut_event}
 use Rattle.markup.specs.declared.cutter.Held.{Held}
 use Rattle.part_events.specs.declared.flaw.Flaw.TheVariants.{Malformed}
 use Rattle.markup.specs.declared.cutter.Held.TheVariants as held
@@ -26,7 +25,7 @@ use Rattle.markup.proofs.InOrder.{events_in_order, no_events}
 
 -- the events of a text by what was seen first in it
 events_by_front : (rest : List ℕ) (found : Found) → 0 < length rest
-    → seen rest found ≡ front_of (byte_at rest 0) (drop 1 rest)
+    → seen rest found ≡ front_in_markup (byte_at rest 0) (drop 1 rest)
     → markup_events rest ≡ events_from (λ n. markup_events (drop n (drop 1 rest))) (seen rest found)
 events_by_front [] found some front = absurd (omega arith)
 events_by_front (b ∷ bytes) found some front =
@@ -95,7 +94,8 @@ by_found bytes at (Other size) stands =
 -- A step over what was found at a place of a text: the event is at hand, and the events behind it
 -- are those of the text behind it.
 pub steps_over : (bytes : List ℕ) (at : ℕ) (found : Found) → at < length bytes
-    → seen (drop at bytes) found ≡ front_of (byte_at (drop at bytes) 0) (drop 1 (drop at bytes))
+    → seen (drop at bytes) found ≡ front_in_markup (byte_at (drop at bytes) 0)
+    (drop 1 (drop at bytes))
     → Stands (drop at bytes) found
     → markup_events (drop at bytes) ≡ held_event bytes (held_at at found)
     ∷ (end_to_come bytes (held_at at found)
@@ -232,11 +232,11 @@ end_taken bytes at held.Other next is = cc
 end_taken bytes at (held.Flaw place) next is = cc
 
 pub end_lies : (bytes : List ℕ) (old next : Held) → to_come old ≡ Some next → Lies bytes old
-    → Lies bytes next × (has_event next ≡ true)
+    → Lies bytes next × (has_cut_event next ≡ true)
 end_lies bytes held.Nothing next is lies = absurd cc
 end_lies bytes (held.Start begin name attributes true) next is lies =
     let same : held.End begin name ≡ next = cc in
-    subst (λ (own : Held). Lies bytes own × (has_event own ≡ true)) same (lies.0, refl)
+    subst (λ (own : Held). Lies bytes own × (has_cut_event own ≡ true)) same (lies.0, refl)
 end_lies bytes (held.Start begin name attributes false) next is lies = absurd cc
 end_lies bytes (held.End begin name) next is lies = absurd cc
 end_lies bytes (held.Text begin last) next is lies = absurd cc
@@ -261,7 +261,8 @@ ended bytes at old none is =
 -- else what was found is taken
 pub stepped : (bytes : List ℕ) (at : ℕ) (old : Held) (found : Found) → to_come old ≡ None
     → at < length bytes
-    → seen (drop at bytes) found ≡ front_of (byte_at (drop at bytes) 0) (drop 1 (drop at bytes))
+    → seen (drop at bytes) found ≡ front_in_markup (byte_at (drop at bytes) 0)
+    (drop 1 (drop at bytes))
     → Stands (drop at bytes) found
     → events_left bytes (record { at = at; held = old }) ≡ held_event bytes (held_at at found)
     ∷ events_left bytes
@@ -277,7 +278,7 @@ stays_at bytes at found utf8 from stands = record {
   held = lies_at bytes at found utf8 from stands;
 }
 
-pub found_is_event : (at : ℕ) (found : Found) → has_event (held_at at found) ≡ true
+pub found_is_event : (at : ℕ) (found : Found) → has_cut_event (held_at at found) ≡ true
 found_is_event at Flaw = refl
 found_is_event at (Start name attributes) = refl
 found_is_event at (Empty name attributes) = refl

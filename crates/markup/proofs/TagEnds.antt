@@ -1,12 +1,10 @@
 -- Where the first bracket outside of quotes stands.
 use Rattle.std.proofs.Common.{◌≡◌, ◌≢◌, ℕ, suc, ◌+◌, ◌<◌, ◌≤◌, true, false, List, [], ◌∷◌, length}
 use Rattle.std.proofs.Common.{get_or, take, drop, ◌-◌, Option, None, refl, ap, sym, subst, ◌∙◌}
-use Rattle.std.proofs.Common.{arith}
-use Rattle.std.proofs.Common.{inl, inr}
-use Rattle.std.proofs.lemmas.Bool.{cond-true, cond-false}
+use Rattle.std.proofs.Common.{arith, inl, inr}
+use Rattle.std.proofs.lemmas.Bool.{cond-true, cond-false, eqb-true, cases_lt}
 use Rattle.std.proofs.lemmas.List.{at_drop_more, drop_all, length-take, length-drop, get_or-take}
 use Rattle.std.proofs.lemmas.List.{get_or-drop}
-use Rattle.std.proofs.lemmas.Bool.{eqb-true, cases_lt}
 use Rattle.markup.specs.Front.{ends_in_slash}
 use Rattle.markup.specs.Found.{HasAscii}
 use Rattle.std.specs.List.{position_or_len}

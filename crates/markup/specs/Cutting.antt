@@ -1,12 +1,10 @@
 -- Where cutting stands in a text: the event at hand by its places, and the events to come.
-use Rattle.std.specs.Prelude.{◌≡◌, ⊤, ℕ, ◌+◌, List, [], ◌∷◌, ◌++◌, drop, length, Bool, true}
-use Rattle.std.specs.Prelude.{◌≤◌}
+use Rattle.std.specs.Prelude.{◌≡◌, ⊤, ℕ, ◌+◌, List, [], ◌∷◌, ◌++◌, drop, length, Bool, true, ◌≤◌}
 use Rattle.std.specs.Prelude.{false, if◌then◌else◌, Option, Some, None}
 use Rattle.std.specs.Option.{option_map_or}
 use Rattle.std.specs.Str.{IsCharBoundary}
-use Rattle.part_events.specs.Event.{Event, start, end, leaf, text, char_data, entity_ref, other}
-use Rattle.part_events.specs.Event.{flaw}
-use Rattle.part_events.specs.Stored.{between, IsPiece}
+use Rattle.part_events.specs.Words.{Event, start, end, leaf, text, char_data, entity_ref, other}
+use Rattle.part_events.specs.Words.{flaw, between, IsPiece}
 use Rattle.markup.specs.Markup.{markup_events, flaw_behind}
 use Rattle.markup.specs.declared.found.Found.{Found}
 use Rattle.markup.specs.declared.found.Found.TheVariants as found
@@ -40,7 +38,7 @@ place_behind at size (found.CharData content) = at + (content + 12)
 place_behind at size (found.EntityRef name) = at + (name + 2)
 place_behind at size (found.Other own) = at + own
 
--- the event at hand
+-- the event that a cutter has at hand, by the bytes of its text
 abbrev pub held_event : List ℕ → Held → Event
 held_event bytes Nothing = leaf other
 held_event bytes (Start begin name attributes is_empty) =
@@ -52,18 +50,18 @@ held_event bytes (EntityRef begin name) = leaf (entity_ref (between bytes begin 
 held_event bytes Other = leaf other
 held_event bytes (Flaw at) = leaf (flaw Malformed)
 
--- an event is at hand
-abbrev pub has_event : Held → Bool
-has_event Nothing = false
-has_event (Start begin name attributes is_empty) = true
-has_event (End begin name) = true
-has_event (Text begin last) = true
-has_event (CharData begin last) = true
-has_event (EntityRef begin name) = true
-has_event Other = true
-has_event (Flaw at) = true
+-- a cutter has an event at hand
+abbrev pub has_cut_event : Held → Bool
+has_cut_event Nothing = false
+has_cut_event (Start begin name attributes is_empty) = true
+has_cut_event (End begin name) = true
+has_cut_event (Text begin last) = true
+has_cut_event (CharData begin last) = true
+has_cut_event (EntityRef begin name) = true
+has_cut_event Other = true
+has_cut_event (Flaw at) = true
 
--- behind the start of an element with nothing in it comes its end
+-- the end that comes behind the start of an element with nothing in it, as it is held
 abbrev pub to_come : Held → Option Held
 to_come Nothing = None
 to_come (Start begin name attributes is_empty) = if is_empty then Some (End begin name) else None
@@ -74,11 +72,11 @@ to_come (EntityRef begin name) = None
 to_come Other = None
 to_come (Flaw at) = None
 
--- that end as an event
+-- the end that comes behind the start of an element with nothing in it, as an event
 abbrev pub end_to_come : List ℕ → Held → List Event
 end_to_come bytes held = option_map_or (λ next. held_event bytes next ∷ []) (to_come held) []
 
--- the events to come
+-- the events that a cutter has still to give, the one at hand first
 abbrev pub events_left : List ℕ → Cutter → List Event
 events_left bytes cutter =
     end_to_come bytes cutter.held ++ markup_events (drop cutter.at bytes)

@@ -1,19 +1,18 @@
 -- The events that the text of a part is cut into.
 use Rattle.std.specs.Prelude.{ℕ, zero, suc, ◌-◌, List, [], ◌∷◌, ◌++◌, Bool, false, Option, Some}
-use Rattle.std.specs.Prelude.{None}
-use Rattle.std.specs.Prelude.{option_map}
-use Rattle.part_events.specs.Event.{Event, start, end, leaf, flaw, is_flaw}
+use Rattle.std.specs.Prelude.{None, option_map}
+use Rattle.part_events.specs.Words.{Event, start, end, leaf, flaw, is_flaw}
 use Rattle.part_events.specs.declared.flaw.Flaw.TheVariants.{Malformed}
-use Rattle.markup.specs.Front.{Piece, one, empty, Front, flawed, piece, front_of}
+use Rattle.markup.specs.Front.{Piece, one, empty, MarkupFront, flawed, piece, front_in_markup}
 
--- the events of a piece
+-- the events of a piece of markup: one, or the start and the end of an empty element
 abbrev pub events_of_piece : Piece → List Event
 events_of_piece (one event) = event ∷ []
 events_of_piece (empty tag) = start tag ∷ end tag.name ∷ []
 
 -- the events that begin with this front, where `more` gives those behind so many bytes that follow
 -- its first one; a flaw is the last
-abbrev pub events_from : (ℕ → List Event) → Front → List Event
+abbrev pub events_from : (ℕ → List Event) → MarkupFront → List Event
 events_from more flawed = leaf (flaw Malformed) ∷ []
 events_from more (piece first size) = events_of_piece first ++ more (size - 1)
 
@@ -21,14 +20,14 @@ events_from more (piece first size) = events_of_piece first ++ more (size - 1)
 unfoldable pub events_behind : List ℕ → ℕ → List Event
 events_behind [] n = []
 events_behind (b ∷ bytes) (suc n) = events_behind bytes n
-events_behind (b ∷ bytes) zero = events_from (events_behind bytes) (front_of b bytes)
+events_behind (b ∷ bytes) zero = events_from (events_behind bytes) (front_in_markup b bytes)
 
 -- the events of a text: those of the piece that it begins with, and those of the rest; behind a
 -- flaw nothing is told
 unfoldable pub markup_events : List ℕ → List Event
 markup_events text = events_behind text 0
 
--- an event is a flaw
+-- an event is a flaw, behind which nothing is told of its part
 abbrev pub is_flaw_event : Event → Bool
 is_flaw_event (start tag) = false
 is_flaw_event (end name) = false
@@ -36,7 +35,7 @@ is_flaw_event (leaf kind) = is_flaw kind
 
 -- where the flaw stands that a front is, or else that `more` gives behind so many bytes that follow
 -- its first one
-abbrev pub flaw_from : (ℕ → Option ℕ) → Front → Option ℕ
+abbrev pub flaw_from : (ℕ → Option ℕ) → MarkupFront → Option ℕ
 flaw_from more flawed = Some 0
 flaw_from more (piece first size) = option_map suc (more (size - 1))
 
@@ -44,7 +43,7 @@ flaw_from more (piece first size) = option_map suc (more (size - 1))
 unfoldable pub flaw_behind : List ℕ → ℕ → Option ℕ
 flaw_behind [] n = None
 flaw_behind (b ∷ bytes) (suc n) = option_map suc (flaw_behind bytes n)
-flaw_behind (b ∷ bytes) zero = flaw_from (flaw_behind bytes) (front_of b bytes)
+flaw_behind (b ∷ bytes) zero = flaw_from (flaw_behind bytes) (front_in_markup b bytes)
 
 -- where the flaw of a text stands, in bytes, if it has one
 abbrev pub flaw_place : List ℕ → Option ℕ

@@ -1,12 +1,12 @@
 -- Events as markup that is cut into them.
-use Rattle.std.specs.Prelude.{ℕ, Bool, true, false, ◌==◌, ◌&&◌, not, List, []}
-use Rattle.std.specs.Prelude.{◌∷◌, ◌++◌, length, is_none, codes, None}
+use Rattle.std.specs.Prelude.{ℕ, Bool, true, false, ◌==◌, ◌&&◌, not, List, [], ◌∷◌, ◌++◌, length}
+use Rattle.std.specs.Prelude.{is_none, codes, None}
 use Rattle.std.specs.List.{list_any, flat_map}
-use Rattle.part_events.specs.Event.{Tag, Leaf, Event, start, end, leaf, text, char_data, entity_ref}
-use Rattle.part_events.specs.Event.{other, flaw}
+use Rattle.part_events.specs.Words.{Tag, Leaf, Event, start, end, leaf, text, char_data, entity_ref}
+use Rattle.part_events.specs.Words.{other, flaw}
 use Rattle.markup.specs.Marks.{is_space, is_bracket, is_mark, is_reference_end, ends_name}
-use Rattle.markup.specs.Marks.{begins_no_name, place_of, bracket_place}
-use Rattle.markup.specs.Front.{Piece, one, empty, last_byte}
+use Rattle.markup.specs.Marks.{begins_no_name, first_place_of, bracket_place}
+use Rattle.markup.specs.Front.{Piece, one, empty, last_byte_or_zero}
 
 -- a leaf as it is written; of a comment and the like the text isn't kept
 abbrev pub spelled_leaf : Leaf → List ℕ
@@ -46,7 +46,7 @@ is_attribute_text (b ∷ bytes) =
 -- a leaf that markup spells
 abbrev pub is_spellable_leaf : Leaf → Bool
 is_spellable_leaf (text content) = not (length content == 0) && not (list_any is_mark content)
-is_spellable_leaf (char_data content) = is_none (place_of (codes "]]>") content)
+is_spellable_leaf (char_data content) = is_none (first_place_of (codes "]]>") content)
 is_spellable_leaf (entity_ref name) = not (list_any is_reference_end name)
 is_spellable_leaf other = true
 is_spellable_leaf (flaw why) = false
@@ -59,11 +59,12 @@ is_spellable_tag tag = is_tag_name tag.name && is_attribute_text tag.attributes
 abbrev pub is_end_name : List ℕ → Bool
 is_end_name [] = false
 is_end_name (b ∷ name) =
-    not (list_any is_bracket (b ∷ name)) && not (is_space (last_byte (b ∷ name)))
+    not (list_any is_bracket (b ∷ name)) && not (is_space (last_byte_or_zero (b ∷ name)))
 
 -- a piece that markup spells; a start's attribute text doesn't end in `/`
 abbrev pub is_spellable : Piece → Bool
-is_spellable (one (start tag)) = is_spellable_tag tag && not (last_byte tag.attributes == 47)
+is_spellable (one (start tag)) = is_spellable_tag tag
+    && not (last_byte_or_zero tag.attributes == 47)
 is_spellable (one (end name)) = is_end_name name
 is_spellable (one (leaf kind)) = is_spellable_leaf kind
 is_spellable (empty tag) = is_spellable_tag tag
@@ -73,7 +74,7 @@ abbrev pub is_words : Piece → Bool
 is_words (one (leaf (text content))) = true
 is_words _ = false
 
--- these pieces begin with a text
+-- pieces of markup begin with a text
 abbrev pub begin_with_words : List Piece → Bool
 begin_with_words [] = false
 begin_with_words (first ∷ pieces) = is_words first

@@ -2,11 +2,10 @@
 ghost use Rattle.std.specs.Prelude.{◌≡◌, ◌≤◌, ℕ, List, drop, length, true, IfSome};
 ghost use Rattle.std.specs.Str.{IsUtf8};
 ghost use Rattle.markup.specs.Found.{Stands};
-ghost use Rattle.markup.specs.Cutting.{held_at, place_behind, held_event, has_event, to_come};
-ghost use Rattle.markup.specs.Cutting.{IsCutting, Takes, events_left, cut_size};
-ghost use Rattle.markup.specs.Cutting.{PassesNoFlaw};
+ghost use Rattle.markup.specs.Cutting.{held_at, place_behind, held_event, has_cut_event, to_come};
+ghost use Rattle.markup.specs.Cutting.{IsCutting, Takes, events_left, cut_size, PassesNoFlaw};
 ghost use Rattle.markup.specs.Markup.{markup_events, flaw_place};
-ghost use Rattle.part_events.specs.Event.{event_of};
+ghost use Rattle.part_events.specs.Words.{event_of};
 
 use crate::found::{Found, found_in};
 use part_events::{Flaw, PartEvent, StartTag};
@@ -149,7 +148,7 @@ impl Cutter {
         requires { IsCutting text.now self.old }
         ensures stays { IsCutting text.now self.new }
         ensures takes { Takes result text.now self.old self.new }
-        ensures has { result ≡ has_event self.new.held }
+        ensures has { result ≡ has_cut_event self.new.held }
         ensures flaw { PassesNoFlaw result text.now self.old self.new }
     {
         if let Some(next) = to_come(self.held) {
@@ -169,7 +168,7 @@ impl Cutter {
     /// The event that the last call of `advance` took of this text.
     pub fn event<'a>(&self, text: &'a str) -> PartEvent<'a>
         requires cutting { IsCutting text.now self.now }
-        requires has { has_event self.now.held ≡ true }
+        requires has { has_cut_event self.now.held ≡ true }
         ensures { event_of result ≡ held_event text.now self.now.held }
     {
         match self.held {

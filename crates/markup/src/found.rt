@@ -1,8 +1,8 @@
 //! What stands first in a text, by the sizes of its texts.
 ghost use Rattle.std.specs.Prelude.{◌≡◌, ◌<◌, ◌∷◌, length, drop, false};
 ghost use Rattle.markup.specs.Marks.{byte_at, is_mark};
-ghost use Rattle.markup.specs.Front.{front_of, text_front, reference_front, end_front, start_front};
-ghost use Rattle.markup.specs.Front.{declared_front, instruction_front, markup_front};
+ghost use Rattle.markup.specs.Front.{front_in_markup, text_front, reference_front, end_front};
+ghost use Rattle.markup.specs.Front.{start_front, declared_front, instruction_front, markup_front};
 ghost use Rattle.markup.specs.Front.{is_behind_name, ends_in_slash};
 ghost use Rattle.markup.specs.Found.{seen, Stands};
 
@@ -173,7 +173,7 @@ fn text_found(bytes: &[u8]) -> Found
 #[tactic(auto, using(crate::proofs::FirstBytes::front_text))]
 pub(crate) fn found_in(text: &[u8]) -> Found
     requires { 0 < length text.now }
-    ensures front { seen text.now result ≡ front_of (byte_at text.now 0) (drop 1 text.now) }
+    ensures front { seen text.now result ≡ front_in_markup (byte_at text.now 0) (drop 1 text.now) }
     ensures stands { Stands text.now result }
 {
     match text[0] {

@@ -1,11 +1,11 @@
 //! Laws: how the events of a text go together, and that markup that is written is cut back.
 ghost use Rattle.std.specs.Prelude.{◌≡◌, ◌≤◌, ℕ, List, [], ◌∷◌, ◌++◌, drop, length, true, false};
 ghost use Rattle.std.specs.List.{flat_map, list_any};
-ghost use Rattle.part_events.specs.Event.{Event, leaf, flaw};
+ghost use Rattle.part_events.specs.Words.{Event, leaf, flaw};
 ghost use Rattle.part_events.specs.declared.flaw.Flaw.{Flaw};
 ghost use Rattle.part_events.specs.declared.flaw.Flaw.TheVariants.{Malformed};
 ghost use Rattle.equalities.specs.Equality.{CopiesItself};
-ghost use Rattle.markup.specs.Front.{Piece, front_of};
+ghost use Rattle.markup.specs.Front.{Piece, front_in_markup};
 ghost use Rattle.markup.specs.Markup.{markup_events, events_from, events_of_piece, is_flaw_event};
 ghost use Rattle.markup.specs.Spelled.{spelled, are_spellable};
 
@@ -25,7 +25,7 @@ pub fn copies_are_the_same()
 pub fn events_come_in_order()
     ensures empty { markup_events [] ≡ [] }
     ensures first { (b : ℕ) (bytes : List ℕ) → markup_events (b ∷ bytes)
-        ≡ events_from (λ n. markup_events (drop n bytes)) (front_of b bytes) }
+        ≡ events_from (λ n. markup_events (drop n bytes)) (front_in_markup b bytes) }
 {}
 
 /// A text has no more events than bytes.

@@ -1,8 +1,8 @@
 //! Events as markup that is cut into them.
 ghost use Rattle.std.specs.Prelude.{◌≡◌, ◌++◌, codes, string_bytes, OnOk, OnErr};
-ghost use Rattle.escaped_text.specs.Escaped.{Extends};
+ghost use Rattle.escaped_text.specs.Escaped.{AddsBehind};
 ghost use Rattle.markup.specs.Front.{empty};
-ghost use Rattle.part_events.specs.Event.{event_of, tag_of};
+ghost use Rattle.part_events.specs.Words.{event_of, tag_of};
 ghost use Rattle.markup.specs.Spelled.{spelled_event, spelled_piece};
 
 use escaped_text::or_cut_back;
@@ -13,7 +13,7 @@ use std::alloc::AllocError;
 fn push_tag(out: &mut String, tag: StartTag<'_>, behind: &str) -> Result<(), AllocError>
     ensures ok { OnOk result (string_bytes out.new ≡ string_bytes out.old
         ++ codes "<" ++ tag.entry.name.now ++ tag.entry.attributes.now ++ behind.now) }
-    ensures err { OnErr result (Extends (string_bytes out.old) (string_bytes out.new)) }
+    ensures err { OnErr result (AddsBehind (string_bytes out.old) (string_bytes out.new)) }
 {
     out.push_str("<")?;
     out.push_str(tag.name)?;
@@ -25,7 +25,7 @@ fn push_tag(out: &mut String, tag: StartTag<'_>, behind: &str) -> Result<(), All
 fn push_between(out: &mut String, before: &str, text: &str, behind: &str) -> Result<(), AllocError>
     ensures ok { OnOk result
         (string_bytes out.new ≡ string_bytes out.old ++ before.now ++ text.now ++ behind.now) }
-    ensures err { OnErr result (Extends (string_bytes out.old) (string_bytes out.new)) }
+    ensures err { OnErr result (AddsBehind (string_bytes out.old) (string_bytes out.new)) }
 {
     out.push_str(before)?;
     out.push_str(text)?;
@@ -36,7 +36,7 @@ fn push_between(out: &mut String, before: &str, text: &str, behind: &str) -> Res
 fn push_event(out: &mut String, event: PartEvent<'_>) -> Result<(), AllocError>
     ensures ok { OnOk result (string_bytes out.new
         ≡ string_bytes out.old ++ spelled_event (event_of event.entry)) }
-    ensures err { OnErr result (Extends (string_bytes out.old) (string_bytes out.new)) }
+    ensures err { OnErr result (AddsBehind (string_bytes out.old) (string_bytes out.new)) }
 {
     match event {
         PartEvent::Start(tag) => push_tag(out, tag, ">"),

@@ -1,7 +1,7 @@
 ghost use Rattle.std.specs.Prelude.{◌≡◌, ◌<◌, ◌∷◌, length, map, string_bytes, IfOk, OnOk, IfErr};
-ghost use Rattle.part_events.specs.Memory.{part_at};
+ghost use Rattle.part_events.specs.Words.{part_at};
 ghost use Rattle.zip_writer.specs.Files.{files_of};
-ghost use Rattle.zip_writer.specs.Written.{IsPlain, IsWritable};
+ghost use Rattle.zip_writer.specs.Written.{IsPlain, IsWritableArchive};
 ghost use Rattle.zip_writer.specs.declared.files.WriteError.TheVariants.{Ambiguous, TooLarge};
 ghost use Rattle.package_file.specs.PackageFile.{part_bytes, part_files, package_file};
 
@@ -62,12 +62,12 @@ fn files_to_write<'a>(
 /// Refused as by [`write_archive`].
 pub fn write_package_file(alloc: Global, package: &MemoryPackage) -> Result<Vec<u8>, WriteError>
     ensures bytes { IfOk result (λ bytes. bytes.items ≡ package_file «package».now.parts) }
-    ensures writable { OnOk result (IsWritable (part_files «package».now.parts)) }
+    ensures writable { OnOk result (IsWritableArchive (part_files «package».now.parts)) }
     ensures plain { OnOk result (IsPlain (part_files «package».now.parts)) }
     ensures large { IfErr result (λ error.
-        error ≡ TooLarge → ¬ IsWritable (part_files «package».now.parts)) }
+        error ≡ TooLarge → ¬ IsWritableArchive (part_files «package».now.parts)) }
     ensures ambiguous { let files = part_files «package».now.parts in
-        IfErr result (λ error. error ≡ Ambiguous → IsWritable files × (¬ IsPlain files)) }
+        IfErr result (λ error. error ≡ Ambiguous → IsWritableArchive files × (¬ IsPlain files)) }
 {
     let tables = Tables::new(alloc)?;
     let texts = part_texts(alloc, package)?;

@@ -1,16 +1,16 @@
 -- How the texts of events begin.
-use Rattle.std.proofs.Common.{◌≡◌, ℕ, zero, suc, ◌+◌, ◌<◌, ◌≤◌, List, [], ◌∷◌, length, drop}
-use Rattle.std.proofs.Common.{true, false, Some, refl, ap, ◌∙◌, arith, Bor}
+use Rattle.std.proofs.Common.{◌≡◌, ℕ, zero, suc, ◌+◌, ◌<◌, ◌≤◌, List, [], ◌∷◌, length, drop, true}
+use Rattle.std.proofs.Common.{false, Some, refl, ap, ◌∙◌, arith, Bor}
 use Rattle.std.proofs.lemmas.List.{drop-drop, length-drop}
 use Rattle.std.specs.Prelude.{slice_get}
 use Rattle.std.specs.Str.{bytes_eq}
-use Rattle.part_events.specs.Event.{Event, Tag, event_of, tag_of, start, end, leaf}
+use Rattle.part_events.specs.Words.{Event, Tag, event_of, tag_of, start, end, leaf}
 use Rattle.part_events.specs.declared.event.StartTag.{StartTag}
 use Rattle.part_events.specs.declared.event.PartEvent.{PartEvent}
 use Rattle.part_events.specs.declared.event.PartEvent.TheVariants.{Start, End, Text, CharData}
 use Rattle.part_events.specs.declared.event.PartEvent.TheVariants.{EntityRef, Flaw, Other}
-use Rattle.package_text.specs.WrittenPackage.{texts_of_event, texts_of_empty, event_texts, is_pair}
-use Rattle.package_text.specs.WrittenPackage.{begins_by_end, IsWrittenAt}
+use Rattle.package_text.specs.WrittenPackage.{texts_of_event, texts_of_empty, event_texts}
+use Rattle.package_text.specs.WrittenPackage.{is_empty_element, begins_by_end, IsWrittenAt}
 use Rattle.package_text.specs.declared.spelled.SpelledEvent.TheVariants.{One, Empty}
 
 -- a start and the end of its name are one
@@ -20,7 +20,7 @@ pub pair_texts : (tag : Tag) (name : List ℕ) (events : List Event) → bytes_e
 pair_texts tag name events is = rw is refl
 
 -- every other event is by itself
-pub alone_texts : (event : Event) (events : List Event) → is_pair event events ≡ false
+pub alone_texts : (event : Event) (events : List Event) → is_empty_element event events ≡ false
     → event_texts (event ∷ events) ≡ texts_of_event event ∷ event_texts events
 alone_texts event [] is = refl
 alone_texts (start tag) (start other ∷ events) is = refl
@@ -103,7 +103,7 @@ within (first ∷ events) (suc place) event is = omega (arith, within events pla
 
 pub alone_written : (events : List Event) (place : ℕ) (event : PartEvent)
     → slice_get events place ≡ Some (event_of event)
-    → is_pair (event_of event) (drop (place + 1) events) ≡ false
+    → is_empty_element (event_of event) (drop (place + 1) events) ≡ false
     → IsWrittenAt events place (One event)
 alone_written events place event is alone = record {
   ends = within events place (event_of event) is;
@@ -113,7 +113,7 @@ alone_written events place event is alone = record {
 
 -- what is no start is by itself
 pub other_alone : (events : List Event) (event : PartEvent)
-    → ((tag : StartTag) → event ≡ Start tag → ⊥) → is_pair (event_of event) events ≡ false
+    → ((tag : StartTag) → event ≡ Start tag → ⊥) → is_empty_element (event_of event) events ≡ false
 other_alone events (Start tag) not_start = absurd (not_start tag refl)
 other_alone events (End name) not_start = refl
 other_alone events (Text content) not_start = refl

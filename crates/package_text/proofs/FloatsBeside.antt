@@ -9,17 +9,16 @@ use Rattle.std.specs.Cmp.Lexicographic.{slice_cmp}
 use Rattle.std.specs.declared.cmp.Ordering.{Ordering}
 use Rattle.std.specs.declared.cmp.Ordering.TheVariants.{Less, Equal, Greater}
 use Rattle.std.proofs.lemmas.Map.Text.{is_eq-slice_cmp}
-use Rattle.serde_json.specs.Data.{Data, null, boolean, number, string, array, object}
-use Rattle.serde_json.specs.Data.{Items, no_items, item, Members, no_members, member}
+use Rattle.serde_json.specs.Data.{Data, null, boolean, number, string, array, object, Items}
+use Rattle.serde_json.specs.Data.{no_items, item, Members, no_members, member}
 use Rattle.serde_json.specs.Find.{get, get_member, as_array, as_str, as_number, as_u64}
 use Rattle.serde_json.specs.Written.{has_float, items_have_float, members_have_float}
-use Rattle.part_events.specs.Event.{Event}
-use Rattle.part_events.specs.Package.{Part}
-use Rattle.package_text.specs.PackageText.{texts_of, events_of_texts, events_of_value, events_in}
-use Rattle.package_text.specs.PackageText.{named_part}
-use Rattle.package_text.specs.PackageText.{part_in, parts_in, version_is_second, package_of}
-use Rattle.package_text.specs.PackageText.{members_have_float_beside, has_float_beside, part_beside}
-use Rattle.package_text.specs.PackageText.{parts_beside, package_beside}
+use Rattle.part_events.specs.Words.{Event, Part}
+use Rattle.package_text.specs.PackageText.{texts_of, events_of_texts, events_of_value}
+use Rattle.package_text.specs.PackageText.{events_of_items, named_part, part_in, parts_in}
+use Rattle.package_text.specs.PackageText.{version_is_second, package_of, members_have_float_beside}
+use Rattle.package_text.specs.PackageText.{has_float_beside, part_beside, parts_beside}
+use Rattle.package_text.specs.PackageText.{package_beside}
 
 -- ---- the members of an object
 
@@ -119,8 +118,9 @@ or_none false b none other = other
 
 both_have_none : (is_second : Bool) (value : Data) (rest : Items) (first : Option (List Event))
     (found : Option (List Event)) (events : List Event)
-    → ((more : List Event) → events_in is_second rest ≡ Some more → items_have_float rest ≡ false)
-    → events_of_value is_second value ≡ first → events_in is_second rest ≡ found
+    → ((more : List Event) → events_of_items is_second rest ≡ Some more → items_have_float rest
+    ≡ false)
+    → events_of_value is_second value ≡ first → events_of_items is_second rest ≡ found
     → option_and_then (λ (own : List Event). option_map (λ (more : List Event). own ++ more) found)
     first ≡ Some events
     → (has_float value || items_have_float rest) ≡ false
@@ -131,24 +131,24 @@ both_have_none is_second value rest (Some own) (Some more) events none one other
     (none more other)
 
 events_have_none : (is_second : Bool) (items : Items) (events : List Event)
-    → events_in is_second items ≡ Some events → items_have_float items ≡ false
+    → events_of_items is_second items ≡ Some events → items_have_float items ≡ false
 events_have_none is_second no_items events is = refl
 events_have_none is_second (item value rest) events is =
     both_have_none is_second value rest (events_of_value is_second value)
-    (events_in is_second rest) events (events_have_none is_second rest) refl refl is
+    (events_of_items is_second rest) events (events_have_none is_second rest) refl refl is
 
 -- ---- parts
 
 either_events : (is_second : Bool) (items : Items) (found : Option (List Event))
-    → events_in is_second items ≡ found
-    → (events_in is_second items ≡ None) ⊎ (items_have_float items ≡ false)
+    → events_of_items is_second items ≡ found
+    → (events_of_items is_second items ≡ None) ⊎ (items_have_float items ≡ false)
 either_events is_second items None read = inl read
 either_events is_second items (Some events) read =
     inr (events_have_none is_second items events read)
 
 -- what is no list of events, or has no float
 either : (is_second : Bool) (found : Option Data)
-    → (option_and_then (events_in is_second) (option_and_then as_array found) ≡ None)
+    → (option_and_then (events_of_items is_second) (option_and_then as_array found) ≡ None)
     ⊎ (given_float found ≡ false)
 either is_second None = inr refl
 either is_second (Some null) = inl refl
@@ -156,7 +156,7 @@ either is_second (Some (boolean b)) = inl refl
 either is_second (Some (number n)) = inl refl
 either is_second (Some (string s)) = inl refl
 either is_second (Some (array items)) =
-    either_events is_second items (events_in is_second items) refl
+    either_events is_second items (events_of_items is_second items) refl
 either is_second (Some (object members)) = inl refl
 
 nameless : (name : Option (List ℕ))
@@ -175,7 +175,7 @@ either_named name events float (inr is) = inr is
 either_part : (is_second : Bool) (value : Data)
     → (part_in is_second value ≡ None) ⊎ (given_float (get (codes "events") value) ≡ false)
 either_part is_second value = either_named (option_and_then as_str (get (codes "name") value))
-    (option_and_then (events_in is_second)
+    (option_and_then (events_of_items is_second)
     (option_and_then as_array (get (codes "events") value)))
     (given_float (get (codes "events") value)) (either is_second (get (codes "events") value))
 

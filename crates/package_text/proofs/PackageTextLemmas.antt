@@ -1,7 +1,7 @@
 -- Events, parts and packages of a JSON value.
 use Rattle.std.proofs.Common.{◌≡◌, ℕ, ◌<◌, ◌+◌, ◌≤◌, List, [], ◌∷◌, ◌++◌, length, drop, get_or}
-use Rattle.std.proofs.Common.{refl, sym, ◌∙◌, ap}
-use Rattle.std.proofs.Common.{Some, None, Option, append_assoc, arith, Bool, true, false, cond}
+use Rattle.std.proofs.Common.{refl, sym, ◌∙◌, ap, Some, None, Option, append_assoc, arith, Bool}
+use Rattle.std.proofs.Common.{true, false, cond}
 use Rattle.std.specs.Option.{option_map, option_and_then}
 use Rattle.std.specs.Str.{IsUtf8, is_utf8}
 use Rattle.std.proofs.lemmas.List.{append-nil, drop_more, get_or_read}
@@ -11,11 +11,10 @@ use Rattle.serde_json.specs.Find.{as_str}
 use Rattle.serde_json.specs.Read.{read}
 use Rattle.serde_json.specs.View.{view, items_of, items_view}
 use Rattle.serde_json.specs.declared.value.Value.{Value}
-use Rattle.part_events.specs.Event.{Event}
-use Rattle.part_events.specs.Package.{Part}
-use Rattle.part_events.specs.Memory.{with_event}
-use Rattle.package_text.specs.PackageText.{texts_of, events_of_texts, events_in, events_of_value}
-use Rattle.package_text.specs.PackageText.{package_of, package_in, with_events}
+use Rattle.part_events.specs.Words.{Event, Part, with_event}
+use Rattle.package_text.specs.PackageText.{texts_of, events_of_texts, events_of_items}
+use Rattle.package_text.specs.PackageText.{events_of_value, package_of, package_in}
+use Rattle.package_text.specs.PackageText.{with_last_events}
 
 -- what is in a text of UTF-8
 pub package_in-read :
@@ -89,13 +88,13 @@ with_event-push (first ∷ second ∷ parts) part event =
 -- events behind those of the last part
 pub with_events-push :
     (parts : List Part) (name : List ℕ) (done events : List Event)
-    → with_events (parts ++ record { name = name; events = done } ∷ []) events
+    → with_last_events (parts ++ record { name = name; events = done } ∷ []) events
     ≡ parts ++ record { name = name; events = done ++ events } ∷ []
 with_events-push parts name done [] =
     ap (λ (own : List Event). parts ++ record { name = name; events = own } ∷ [])
     (sym (append-nil done))
 with_events-push parts name done (event ∷ events) =
-    ap (λ (own : List Part). with_events own events)
+    ap (λ (own : List Part). with_last_events own events)
     (with_event-push parts (record { name = name; events = done }) event)
     ∙ with_events-push parts name (done ++ event ∷ []) events
     ∙ ap (λ (own : List Event). parts ++ record { name = name; events = own } ∷ [])
@@ -107,16 +106,16 @@ pub events_more :
     → place < length values → value ≡ get_or values place value
     → Some own ≡ events_of_value is_second (view value)
     → option_map (λ events. own ++ events)
-    (events_in is_second (items_view (drop (place + 1) values)))
-    ≡ events_in is_second (items_view (drop place values))
+    (events_of_items is_second (items_view (drop (place + 1) values)))
+    ≡ events_of_items is_second (items_view (drop place values))
 events_more is_second values place value own here read is =
     let behind = drop (place + 1) values in
-    let found = events_in is_second (items_view behind) in
+    let found = events_of_items is_second (items_view behind) in
     let with_first : Option (List Event) → Option (List Event) =
     λ first. option_and_then (λ e. option_map (λ events. e ++ events) found) first
     in
     ap with_first is
-    ∙ ap (λ (first : Value). events_in is_second (items_view (first ∷ behind)))
+    ∙ ap (λ (first : Value). events_of_items is_second (items_view (first ∷ behind)))
     (get_or_read values place value here read value)
-    ∙ ap (λ (rest : List Value). events_in is_second (items_view rest))
+    ∙ ap (λ (rest : List Value). events_of_items is_second (items_view rest))
     (sym (drop_more values place value here))

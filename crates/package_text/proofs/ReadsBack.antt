@@ -1,6 +1,6 @@
 -- The text that is written of a package is read as its value.
-use Rattle.std.proofs.Common.{◌≡◌, ℕ, ◌≤◌, List, [], ◌∷◌, Option, Some, refl, sym}
-use Rattle.std.proofs.Common.{ap, ◌∙◌, arith, append-nil}
+use Rattle.std.proofs.Common.{◌≡◌, ℕ, ◌≤◌, List, [], ◌∷◌, Option, Some, refl, sym, ap, ◌∙◌, arith}
+use Rattle.std.proofs.Common.{append-nil}
 use Rattle.std.specs.Option.{option_and_then}
 use Rattle.json.specs.Json as json
 use Rattle.json.specs.Token.{Token}
@@ -14,10 +14,11 @@ use Rattle.serde_json.specs.Read.{of_json, of_items, read, max_depth}
 use Rattle.serde_json.specs.Written.{outline, items_outline}
 use Rattle.serde_json.proofs.Numbers.{number_of-decimal}
 use Rattle.serde_json.proofs.Texts.{print-outline}
-use Rattle.part_events.specs.Package.{Part}
+use Rattle.part_events.specs.Words.{Part}
 use Rattle.package_text.specs.PackageText.{package_of}
 use Rattle.package_text.specs.WrittenPackage.{texts_data, event_texts, events_data, part_data}
-use Rattle.package_text.specs.WrittenPackage.{parts_data, package_data, written_package, IsReadBack}
+use Rattle.package_text.specs.WrittenPackage.{parts_data, package_data, written_package}
+use Rattle.package_text.specs.WrittenPackage.{TextReadsBack}
 use Rattle.package_text.proofs.SpellsBack.{spells_its_parts}
 
 -- ---- what stands between the brackets
@@ -101,5 +102,5 @@ value_read parts =
     ∙ value-json_tokens own max_depth [] (package_depth parts))
     ∙ package_read parts
 
-pub is_read_back : IsReadBack
+pub is_read_back : TextReadsBack
 is_read_back parts = ap (option_and_then package_of) (value_read parts) ∙ spells_its_parts parts

@@ -1,21 +1,18 @@
 -- The value that is written of a package spells that package.
-use Rattle.std.proofs.Common.{◌≡◌, ◌||◌, ℕ, List, [], ◌∷◌, ◌++◌, Bool, true, false}
-use Rattle.std.proofs.Common.{Option, Some, None}
-use Rattle.std.proofs.Common.{refl, ap, ◌∙◌, if◌then◌else◌}
+use Rattle.std.proofs.Common.{◌≡◌, ◌||◌, ℕ, List, [], ◌∷◌, ◌++◌, Bool, true, false, Option, Some}
+use Rattle.std.proofs.Common.{None, refl, ap, ◌∙◌, if◌then◌else◌}
 use Rattle.std.specs.Option.{option_map, option_and_then}
 use Rattle.std.specs.Str.{bytes_eq}
 use Rattle.std.proofs.lemmas.Slice.Eq.{bytes_eq-Decides}
 use Rattle.serde_json.specs.Data.{array}
 use Rattle.serde_json.specs.Written.{has_float, items_have_float}
-use Rattle.part_events.specs.Event.{Event, Tag, start, end, leaf, text, char_data, entity_ref}
-use Rattle.part_events.specs.Event.{flaw, other}
-use Rattle.part_events.specs.Package.{Part}
+use Rattle.part_events.specs.Words.{Event, Tag, start, end, leaf, text, char_data, entity_ref, flaw}
+use Rattle.part_events.specs.Words.{other, Part}
 use Rattle.part_events.specs.declared.flaw.Flaw.TheVariants.{Malformed, NotText, Encrypted}
 use Rattle.part_events.specs.declared.flaw.Flaw.TheVariants.{UnknownMethod, TooLarge, Damaged}
 use Rattle.part_events.specs.declared.flaw.Flaw.TheVariants.{WrongSize, WrongChecksum}
-use Rattle.package_text.specs.PackageText.{events_of_value, events_in, part_in, parts_in}
-use Rattle.package_text.specs.PackageText.{package_of}
-use Rattle.package_text.specs.PackageText.{empty_element, named_part}
+use Rattle.package_text.specs.PackageText.{events_of_value, events_of_items, part_in, parts_in}
+use Rattle.package_text.specs.PackageText.{package_of, empty_element, named_part}
 use Rattle.package_text.specs.WrittenPackage.{texts_data, texts_of_event, texts_of_empty}
 use Rattle.package_text.specs.WrittenPackage.{event_texts, events_data, part_data, parts_data}
 use Rattle.package_text.specs.WrittenPackage.{package_data, SpellsItsParts}
@@ -44,17 +41,18 @@ abbrev behind : Option (List Event) → Option (List Event) → Option (List Eve
 behind first rest = option_and_then (λ own. option_map (λ events. own ++ events) rest) first
 
 alone_spelled : (event : Event) (texts : List (List (List ℕ))) (events : List Event)
-    → events_in true (events_data texts) ≡ Some events
-    → events_in true (events_data (texts_of_event event ∷ texts)) ≡ Some (event ∷ events)
+    → events_of_items true (events_data texts) ≡ Some events
+    → events_of_items true (events_data (texts_of_event event ∷ texts)) ≡ Some (event ∷ events)
 alone_spelled event texts events is =
-    ap (λ first. behind first (events_in true (events_data texts))) (spelled_alone event)
+    ap (λ first. behind first (events_of_items true (events_data texts))) (spelled_alone event)
     ∙ ap (λ rest. behind (Some (event ∷ [])) rest) is
 
 pair_spelled : (tag : Tag) (name : List ℕ) (events : List Event) (same : Bool)
     → bytes_eq tag.name name ≡ same
-    → events_in true (events_data (event_texts events)) ≡ Some events
-    → events_in true (events_data (event_texts (end name ∷ events))) ≡ Some (end name ∷ events)
-    → events_in true (events_data (if same
+    → events_of_items true (events_data (event_texts events)) ≡ Some events
+    → events_of_items true (events_data (event_texts (end name ∷ events)))
+    ≡ Some (end name ∷ events)
+    → events_of_items true (events_data (if same
     then texts_of_empty tag.name tag.attributes ∷ event_texts events
     else texts_of_event (start tag) ∷ event_texts (end name ∷ events)))
     ≡ Some (start tag ∷ end name ∷ events)
@@ -66,7 +64,7 @@ pair_spelled tag name events false is behind_both behind_first =
     alone_spelled (start tag) (event_texts (end name ∷ events)) (end name ∷ events) behind_first
 
 pub events_spelled : (events : List Event)
-    → events_in true (events_data (event_texts events)) ≡ Some events
+    → events_of_items true (events_data (event_texts events)) ≡ Some events
 events_spelled [] = refl
 events_spelled (event ∷ []) = alone_spelled event [] [] refl
 events_spelled (start tag ∷ end name ∷ events) =

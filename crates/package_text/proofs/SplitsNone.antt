@@ -2,15 +2,15 @@
 use Rattle.std.proofs.Common.{◌≡◌, ℕ, List, [], ◌∷◌, Bool, true, false, refl, ap, ◌∙◌}
 use Rattle.std.proofs.Common.{if◌then◌else◌, codes}
 use Rattle.std.specs.Str.{bytes_eq}
-use Rattle.part_events.specs.Event.{Event, Tag, start, end, leaf, text, char_data, entity_ref}
-use Rattle.part_events.specs.Event.{flaw, other}
+use Rattle.part_events.specs.Words.{Event, Tag, start, end, leaf, text, char_data, entity_ref, flaw}
+use Rattle.part_events.specs.Words.{other}
 use Rattle.part_events.specs.declared.flaw.Flaw.{Flaw}
 use Rattle.part_events.specs.declared.flaw.Flaw.TheVariants.{Malformed, NotText, Encrypted}
 use Rattle.part_events.specs.declared.flaw.Flaw.TheVariants.{UnknownMethod, TooLarge, Damaged}
 use Rattle.part_events.specs.declared.flaw.Flaw.TheVariants.{WrongSize, WrongChecksum}
-use Rattle.package_text.specs.WrittenPackage.{texts_of_event, texts_of_empty, event_texts, is_pair}
-use Rattle.package_text.specs.WrittenPackage.{flaw_texts}
-use Rattle.package_text.specs.WrittenPackage.{is_start_of, is_end_behind, none_splits, SplitsNone}
+use Rattle.package_text.specs.WrittenPackage.{texts_of_event, texts_of_empty, event_texts}
+use Rattle.package_text.specs.WrittenPackage.{is_empty_element, flaw_texts, is_start_of}
+use Rattle.package_text.specs.WrittenPackage.{is_end_behind, none_splits, SplitsNone}
 use Rattle.package_text.proofs.EventTexts.{pair_texts, alone_texts}
 
 -- whether the first of these texts is the end of the start before it
@@ -66,7 +66,8 @@ flaw_begins WrongSize name = refl
 flaw_begins WrongChecksum name = refl
 
 -- the texts of events begin with those of the first, by itself or with its end
-begin_by : (event : Event) (events : List Event) (pair : Bool) → is_pair event events ≡ pair
+begin_by : (event : Event) (events : List Event) (pair : Bool) → is_empty_element event
+    events ≡ pair
     → (before : List (List ℕ)) → is_end_behind before (texts_of_event event) ≡ false
     → first_splits before (event_texts (event ∷ events)) ≡ false
 begin_by event events false is before apart =
@@ -80,11 +81,12 @@ begin_by (end name) events true is before apart = absurd cc
 begin_by (leaf kind) events true is before apart = absurd cc
 
 -- a start by itself isn't directly followed by its end
-apart_behind : (tag : Tag) (events : List Event) → is_pair (start tag) events ≡ false
+apart_behind : (tag : Tag) (events : List Event) → is_empty_element (start tag) events ≡ false
     → first_splits (texts_of_event (start tag)) (event_texts events) ≡ false
 apart_behind tag [] alone = refl
 apart_behind tag (start own ∷ events) alone =
-    begin_by (start own) events (is_pair (start own) events) refl (texts_of_event (start tag)) refl
+    begin_by (start own) events (is_empty_element (start own) events) refl
+    (texts_of_event (start tag)) refl
 apart_behind tag (end name ∷ events) alone =
     begin_by (end name) events false refl (texts_of_event (start tag)) alone
 apart_behind tag (leaf (text content) ∷ events) alone =
@@ -99,7 +101,7 @@ apart_behind tag (leaf (flaw why) ∷ events) alone =
 apart_behind tag (leaf other ∷ events) alone =
     begin_by (leaf other) events false refl (texts_of_event (start tag)) refl
 
-alone_apart : (event : Event) (events : List Event) → is_pair event events ≡ false
+alone_apart : (event : Event) (events : List Event) → is_empty_element event events ≡ false
     → first_splits (texts_of_event event) (event_texts events) ≡ false
 alone_apart (start tag) events is = apart_behind tag events is
 alone_apart (end name) events is =
@@ -115,7 +117,7 @@ alone_apart (leaf (flaw why)) events is =
 alone_apart (leaf other) events is =
     none_split_behind (texts_of_event (leaf other)) (event_texts events) (λ own. refl)
 
-alone_splits_none : (event : Event) (events : List Event) → is_pair event events ≡ false
+alone_splits_none : (event : Event) (events : List Event) → is_empty_element event events ≡ false
     → none_splits (event_texts events) ≡ true
     → none_splits (event_texts (event ∷ events)) ≡ true
 alone_splits_none event events is rest =

@@ -4,7 +4,7 @@ use Rattle.std.specs.Fmt.{digits}
 use Rattle.json.specs.Print.{escape_byte}
 use Rattle.serde_json.specs.Data.{Items, array, object, string, member, no_members}
 use Rattle.serde_json.specs.Written.{compact_text, items_text}
-use Rattle.part_events.specs.Package.{Part}
+use Rattle.part_events.specs.Words.{Part}
 use Rattle.package_text.specs.WrittenPackage.{parts_data, package_data, written_package}
 
 -- a part with these events

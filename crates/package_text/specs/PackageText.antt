@@ -1,17 +1,14 @@
 -- The package that a JSON value spells, in version 1 or 2.
 use Rattle.std.specs.Prelude.{◌≡◌, ◌||◌, ◌++◌, ℕ, ◌==◌, List, [], ◌∷◌, Bool, true, false}
-use Rattle.std.specs.Prelude.{if◌then◌else◌}
-use Rattle.std.specs.Prelude.{Option, Some, None, option_map, option_and_then, codes}
+use Rattle.std.specs.Prelude.{if◌then◌else◌, Option, Some, None, option_map, option_and_then, codes}
 use Rattle.std.specs.Str.{bytes_eq, is_utf8}
 use Rattle.serde_json.specs.Data.{Data, object, Items, no_items, item, Members, no_members, member}
 use Rattle.serde_json.specs.Find.{get, as_array, as_str, as_number, as_u64}
 use Rattle.serde_json.specs.Read.{read}
 use Rattle.serde_json.specs.Written.{has_float, members_have_float}
-use Rattle.part_events.specs.Event.{Event, event_of, start, end, leaf, text, char_data, entity_ref}
-use Rattle.part_events.specs.Event.{flaw, other}
-use Rattle.part_events.specs.Memory.{Contents, closed, with_event}
-use Rattle.part_events.specs.Package.{Part}
-use Rattle.part_events.specs.StreamFaults.{flaw_description}
+use Rattle.part_events.specs.Words.{Event, event_of, start, end, leaf, text, char_data, entity_ref}
+use Rattle.part_events.specs.Words.{flaw, other, Contents, closed, with_event, Part}
+use Rattle.part_events.specs.Words.{flaw_description}
 use Rattle.part_events.specs.declared.flaw.Flaw.{Flaw}
 use Rattle.part_events.specs.declared.flaw.Flaw.TheVariants.{Malformed, NotText, Encrypted}
 use Rattle.part_events.specs.declared.flaw.Flaw.TheVariants.{UnknownMethod, TooLarge, Damaged}
@@ -26,12 +23,12 @@ texts_of (item value rest) =
     option_and_then (λ first. option_map (λ texts. first ∷ texts) (texts_of rest)) (as_str value)
 
 -- a start of this name and attribute text
-abbrev pub start_of : List ℕ → List ℕ → Event
-start_of name attributes = start (record { name = name; attributes = attributes })
+abbrev pub start_named : List ℕ → List ℕ → Event
+start_named name attributes = start (record { name = name; attributes = attributes })
 
 -- the two events of an element with nothing in it
 abbrev pub empty_element : List ℕ → List ℕ → List Event
-empty_element name attributes = start_of name attributes ∷ end name ∷ []
+empty_element name attributes = start_named name attributes ∷ end name ∷ []
 
 -- a word for a flaw, if it is this one's, and else what follows
 abbrev named_or : List ℕ → Flaw → Option Flaw → Option Flaw
@@ -61,7 +58,7 @@ events_of_texts is_second (kind ∷ content ∷ []) =
     then (if is_second then option_map (λ why. leaf (flaw why) ∷ []) (flaw_named content) else None)
     else None))))
 events_of_texts is_second (kind ∷ name ∷ attributes ∷ []) =
-    if bytes_eq kind (codes "s") then Some (start_of name attributes ∷ [])
+    if bytes_eq kind (codes "s") then Some (start_named name attributes ∷ [])
     else (if bytes_eq kind (codes "b")
     then (if is_second then Some (empty_element name attributes) else None) else None)
 events_of_texts is_second (kind ∷ first ∷ second ∷ third ∷ more) = None
@@ -72,10 +69,10 @@ events_of_value is_second value =
     option_and_then (events_of_texts is_second) (option_and_then texts_of (as_array value))
 
 -- the events of the items of a JSON array, if each of them spells some
-abbrev pub events_in : Bool → Items → Option (List Event)
-events_in is_second no_items = Some []
-events_in is_second (item value rest) =
-    option_and_then (λ own. option_map (λ events. own ++ events) (events_in is_second rest))
+abbrev pub events_of_items : Bool → Items → Option (List Event)
+events_of_items is_second no_items = Some []
+events_of_items is_second (item value rest) =
+    option_and_then (λ own. option_map (λ events. own ++ events) (events_of_items is_second rest))
     (events_of_value is_second value)
 
 -- a part of this name, where its events are events
@@ -87,7 +84,7 @@ named_part name events =
 abbrev pub part_in : Bool → Data → Option Part
 part_in is_second value =
     let found = option_and_then as_array (get (codes "events") value) in
-    let events = option_and_then (events_in is_second) found in
+    let events = option_and_then (events_of_items is_second) found in
     option_and_then (λ name. named_part name events)
     (option_and_then as_str (get (codes "name") value))
 
@@ -98,8 +95,8 @@ parts_in is_second (item value rest) =
     option_and_then (λ part. option_map (λ parts. part ∷ parts) (parts_in is_second rest))
     (part_in is_second value)
 
--- whether a version is the second, which has empty elements as one event, and flaws, where it is a
--- version
+-- whether the text of a version is the second, which has empty elements as one event, and flaws, if
+-- it is a version at all
 abbrev pub version_is_second : Option ℕ → Option Bool
 version_is_second None = None
 version_is_second (Some version) =
@@ -143,7 +140,7 @@ abbrev pub part_beside : Bool → Data → Option Part
 part_beside is_second value =
     if has_float_beside (codes "events") value then None else part_in is_second value
 
--- the parts of such items of a JSON array
+-- the parts of the items of a JSON array, if their numbers beside their events are integers
 abbrev pub parts_beside : Bool → Items → Option (List Part)
 parts_beside is_second no_items = Some []
 parts_beside is_second (item value rest) =
@@ -160,14 +157,14 @@ package_beside value =
     else option_and_then (λ is_second. option_and_then (parts_beside is_second) found) version
 
 -- what an event of a package text stands for
-abbrev pub events_of : SpelledEvent → List Event
-events_of (One event) = event_of event ∷ []
-events_of (Empty tag) = empty_element tag.name.now tag.attributes.now
+abbrev pub event_meant : SpelledEvent → List Event
+event_meant (One event) = event_of event ∷ []
+event_meant (Empty tag) = empty_element tag.name.now tag.attributes.now
 
 -- the parts with the events at the end of the last
-abbrev pub with_events : List Part → List Event → List Part
-with_events parts [] = parts
-with_events parts (event ∷ events) = with_events (with_event parts event) events
+abbrev pub with_last_events : List Part → List Event → List Part
+with_last_events parts [] = parts
+with_last_events parts (event ∷ events) = with_last_events (with_event parts event) events
 
 -- what adding a value to a package in memory as a part does, and when it is none
 abbrev pub AppendsPart : Option Part → Contents → Contents → Bool → Type 0

@@ -6,15 +6,13 @@ use Rattle.serde_json.specs.Data.{Data, object, array, string, number, unsigned,
 use Rattle.serde_json.specs.Data.{item, no_members, member}
 use Rattle.serde_json.specs.Read.{read}
 use Rattle.serde_json.specs.Written.{compact_text}
-use Rattle.part_events.specs.Event.{Event, event_of, start, end, leaf, text, char_data, entity_ref}
-use Rattle.part_events.specs.Event.{flaw, other}
-use Rattle.part_events.specs.Package.{Part}
-use Rattle.part_events.specs.StreamFaults.{flaw_description}
+use Rattle.part_events.specs.Words.{Event, event_of, start, end, leaf, text, char_data, entity_ref}
+use Rattle.part_events.specs.Words.{flaw, other, Part, flaw_description}
 use Rattle.part_events.specs.declared.flaw.Flaw.{Flaw}
 use Rattle.part_events.specs.declared.flaw.Flaw.TheVariants.{Malformed, NotText, Encrypted}
 use Rattle.part_events.specs.declared.flaw.Flaw.TheVariants.{UnknownMethod, TooLarge, Damaged}
 use Rattle.part_events.specs.declared.flaw.Flaw.TheVariants.{WrongSize, WrongChecksum}
-use Rattle.package_text.specs.PackageText.{package_of, events_of}
+use Rattle.package_text.specs.PackageText.{package_of, event_meant}
 use Rattle.package_text.specs.declared.spelled.SpelledEvent.{SpelledEvent}
 use Rattle.package_text.specs.declared.spelled.SpelledEvent.TheVariants.{One, Empty}
 
@@ -79,7 +77,7 @@ package_data parts =
     object (member (codes "parts") (array (parts_data parts))
     (member (codes "version") (number (unsigned 2)) no_members))
 
--- its text, without a space
+-- the text of a package of these parts, without a space
 abbrev pub written_package : List Part → List ℕ
 written_package parts = compact_text (package_data parts)
 
@@ -109,8 +107,8 @@ abbrev pub SpellsItsParts : Type 0
 SpellsItsParts = (parts : List Part) → package_of (package_data parts) ≡ Some parts
 
 -- the text of a package is read as its value, and so as the package
-abbrev pub IsReadBack : Type 0
-IsReadBack =
+abbrev pub TextReadsBack : Type 0
+TextReadsBack =
     (parts : List Part) → option_and_then package_of (read (written_package parts)) ≡ Some parts
 
 -- in no list of events that is written stands a start before the end of its name
@@ -125,10 +123,10 @@ begins_by_end name (end own ∷ events) = bytes_eq name own
 begins_by_end name events = false
 
 -- whether an event is a start, and the first of these events the end of its name
-abbrev pub is_pair : Event → List Event → Bool
-is_pair (start tag) events = begins_by_end tag.name events
-is_pair (end name) events = false
-is_pair (leaf kind) events = false
+abbrev pub is_empty_element : Event → List Event → Bool
+is_empty_element (start tag) events = begins_by_end tag.name events
+is_empty_element (end name) events = false
+is_empty_element (leaf kind) events = false
 
 -- the texts of an event of a package text
 abbrev pub texts_of_spelled : SpelledEvent → List (List ℕ)
@@ -138,6 +136,6 @@ texts_of_spelled (Empty tag) = texts_of_empty tag.name.now tag.attributes.now
 -- the texts of the events from a place on begin with those of this one, and those behind what it
 -- stands for follow
 pub record IsWrittenAt (events : List Event) (place : ℕ) (event : SpelledEvent) : Type 0 where
-  pub ends : place + length (events_of event) ≤ length events
+  pub ends : place + length (event_meant event) ≤ length events
   pub begins : event_texts (drop place events)
-      ≡ texts_of_spelled event ∷ event_texts (drop (place + length (events_of event)) events)
+      ≡ texts_of_spelled event ∷ event_texts (drop (place + length (event_meant event)) events)

@@ -1,5 +1,5 @@
 //! Laws of package texts in version 2.
-ghost use Rattle.package_text.specs.WrittenPackage.{SpellsItsParts, IsReadBack, SplitsNone};
+ghost use Rattle.package_text.specs.WrittenPackage.{SpellsItsParts, TextReadsBack, SplitsNone};
 
 /// The value that is written of a package spells that package.
 #[tactic(auto, using(crate::proofs::SpellsBack::spells_its_parts))]
@@ -10,7 +10,7 @@ pub fn written_values_spell_their_parts()
 /// The text that is written of a package is read as that package.
 #[tactic(auto, using(crate::proofs::ReadsBack::is_read_back))]
 pub fn written_packages_are_read_back()
-    ensures { IsReadBack }
+    ensures { TextReadsBack }
 {}
 
 /// In no list of events that is written stands a start before the end of its name.

@@ -2,12 +2,12 @@ ghost use Rattle.std.specs.Prelude.{◌≡◌, ◌<◌, ◌∷◌, [], length, S
 ghost use Rattle.std.specs.Prelude.{option_map, false};
 ghost use Rattle.serde_json.specs.View.{view, items_view, members_view};
 ghost use Rattle.serde_json.specs.Written.{has_float, items_have_float, members_have_float};
-ghost use Rattle.part_events.specs.Memory.{closed};
-ghost use Rattle.package_text.specs.PackageText.{events_of_texts, events_of_value, events_in};
+ghost use Rattle.part_events.specs.Words.{closed};
+ghost use Rattle.package_text.specs.PackageText.{events_of_texts, events_of_value, events_of_items};
 ghost use Rattle.package_text.specs.PackageText.{package_of, named_part, members_have_float_beside};
 ghost use Rattle.package_text.specs.PackageText.{has_float_beside, part_beside, package_beside};
-ghost use Rattle.package_text.specs.PackageText.{AppendsPart, version_is_second, events_of};
-ghost use Rattle.package_text.specs.PackageText.{with_events, flaw_named};
+ghost use Rattle.package_text.specs.PackageText.{AppendsPart, version_is_second, event_meant};
+ghost use Rattle.package_text.specs.PackageText.{with_last_events, flaw_named};
 
 use part_events::{Flaw, MemoryPackage, PartEvent, StartTag};
 use serde_json::{Map, Value};
@@ -86,7 +86,7 @@ pub enum SpelledEvent<'a> {
 impl SpelledEvent<'_> {
     /// How many events it stands for.
     pub fn count(&self) -> usize
-        ensures { result ≡ length (events_of self.now) }
+        ensures { result ≡ length (event_meant self.now) }
     {
         match self {
             SpelledEvent::One(_) => 1,
@@ -97,7 +97,7 @@ impl SpelledEvent<'_> {
 
 /// What a value of a list of events stands for, or None where it is no event of the version.
 fn event_from(value: &Value, is_second: bool) -> Option<SpelledEvent<'_>>
-    ensures { option_map (λ event. events_of event) result
+    ensures { option_map (λ event. event_meant event) result
         ≡ events_of_value is_second (view value.now) }
 {
     match value.as_array()?.as_slice() {
@@ -118,7 +118,7 @@ fn event_from(value: &Value, is_second: bool) -> Option<SpelledEvent<'_>>
 
 /// An event of a kind without a text.
 fn plain_event(is_second: bool, kind: &str) -> Option<SpelledEvent<'_>>
-    ensures { option_map (λ event. events_of event) result
+    ensures { option_map (λ event. event_meant event) result
         ≡ events_of_texts is_second (kind.now ∷ []) }
 {
     match kind {
@@ -147,7 +147,7 @@ fn flaw_named(words: &str) -> Option<Flaw>
 /// An event of a kind and a text.
 fn text_event<'a>(is_second: bool, kind: &str, content: &'a str) -> Option<SpelledEvent<'a>>
     ensures { let texts = kind.now ∷ content.now ∷ [] in
-        option_map (λ event. events_of event) result ≡ events_of_texts is_second texts }
+        option_map (λ event. event_meant event) result ≡ events_of_texts is_second texts }
 {
     let event = match kind {
         "e" => PartEvent::End(content),
@@ -168,7 +168,7 @@ fn start_event<'a>(
     attributes: &'a str,
 ) -> Option<SpelledEvent<'a>>
     ensures { let texts = kind.now ∷ name.now ∷ attributes.now ∷ [] in
-        option_map (λ event. events_of event) result ≡ events_of_texts is_second texts }
+        option_map (λ event. event_meant event) result ≡ events_of_texts is_second texts }
 {
     let tag = StartTag { name, attributes };
     match kind {
@@ -182,7 +182,8 @@ fn start_event<'a>(
 fn push_spelled(package: &mut MemoryPackage, event: SpelledEvent<'_>) -> Result<(), AllocError>
     requires { 0 < length «package».old.parts }
     ensures { OnOk result («package».new
-        ≡ closed (with_events «package».old.parts (events_of event.entry)) «package».old.taken) }
+        ≡ closed (with_last_events «package».old.parts (event_meant event.entry))
+        «package».old.taken) }
 {
     match event {
         SpelledEvent::One(event) => package.push_event(event),
@@ -197,7 +198,7 @@ fn push_part_of(
     name: &str,
     events: &[Value],
 ) -> Result<bool, AllocError>
-    ensures { let part = named_part name.now (events_in is_second (items_view events.now)) in
+    ensures { let part = named_part name.now (events_of_items is_second (items_view events.now)) in
         IfOk result (AppendsPart part «package».old «package».new) }
 {
     package.add_part(name)?;

@@ -1,6 +1,6 @@
-ghost use Rattle.std.specs.Prelude.{◌≡◌, ◌<◌, ◌+◌, ◌++◌, ◌∷◌, [], drop, length, false};
-ghost use Rattle.std.specs.Prelude.{IfOk, OnOk, OnErr, string_bytes};
-ghost use Rattle.part_events.specs.Memory.{part_at};
+ghost use Rattle.std.specs.Prelude.{◌≡◌, ◌<◌, ◌+◌, ◌++◌, ◌∷◌, [], drop, length, false, IfOk, OnOk};
+ghost use Rattle.std.specs.Prelude.{OnErr, string_bytes};
+ghost use Rattle.part_events.specs.Words.{part_at};
 ghost use Rattle.serde_json.specs.Data.{array, string};
 ghost use Rattle.serde_json.specs.View.{view};
 ghost use Rattle.serde_json.specs.Written.{has_float, compact_text, comma_if, items_text};

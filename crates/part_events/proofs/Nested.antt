@@ -1,7 +1,7 @@
 -- Wholeness, and the names of the open elements, from one event to the next.
-use Rattle.std.proofs.Common.{◌≡◌, ℕ, List, [], ◌∷◌, ◌++◌, length, reverse, Bool, true}
-use Rattle.std.proofs.Common.{false, refl, sym, ◌∙◌, ap, arith, append_assoc, append-nil, inl, inr}
-use Rattle.std.proofs.Common.{◌⊎◌, Option, Some, subst}
+use Rattle.std.proofs.Common.{◌≡◌, ℕ, List, [], ◌∷◌, ◌++◌, length, reverse, Bool, true, false, refl}
+use Rattle.std.proofs.Common.{sym, ◌∙◌, ap, arith, append_assoc, append-nil, inl, inr, ◌⊎◌, Option}
+use Rattle.std.proofs.Common.{Some, subst}
 use Rattle.std.specs.Prelude.{if◌then◌else◌, slice_get, get_or, IsSomeAnd}
 use Rattle.std.proofs.Math.Seq.{get_or-append_seam}
 use Rattle.std.proofs.lemmas.Grind.{reverse_onto}

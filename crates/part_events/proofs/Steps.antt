@@ -1,6 +1,6 @@
 -- A reader's step to the next event.
-use Rattle.std.proofs.Common.{◌≡◌, ℕ, ◌<◌, append-nil, List, [], ◌∷◌, ◌++◌, length, reverse}
-use Rattle.std.proofs.Common.{Bool, true, false, refl, sym, ◌∙◌, ap, arith, Some}
+use Rattle.std.proofs.Common.{◌≡◌, ℕ, ◌<◌, append-nil, List, [], ◌∷◌, ◌++◌, length, reverse, Bool}
+use Rattle.std.proofs.Common.{true, false, refl, sym, ◌∙◌, ap, arith, Some}
 use Rattle.std.specs.Prelude.{slice_get, Option, if◌then◌else◌}
 use Rattle.std.specs.Option.{option_map_or}
 use Rattle.std.specs.Str.{bytes_eq}
@@ -9,8 +9,8 @@ use Rattle.part_events.specs.Event.{Event, end, leaf, flaw}
 use Rattle.part_events.specs.Nesting.{goes_on, closes, whole_rest}
 use Rattle.part_events.specs.OpenNames.{is_innermost}
 use Rattle.part_events.specs.Package.{Advances}
-use Rattle.part_events.specs.Reading.{Reading, IsReading, IsTracked, BreaksNext, break_by}
-use Rattle.part_events.specs.Reading.{EndsOpen, ahead, events_of}
+use Rattle.part_events.specs.Reading.{Reading, IsReading, IsTracked, BreaksNext, break_by, EndsOpen}
+use Rattle.part_events.specs.Reading.{ahead, events_of}
 use Rattle.part_events.specs.declared.fault.BreakCause.{BreakCause}
 use Rattle.part_events.specs.declared.fault.BreakCause.TheVariants.{EndMismatch, Flawed}
 use Rattle.part_events.specs.declared.flaw.Flaw.{Flaw}
@@ -31,7 +31,7 @@ same_name name (first ∷ names) = refl
 
 -- the event that was taken doesn't go on with those before it
 breaks_there : (old new : Reading) (event : Event) (why : BreakCause) (more : Bool) → more ≡ true
-    → IsReading old → old.source.is_told ≡ true → Advances more old.source new.source
+    → IsReading old → old.source.is_visible ≡ true → Advances more old.source new.source
     → event ≡ new.source.current → goes_on old.source.past event ≡ false → break_by event ≡ Some why
     → BreaksNext old new old.at why × (ahead old ≡ [])
 breaks_there old new event why more is was told advanced current breaks by =
@@ -58,7 +58,7 @@ breaks_there old new event why more is was told advanced current breaks by =
 
 -- an end of another name was taken
 pub breaks_at_end : (old new : Reading) (name : List ℕ) (more : Bool) → more ≡ true → IsReading old
-    → old.source.is_told ≡ true → Advances more old.source new.source → end name
+    → old.source.is_visible ≡ true → Advances more old.source new.source → end name
     ≡ new.source.current → is_innermost name old.names ≡ false
     → BreaksNext old new old.at EndMismatch × (ahead old ≡ [])
 breaks_at_end old new name more is was told advanced current other =
@@ -71,7 +71,7 @@ breaks_at_end old new name more is was told advanced current other =
 
 -- a flaw was taken
 pub breaks_at_flaw : (old new : Reading) (why : Flaw) (more : Bool) → more ≡ true → IsReading old
-    → old.source.is_told ≡ true → Advances more old.source new.source → leaf (flaw why)
+    → old.source.is_visible ≡ true → Advances more old.source new.source → leaf (flaw why)
     ≡ new.source.current → BreaksNext old new old.at (Flawed why) × (ahead old ≡ [])
 breaks_at_flaw old new why more is was told advanced current =
     breaks_there old new (leaf (flaw why)) (Flawed why) more is was told advanced current refl refl

@@ -124,10 +124,11 @@ stops_at_entity data_too base old mid new first written read tracked takes part 
 
 -- the text of an event can't be put
 pub event_fails : (data_too : Bool) (base : ℕ) (old mid new : Reading) (first written : List ℕ)
-    (fault : TextFault) → (old.source.is_told ≡ true
-    → HasRead data_too base old mid (first, written)) → (old.source.is_told ≡ true → IsTracked mid)
-    → (old.source.is_told ≡ true → TakesInside base mid new) → new.at ≡ mid.at + 1
-    → (old.source.is_told ≡ true → events_of new ≡ events_of old)
+    (fault : TextFault) → (old.source.is_visible ≡ true
+    → HasRead data_too base old mid (first, written)) → (old.source.is_visible ≡ true
+    → IsTracked mid)
+    → (old.source.is_visible ≡ true → TakesInside base mid new) → new.at ≡ mid.at + 1
+    → (old.source.is_visible ≡ true → events_of new ≡ events_of old)
     → EventFails new.source.current fault → TextFails old new (text_error (new.at - 1) fault)
 event_fails data_too base old mid new first written (text_fault.Entity place) read tracked takes at
     part fails = λ told.

@@ -6,7 +6,7 @@ use Rattle.part_events.specs.Package.{PackageState, SameParts, UsesPackage, Leav
 pub same_further : {old mid new : PackageState} → SameParts old mid → SameParts mid new
     → SameParts old new
 same_further first second = record {
-  is_told = second.is_told ∙ first.is_told;
+  is_visible = second.is_visible ∙ first.is_visible;
   parts = second.parts ∙ first.parts;
   faults = omega (arith, first.faults, second.faults);
   takes_memory = second.takes_memory ∙ first.takes_memory;
@@ -18,7 +18,13 @@ uses_then less first second = record {
   parts = same_further first.parts second.parts;
   faults = second.faults ∙ first.faults;
   forward = omega (arith, first.forward, second.forward);
-  taken = λ told. omega (arith, less, first.taken told, second.taken (first.parts.is_told ∙ told));
+  taken = λ told. omega (
+    arith,
+    less,
+    first.taken told,
+    second.taken (first.parts.is_visible
+        ∙ told),
+  );
 }
 
 pub leaves_then : {E : Type 0} {fault error : E} {few more most : ℕ} {old mid new : PackageState}
@@ -28,7 +34,13 @@ leaves_then less first second = record {
   parts = same_further first.parts second.parts;
   faults = λ other. second.faults other ∙ first.faults;
   forward = omega (arith, first.forward, second.forward);
-  taken = λ told. omega (arith, less, first.taken told, second.taken (first.parts.is_told ∙ told));
+  taken = λ told. omega (
+    arith,
+    less,
+    first.taken told,
+    second.taken (first.parts.is_visible
+        ∙ told),
+  );
 }
 
 -- what a call takes behind another one, whatever it answers

@@ -31,7 +31,7 @@ pub data Event : Type 0 where
 abbrev pub tag_of : StartTag → Tag
 tag_of tag = record { name = tag.name.now; attributes = tag.attributes.now }
 
--- an event by its texts
+-- an event by the texts that a `PartEvent` has
 abbrev pub event_of : PartEvent → Event
 event_of (Start tag) = start (tag_of tag)
 event_of (End name) = end name.now
@@ -41,7 +41,7 @@ event_of (EntityRef name) = leaf (entity_ref name.now)
 event_of (part_event.Flaw why) = leaf (flaw why)
 event_of Other = leaf other
 
--- a leaf is a flaw
+-- a leaf is a flaw, behind which nothing is told of its part
 abbrev pub is_flaw : Leaf → Bool
 is_flaw (text content) = false
 is_flaw (char_data content) = false
@@ -49,7 +49,7 @@ is_flaw (entity_ref name) = false
 is_flaw (flaw why) = true
 is_flaw other = false
 
--- an event is a start
+-- an event is the start of an element
 abbrev pub is_start : Event → Bool
 is_start (start tag) = true
 is_start (end name) = false

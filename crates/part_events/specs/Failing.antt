@@ -17,11 +17,11 @@ pub record Planned : Type 0 where
 abbrev pub planned_state : Planned → PackageState
 planned_state held = record (state_of held.inner) { faults = held.faults }
 
--- the next call is one of those that fail
+-- the next call is one of those that fail by the plan
 abbrev pub fails_next : Planned → Bool
 fails_next held = list_any (λ call. call == held.made) held.calls
 
--- what a call counts; both counts stop at their last value
+-- what a call of a package whose calls fail by a plan counts; both counts stop at their last value
 pub record CountsCall (is_refused : Bool) (old new : Planned) : Type 0 where
   pub refused : is_refused ≡ fails_next old
   pub calls : new.calls ≡ old.calls

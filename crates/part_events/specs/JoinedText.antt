@@ -3,7 +3,7 @@
 use Rattle.std.specs.Prelude.{◌≡◌, ⊤, ℕ, suc, ◌+◌, List, [], ◌∷◌, ◌++◌, length, Bool, true, false}
 use Rattle.std.specs.Prelude.{if◌then◌else◌, Option, None, Some, is_none, encode_utf8, slice_get}
 use Rattle.std.specs.Prelude.{IsSomeAnd}
-use Rattle.attr_text.specs.Text.{entity_character, line_ends}
+use Rattle.attr_text.specs.Words.{entity_character, line_ends}
 use Rattle.attr_text.specs.declared.fault.TextFault.{TextFault}
 use Rattle.attr_text.specs.declared.fault.TextFault.TheVariants as text_fault
 use Rattle.part_events.specs.Event.{Event, start, end, leaf, text, char_data, entity_ref, flaw}
@@ -35,7 +35,7 @@ abbrev pub joined_text : Bool → List Event → List ℕ
 joined_text data_too [] = []
 joined_text data_too (event ∷ events) = event_text data_too event ++ joined_text data_too events
 
--- a reference without a character
+-- an event is a reference without a character
 abbrev pub is_unknown : Event → Bool
 is_unknown (start tag) = false
 is_unknown (end name) = false
@@ -83,12 +83,12 @@ IsUnknownAt events at = IsSomeAnd (slice_get events at) (λ event. is_unknown ev
 abbrev pub TextFails : Reading → Reading → StreamError → Type 0
 TextFails old new Io = HasCause old.source new.source
 TextFails old new (Xml (Break at why)) =
-    old.source.is_told ≡ true →
+    old.source.is_visible ≡ true →
     BreaksNext old new at why × (is_closed 0 (ahead old) ≡ false)
     × (unknown_entity (content 0 (ahead old)) ≡ None)
 TextFails old new (Xml (Unclosed at)) = ⊥
 TextFails old new (Xml (Entity at)) =
-    old.source.is_told ≡ true →
+    old.source.is_visible ≡ true →
     (events_of new ≡ events_of old) × IsUnknownAt (events_of new) at
     × IsSomeAnd (unknown_entity (content 0 (ahead old)))
     (λ behind. at + suc behind ≡ old.at + length (content 0 (ahead old)))

@@ -9,7 +9,7 @@ pub record MeetsFault {P : Type 0} (state : P → PackageState) (old : PackageSt
   pub parts : SameParts old (state met)
   pub cause : HasCause old (state met)
 
--- such a call is refused by a fault only where there is one
+-- a call to which a package is lent is refused by this fault only where the package had a fault
 abbrev pub LentFails :
     {E P : Type 0} → E → (P → PackageState) → PackageState → E → Type 0
 LentFails fault state old error = error ≡ fault → MeetsFault state old

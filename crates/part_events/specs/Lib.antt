@@ -14,3 +14,4 @@ pub mod Reading
 pub mod Section
 pub mod Stored
 pub mod Walk
+pub mod Words

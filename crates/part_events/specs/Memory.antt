@@ -9,7 +9,7 @@ use Rattle.part_events.specs.declared.memory.Place.{Place}
 abbrev pub part_at : List Part → ℕ → Part
 part_at parts place = slice_index_or parts place (record { name = []; events = [] })
 
--- the events of the open part, and how many of them were taken
+-- the events of the open part, and none where no part is open
 abbrev pub open_events : List Part → Option Place → List Event
 open_events parts None = []
 open_events parts (Some place) = (part_at parts place.part).events
@@ -31,10 +31,10 @@ pub record Contents : Type 0 where
   pub place : Option Place
   pub taken : ℕ
 
--- what it is to its reader; no call of it fails
+-- the state of a package in memory, as its reader knows it; no call of it fails
 abbrev pub state_of : Contents → PackageState
 state_of held = record {
-  is_told = true;
+  is_visible = true;
   parts = held.parts;
   past = reverse (take (taken_of held.place) (open_events held.parts held.place));
   rest = drop (taken_of held.place) (open_events held.parts held.place);
@@ -58,7 +58,7 @@ IsPlace parts (Some place) =
     (place.part < length parts) × (place.next ≤ length (part_at parts place.part).events)
     × (place.has_event ≡ true → 0 < place.next)
 
--- the parts with the event at the end of the last
+-- the parts of a package, with an event at the end of the last part
 abbrev pub with_event : List Part → Event → List Part
 with_event [] event = []
 with_event (part ∷ []) event = record { name = part.name; events = part.events ++ event ∷ [] } ∷ []

@@ -6,14 +6,14 @@ use Rattle.std.specs.Option.{option_map_or}
 use Rattle.std.specs.Str.{bytes_eq}
 use Rattle.part_events.specs.Event.{Tag, Event, start, end, leaf, is_flaw}
 
--- how many starts are among these events
+-- how many starts are among events
 abbrev pub starts_in : List Event → ℕ
 starts_in [] = 0
 starts_in (start tag ∷ past) = starts_in past + 1
 starts_in (end name ∷ past) = starts_in past
 starts_in (leaf kind ∷ past) = starts_in past
 
--- how many ends are among these events
+-- how many ends are among events
 abbrev pub ends_in : List Event → ℕ
 ends_in [] = 0
 ends_in (start tag ∷ past) = ends_in past
@@ -42,12 +42,12 @@ open_start outside (leaf kind ∷ past) = open_start outside past
 abbrev pub innermost_open : List Event → Option OpenStart
 innermost_open past = open_start 0 past
 
--- the name of that element
+-- the name of the element that is open `outside` levels further out than the innermost one
 abbrev pub open_name : ℕ → List Event → Option (List ℕ)
 open_name outside past =
     option_map (λ (opening : OpenStart). opening.tag.name) (open_start outside past)
 
--- the innermost open element has this name
+-- the innermost open element has this name, so that an end of the name closes it
 abbrev pub closes : List Event → List ℕ → Bool
 closes past name = option_map_or (bytes_eq name) (open_name 0 past) false
 

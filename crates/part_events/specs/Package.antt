@@ -34,7 +34,7 @@ part_of (part ∷ parts) name = if has_name name part then Some part.events else
 -- What a package is to its reader. Where it doesn't tell its content, only the last six fields
 -- mean something.
 pub record PackageState : Type 0 where
-  pub is_told : Bool
+  pub is_visible : Bool
   pub parts : List Part
   -- the events of the open part that were taken, the latest first, and those to come
   pub past : List Event
@@ -69,14 +69,15 @@ HasCause old new = RisesByOne old.faults new.faults
 abbrev pub KeepsFaults : {E : Type 0} → E → PackageState → PackageState → E → Type 0
 KeepsFaults fault old new error = (error ≡ fault → ⊥) → new.faults ≡ old.faults
 
--- what no call of the trait changes
+-- what no call on a package changes: its parts, whether it tells them, and whether its calls take
+-- memory; faults don't get fewer
 pub record SameParts (old new : PackageState) : Type 0 where
-  pub is_told : new.is_told ≡ old.is_told
+  pub is_visible : new.is_visible ≡ old.is_visible
   pub parts : new.parts ≡ old.parts
   pub faults : old.faults ≤ new.faults
   pub takes_memory : new.takes_memory ≡ old.takes_memory
 
--- no part is open
+-- no part of a package is open
 pub record IsClosed (state : PackageState) : Type 0 where
   pub past : state.past ≡ []
   pub rest : state.rest ≡ []
@@ -133,7 +134,7 @@ pub record UsesPackage (most : ℕ) (old new : PackageState) : Type 0 where
   pub parts : SameParts old new
   pub faults : new.faults ≡ old.faults
   pub forward : NeverFalls old.taken new.taken
-  pub taken : old.is_told ≡ true → new.taken ≤ old.taken + most
+  pub taken : old.is_visible ≡ true → new.taken ≤ old.taken + most
 
 -- a refused call on a package: `fault` alone may come with a higher count of faults
 pub record LeavesPackage {E : Type 0} (most : ℕ) (fault : E) (old new : PackageState)
@@ -141,7 +142,7 @@ pub record LeavesPackage {E : Type 0} (most : ℕ) (fault : E) (old new : Packag
   pub parts : SameParts old new
   pub faults : KeepsFaults fault old new error
   pub forward : NeverFalls old.taken new.taken
-  pub taken : old.is_told ≡ true → new.taken ≤ old.taken + most
+  pub taken : old.is_visible ≡ true → new.taken ≤ old.taken + most
 
 -- what each call on a package keeps, by its answer
 abbrev pub Uses : {A E : Type 0} → ℕ → E → Result A E → PackageState → PackageState → Type 0

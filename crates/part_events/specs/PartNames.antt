@@ -15,7 +15,7 @@ place_of [] key = None
 place_of (part ∷ parts) key =
     if bytes_eq (folded part.name) key then Some 0 else option_map suc (place_of parts key)
 
--- the place that is kept for such a text
+-- the place that is kept for the text as which a part's name is compared
 abbrev pub place_by : BTreeMap (Vec ℕ Global) ℕ → List ℕ → Option ℕ
 place_by places key = get_by (λ kept. slice_cmp nat_cmp key kept.items) places
 

@@ -2,6 +2,6 @@
 use Rattle.std.specs.Prelude.{[], false}
 use Rattle.part_events.specs.Package.{PackageState}
 
--- what means something where the content isn't told
+-- the state of a package that doesn't tell its content
 abbrev pub quiet : PackageState → PackageState
-quiet inner = record inner { is_told = false; parts = []; past = []; rest = [] }
+quiet inner = record inner { is_visible = false; parts = []; past = []; rest = [] }

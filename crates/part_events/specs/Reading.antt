@@ -1,10 +1,10 @@
 -- A reader of a part: what it is to its caller, and what its calls do.
-use Rattle.std.specs.Prelude.{◌≡◌, ⊤, ℕ, suc, ◌+◌, ◌-◌, ◌<◌, ◌≤◌, ◌^◌, List, [], ◌∷◌, ◌++◌}
-use Rattle.std.specs.Prelude.{length, reverse, slice_get, Bool, true, false, Result, MatchResult}
-use Rattle.std.specs.Prelude.{Option, Some, None, IsSomeAnd}
+use Rattle.std.specs.Prelude.{◌≡◌, ⊤, ℕ, suc, ◌+◌, ◌-◌, ◌<◌, ◌≤◌, ◌^◌, List, [], ◌∷◌, ◌++◌, length}
+use Rattle.std.specs.Prelude.{reverse, slice_get, Bool, true, false, Result, MatchResult, Option}
+use Rattle.std.specs.Prelude.{Some, None, IsSomeAnd}
 use Rattle.std.specs.declared.alloc.Global.{Global}
-use Rattle.part_events.specs.Event.{Event, start, end, leaf, is_start, text, char_data}
-use Rattle.part_events.specs.Event.{entity_ref, flaw, other}
+use Rattle.part_events.specs.Event.{Event, start, end, leaf, is_start, text, char_data, entity_ref}
+use Rattle.part_events.specs.Event.{flaw, other}
 use Rattle.part_events.specs.Nesting.{starts_in, ends_in, depth, open_name, IsWhole, whole_rest}
 use Rattle.part_events.specs.Nesting.{whole}
 use Rattle.part_events.specs.Package.{PackageState, HasCause, KeepsFaults, SameParts, IsClosed}
@@ -26,7 +26,7 @@ pub record Reading : Type 0 where
   pub is_failed : Bool
   pub alloc : Global
 
--- the events of the open part
+-- the events of the part that a reading has open
 abbrev pub events_of : Reading → List Event
 events_of r = reverse r.source.past ++ r.source.rest
 
@@ -42,7 +42,7 @@ pub record IsTracked (r : Reading) : Type 0 where
   pub names : (outside : ℕ) → open_name outside r.source.past ≡ slice_get r.names outside
   pub depth : length r.names + ends_in r.source.past ≡ starts_in r.source.past
 
--- the current event is a start
+-- a reader stands at the start of an element: that is the current event
 pub record IsAtElement (r : Reading) : Type 0 where
   pub has_current : r.source.has_current ≡ true
   pub current : is_start r.source.current ≡ true
@@ -52,14 +52,14 @@ pub record IsReading (r : Reading) : Type 0 where
   pub going : r.is_failed ≡ false
   pub element : IsAtElement r → 0 < length r.names
   pub fits : r.at + r.source.left < 2 ^ 64
-  pub tracked : r.source.is_told ≡ true → IsTracked r
+  pub tracked : r.source.is_visible ≡ true → IsTracked r
 
 -- the reader stands at the start of an element, and may be read on
 pub record IsReadingElement (r : Reading) : Type 0 where
   pub reading : IsReading r
   pub element : IsAtElement r
 
--- a reader that was just made
+-- a reader that was just made stands before the first event of its part
 pub record OpensReader (old : PackageState) (new : Reading) : Type 0 where
   pub reading : IsReading new
   pub parts : SameParts old new.source
@@ -67,7 +67,7 @@ pub record OpensReader (old : PackageState) (new : Reading) : Type 0 where
   pub taken : new.source.taken ≡ old.taken
   pub names : new.names ≡ []
   pub at : new.at ≡ 0
-  pub past : old.is_told ≡ true → new.source.past ≡ []
+  pub past : old.is_visible ≡ true → new.source.past ≡ []
 
 -- a part could not be opened: no part is open, and no event was taken
 pub record LeavesClosed (old new : PackageState) : Type 0 where
@@ -91,21 +91,21 @@ pub record MovesForward (old new : Reading) : Type 0 where
   pub taken : CountsUp (new.at - old.at) old.source.taken new.source.taken
   pub bounded : new.source.taken + new.source.left ≤ old.source.taken + old.source.left
   pub within :
-      old.source.is_told ≡ true →
+      old.source.is_visible ≡ true →
       new.source.taken + length new.source.rest ≤ old.source.taken + length old.source.rest
 
--- the same events of the same part
+-- two readings have the same events of their part, if its package tells its content
 abbrev pub SamePart : Reading → Reading → Type 0
-SamePart old new = old.source.is_told ≡ true → events_of new ≡ events_of old
+SamePart old new = old.source.is_visible ≡ true → events_of new ≡ events_of old
 
--- what every call keeps that isn't refused
+-- what every call of a reader keeps that isn't refused: the part may be read on, and no fault came
 pub record StaysReadable (old new : Reading) : Type 0 where
   pub reading : IsReading new
   pub faults : new.source.faults ≡ old.source.faults
   pub left : new.at + new.source.left ≡ old.at + old.source.left
   pub part : SamePart old new
 
--- a call that isn't refused
+-- a call of a reader that isn't refused: it moves forward, and the part may be read on
 pub record ReadsOn (old new : Reading) : Type 0 where
   pub moves : MovesForward old new
   pub stays : StaysReadable old new
@@ -138,7 +138,7 @@ names_behind (end name) [] = []
 names_behind (end name) (first ∷ names) = names
 names_behind (leaf kind) names = names
 
--- an end needs an open element
+-- an event stands in open elements as it has to: an end needs one
 abbrev pub IsEnclosed : Event → List (List ℕ) → Type 0
 IsEnclosed (start tag) names = Unit {0}
 IsEnclosed (end name) names = 0 < length names
@@ -152,7 +152,7 @@ pub record TakesEvent (old new : Reading) : Type 0 where
   pub at : new.at ≡ old.at + 1
   pub left : old.source.left ≡ new.source.left + 1
 
--- the part has no further event
+-- a step stays at the end of the part, which has no further event
 pub record StaysAtEnd (old new : Reading) : Type 0 where
   pub has_current : new.source.has_current ≡ false
   pub names : new.names ≡ old.names
@@ -168,7 +168,7 @@ Steps false old new = StaysAtEnd old new
 pub record IsAtEnd (r : Reading) : Type 0 where
   pub rest : r.source.rest ≡ []
 
--- what a step does to what is ahead
+-- what a step does to the events ahead of a reader: it takes the first, or there is none
 abbrev pub StepsAhead : Bool → Reading → Reading → Type 0
 StepsAhead true old new = (ahead old ≡ new.source.current ∷ ahead new)
     × (new.source.past ≡ new.source.current ∷ old.source.past)
@@ -199,7 +199,7 @@ BreaksNext old new at why = (events_of new ≡ events_of old) × BreaksAt (event
 abbrev pub NextFails : Reading → Reading → StreamError → Type 0
 NextFails old new Io = HasCause old.source new.source
 NextFails old new (Xml (Break at why)) =
-    old.source.is_told ≡ true → BreaksNext old new at why × (ahead old ≡ [])
+    old.source.is_visible ≡ true → BreaksNext old new at why × (ahead old ≡ [])
 NextFails old new (Xml (Unclosed at)) = ⊥
 NextFails old new (Xml (Entity at)) = ⊥
 NextFails old new OutOfMemory = ⊤
@@ -220,7 +220,7 @@ pub record Skips (old new : Reading) : Type 0 where
 pub record PassesElement (old new : Reading) : Type 0 where
   pub reads : ReadsOn old new
   pub depth : length old.names ≡ suc (length new.names)
-  pub skips : old.source.is_told ≡ true → Skips old new
+  pub skips : old.source.is_visible ≡ true → Skips old new
 
 -- what a call keeps that reads an element to its end, by its answer
 abbrev pub ReadsElement : {A E : Type 0} → E → Result A E → Reading → Reading → Type 0
@@ -231,9 +231,9 @@ ReadsElement fault result old new =
 abbrev pub SkipFails : Reading → Reading → StreamError → Type 0
 SkipFails old new Io = HasCause old.source new.source
 SkipFails old new (Xml (Break at why)) =
-    old.source.is_told ≡ true → BreaksNext old new at why × (is_closed 0 (ahead old) ≡ false)
+    old.source.is_visible ≡ true → BreaksNext old new at why × (is_closed 0 (ahead old) ≡ false)
 SkipFails old new (Xml (Unclosed at)) =
-    old.source.is_told ≡ true →
+    old.source.is_visible ≡ true →
     (events_of new ≡ events_of old) × EndsOpen (events_of new) at
     × (is_closed 0 (ahead old) ≡ false)
 SkipFails old new (Xml (Entity at)) = ⊥

@@ -4,10 +4,11 @@ use Rattle.std.specs.Prelude.{ℕ, zero, suc, List, [], ◌∷◌, length, Bool,
 use Rattle.std.specs.Prelude.{Option, Some, None}
 use Rattle.std.specs.List.{list_any}
 use Rattle.std.specs.Str.{bytes_eq}
-use Rattle.attr_text.specs.Attributes.{local_name_of}
+use Rattle.attr_text.specs.Words.{local_name_of}
 use Rattle.part_events.specs.Event.{Tag, Event, start, end, leaf}
 
--- what stands before the end that closes the element, or all where none does
+-- the events before the end that closes an element, where so many more are open in it, or all where
+-- none closes it
 abbrev pub content : ℕ → List Event → List Event
 content inside [] = []
 content inside (start tag ∷ events) = start tag ∷ content (suc inside) events
@@ -15,7 +16,7 @@ content zero (end name ∷ events) = []
 content (suc inside) (end name ∷ events) = end name ∷ content inside events
 content inside (leaf kind ∷ events) = leaf kind ∷ content inside events
 
--- an end closes the element
+-- one of these events is the end that closes an element, where so many more are open in it
 abbrev pub is_closed : ℕ → List Event → Bool
 is_closed inside [] = false
 is_closed inside (start tag ∷ events) = is_closed (suc inside) events
@@ -23,7 +24,7 @@ is_closed zero (end name ∷ events) = true
 is_closed (suc inside) (end name ∷ events) = is_closed inside events
 is_closed inside (leaf kind ∷ events) = is_closed inside events
 
--- what stands behind that end
+-- the events behind the end that closes an element, where so many more are open in it
 abbrev pub behind : ℕ → List Event → List Event
 behind inside [] = []
 behind inside (start tag ∷ events) = behind (suc inside) events
@@ -35,7 +36,7 @@ behind inside (leaf kind ∷ events) = behind inside events
 abbrev pub is_named : List (List ℕ) → Tag → Bool
 is_named names tag = list_any (bytes_eq (local_name_of tag.name)) names
 
--- every start is wanted
+-- a start of any name, where every start is wanted
 abbrev pub is_any : Tag → Bool
 is_any tag = true
 

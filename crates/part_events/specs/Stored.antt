@@ -42,7 +42,7 @@ event_from bytes first (EntityRef last) = leaf (entity_ref (between bytes first 
 event_from bytes first (Flaw why last) = leaf (flaw why)
 event_from bytes first (Other last) = leaf other
 
--- both places lie between characters
+-- two places of a text, in this order, lie between characters
 pub record IsPiece (bytes : List ℕ) (first last : ℕ) : Type 0 where
   pub ordered : first ≤ last
   pub start_fits : IsCharBoundary bytes first
@@ -78,7 +78,7 @@ begin_at first zero events = first
 begin_at first (suc place) [] = first
 begin_at first (suc place) (own ∷ others) = begin_at (end_of own) place others
 
--- where they end
+-- where the texts of events end, of which those of the first begin at a place
 abbrev pub end_behind : ℕ → List StoredEvent → ℕ
 end_behind first [] = first
 end_behind first (own ∷ others) = end_behind (end_of own) others

@@ -21,11 +21,11 @@ abbrev pub wants : Wanted → Tag → Bool
 wants Any = is_any
 wants (Named names) = is_named (map (λ name. name.now) names.now)
 
--- how many elements are open inside the section
+-- how many elements are open inside the section that a reader is in
 abbrev pub inside : ℕ → Reading → ℕ
 inside base r = length r.names - base
 
--- what is ahead of the section
+-- the events of a section that are ahead of its reader
 abbrev pub section_ahead : ℕ → Reading → List Event
 section_ahead base r = content (inside base r) (ahead r)
 
@@ -33,7 +33,7 @@ section_ahead base r = content (inside base r) (ahead r)
 abbrev pub is_closed_ahead : ℕ → Reading → Bool
 is_closed_ahead base r = is_closed (inside base r) (ahead r)
 
--- what stands behind that end
+-- the events behind the end of the section that a reading is in
 abbrev pub behind_section : ℕ → Reading → List Event
 behind_section base r = behind (inside base r) (ahead r)
 
@@ -81,13 +81,13 @@ StepsInside base Ended old new = HasNoneInside base old new
 abbrev pub InsideFails : ℕ → Reading → Reading → StreamError → Type 0
 InsideFails base old new Io = HasCause old.source new.source
 InsideFails base old new (Xml (Break at why)) =
-    old.source.is_told ≡ true →
+    old.source.is_visible ≡ true →
     BreaksNext old new at why × (is_closed_ahead base old ≡ false) × (ahead old ≡ [])
 InsideFails base old new (Xml (Unclosed at)) = ⊥
 InsideFails base old new (Xml (Entity at)) = ⊥
 InsideFails base old new OutOfMemory = ⊤
 
--- where the walk stands after each answer
+-- where the reader stands after each answer of a walk over a section
 abbrev pub StandsAt : (Tag → Bool) → ℕ → Step → Reading → Reading → Type 0
 StandsAt wanted base Found old new =
     IsAtElement new × (base < length new.names)
@@ -95,7 +95,7 @@ StandsAt wanted base Found old new =
 StandsAt wanted base Closed old new = suc (length new.names) ≡ base
 StandsAt wanted base Ended old new = base ≤ length new.names
 
--- nothing was passed that is wanted: the same is left of the section
+-- nothing was passed that is wanted: the same is left of the section that a reading is in
 pub record SameAhead (wanted : Tag → Bool) (base : ℕ) (old new : Reading) : Type 0 where
   pub starts : starts_by wanted (section_ahead base old) ≡ starts_by wanted (section_ahead base new)
   pub elements : outermost wanted (section_ahead base old)
@@ -128,7 +128,7 @@ element_at base tag r = record {
   behind = length (section_ahead base r);
 }
 
--- what is left of the section behind it
+-- what is left of the section behind the element at whose start a reader stands
 abbrev pub section_behind : ℕ → Reading → List Event
 section_behind base r = content (inside base r - 1) (behind 0 (ahead r))
 
@@ -183,7 +183,7 @@ FindsElement wanted base Ended old new = EndsInSection wanted base old new
 abbrev pub WalkFails : (Tag → Bool) → ℕ → Reading → Reading → StreamError → Type 0
 WalkFails wanted base old new Io = HasCause old.source new.source
 WalkFails wanted base old new (Xml (Break at why)) =
-    old.source.is_told ≡ true →
+    old.source.is_visible ≡ true →
     BreaksNext old new at why × (is_closed_ahead base old ≡ false)
     × (behind_start wanted (ahead old) ≡ None)
 WalkFails wanted base old new (Xml (Unclosed at)) = ⊥

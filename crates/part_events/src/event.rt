@@ -1,5 +1,5 @@
 ghost use Rattle.std.specs.Prelude.{◌≡◌};
-ghost use Rattle.attr_text.specs.Attributes.{local_name_of};
+ghost use Rattle.attr_text.specs.Words.{local_name_of};
 
 use crate::flaw::Flaw;
 use attr_text::{RawAttributes, local_name};

@@ -87,7 +87,7 @@ impl Package for FailingPackage {
         ensures keeps { SameParts (planned_state self.old) (planned_state self.new) }
         ensures counts { IfOk result (λ found. OpenCounts found (planned_state self.old)
             (planned_state self.new)) }
-        ensures opens { (planned_state self.old).is_told ≡ true
+        ensures opens { (planned_state self.old).is_visible ≡ true
             → IfOk result (λ found. Opens name.now found (planned_state self.old)
             (planned_state self.new)) }
         ensures err { IfErr result (Refuses (planned_state self.old) (planned_state self.new)) }
@@ -101,7 +101,7 @@ impl Package for FailingPackage {
         ensures keeps { SameParts (planned_state self.old) (planned_state self.new) }
         ensures counts { IfOk result (λ more. AdvanceCounts more (planned_state self.old)
             (planned_state self.new)) }
-        ensures events { (planned_state self.old).is_told ≡ true
+        ensures events { (planned_state self.old).is_visible ≡ true
             → IfOk result (λ more. Advances more (planned_state self.old)
             (planned_state self.new)) }
         ensures err { IfErr result (Refuses (planned_state self.old) (planned_state self.new)) }

@@ -8,10 +8,10 @@
 //! (`XmlFault`, `BreakCause`, `StreamError`), `equality` (`==` and copies), `laws`.
 //!
 //! The trait `Package` has one ghost member, `state`: what the package is to its reader
-//! (`PackageState`). Whether a package tells its content to proofs is its own choice (`is_told`).
-//! Clauses on content have that as their premise; those on the counts, on the current event and on
-//! faults hold always. So a package over a file may keep its content to itself and still be read
-//! safely, and a package in memory tells all.
+//! (`PackageState`). Whether a package tells its content to proofs is its own choice
+//! (`is_visible`). Clauses on content have that as their premise; those on the counts, on the
+//! current event and on faults hold always. So a package over a file may keep its content to itself
+//! and still be read safely, and a package in memory tells all.
 //!
 //! A part in memory keeps the texts of its events in one text, and for each event where its texts
 //! lie in it, so that an event takes no allocation of its own.

@@ -161,7 +161,7 @@ impl Package for MemoryPackage {
         ensures keeps { SameParts (state_of self.old) (state_of self.new) }
         ensures counts { IfOk result (λ found. OpenCounts found (state_of self.old)
             (state_of self.new)) }
-        ensures opens { (state_of self.old).is_told ≡ true
+        ensures opens { (state_of self.old).is_visible ≡ true
             → IfOk result (λ found. Opens name.now found (state_of self.old)
             (state_of self.new)) }
         ensures never { IsOk result }
@@ -186,7 +186,7 @@ impl Package for MemoryPackage {
         ensures keeps { SameParts (state_of self.old) (state_of self.new) }
         ensures counts { IfOk result (λ more. AdvanceCounts more (state_of self.old)
             (state_of self.new)) }
-        ensures events { (state_of self.old).is_told ≡ true
+        ensures events { (state_of self.old).is_visible ≡ true
             → IfOk result (λ more. Advances more (state_of self.old) (state_of self.new)) }
         ensures never { IsOk result }
     {

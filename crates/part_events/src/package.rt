@@ -37,7 +37,7 @@ pub trait Package {
     fn open(&mut self, name: &str) -> Result<bool, PackageError>
         ensures keeps { SameParts (state self.old) (state self.new) }
         ensures counts { IfOk result (λ found. OpenCounts found (state self.old) (state self.new)) }
-        ensures opens { (state self.old).is_told ≡ true
+        ensures opens { (state self.old).is_visible ≡ true
             → IfOk result (λ found. Opens name.now found (state self.old) (state self.new)) }
         ensures err { IfErr result (Refuses (state self.old) (state self.new)) };
 
@@ -46,7 +46,7 @@ pub trait Package {
         ensures keeps { SameParts (state self.old) (state self.new) }
         ensures counts { IfOk result (λ more. AdvanceCounts more (state self.old)
             (state self.new)) }
-        ensures events { (state self.old).is_told ≡ true
+        ensures events { (state self.old).is_visible ≡ true
             → IfOk result (λ more. Advances more (state self.old) (state self.new)) }
         ensures err { IfErr result (Refuses (state self.old) (state self.new)) };
 
@@ -58,7 +58,8 @@ pub trait Package {
     /// How many events the open part still gives, at most.
     fn left(&self) -> u64
         ensures value { result ≡ (state self.now).left }
-        ensures bound { (state self.now).is_told ≡ true → length (state self.now).rest ≤ result };
+        ensures bound { (state self.now).is_visible ≡ true → length (state self.now).rest ≤
+            result };
 
     /// How many events were taken of any part. The count stops at its last value.
     fn taken(&self) -> u64

@@ -46,7 +46,7 @@ impl<P: Package> Package for QuietPackage<P> {
         ensures keeps { SameParts (P.state self.old) (P.state self.new) }
         ensures counts { IfOk result (λ found. OpenCounts found (P.state self.old)
             (P.state self.new)) }
-        ensures opens { (P.state self.old).is_told ≡ true
+        ensures opens { (P.state self.old).is_visible ≡ true
             → IfOk result (λ found. Opens name.now found (P.state self.old) (P.state self.new)) }
         ensures err { IfErr result (Refuses (P.state self.old) (P.state self.new)) }
     {
@@ -57,7 +57,7 @@ impl<P: Package> Package for QuietPackage<P> {
         ensures keeps { SameParts (P.state self.old) (P.state self.new) }
         ensures counts { IfOk result (λ more. AdvanceCounts more (P.state self.old)
             (P.state self.new)) }
-        ensures events { (P.state self.old).is_told ≡ true
+        ensures events { (P.state self.old).is_visible ≡ true
             → IfOk result (λ more. Advances more (P.state self.old) (P.state self.new)) }
         ensures err { IfErr result (Refuses (P.state self.old) (P.state self.new)) }
     {

@@ -101,7 +101,7 @@ impl<P: Package> XlReader<P> {
         ensures reader { IfOk result (λ found. OpensReader self.old.source self.new) }
         ensures counts { IfOk result
             (λ found. OpenCounts found self.old.source self.new.source) }
-        ensures opens { self.old.source.is_told ≡ true → IfOk result
+        ensures opens { self.old.source.is_visible ≡ true → IfOk result
             (λ found. Opens name.now found self.old.source self.new.source) }
         ensures keeps { SameParts self.old.source self.new.source }
         ensures leaves { OnErr result (LeavesClosed self.old.source self.new.source) }
@@ -128,7 +128,7 @@ impl<P: Package> XlReader<P> {
         requires { IsReading self.old }
         ensures reads { Reads Io result self.old self.new }
         ensures steps { IfOk result (λ more. Steps more self.old self.new) }
-        ensures ahead { self.old.source.is_told ≡ true →
+        ensures ahead { self.old.source.is_visible ≡ true →
             IfOk result (λ more. StepsAhead more self.old self.new) }
         ensures err { IfErr result (NextFails self.old self.new) }
     {

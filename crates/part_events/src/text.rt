@@ -4,8 +4,7 @@ ghost use Rattle.part_events.specs.declared.fault.StreamError.TheVariants.{Io};
 ghost use Rattle.part_events.specs.Event.{event_of};
 ghost use Rattle.part_events.specs.JoinedText.{text_error, event_text, is_unknown, EventFails};
 ghost use Rattle.part_events.specs.JoinedText.{IsFrontOf, PutsFront, ReadsText, TextFails};
-ghost use Rattle.part_events.specs.Reading.{IsReading};
-ghost use Rattle.part_events.specs.Reading.{IsAtElement, Reads, ahead};
+ghost use Rattle.part_events.specs.Reading.{IsReading, IsAtElement, Reads, ahead};
 ghost use Rattle.part_events.specs.Section.{content};
 
 use crate::event::PartEvent;
@@ -66,12 +65,12 @@ impl<P: Package> XlReader<P> {
         ensures depth { let before = length self.old.names in
             IfOk result (λ closed. closed ≡ true → before ≡ suc (length self.new.names)) }
         ensures text { let texts : List ℕ × List ℕ = (string_bytes out.old, string_bytes out.new) in
-            self.old.source.is_told ≡ true → IfOk result
+            self.old.source.is_visible ≡ true → IfOk result
             (λ closed. ReadsText char_data closed texts self.old self.new) }
         ensures kept { IsFrontOf (string_bytes out.old) (string_bytes out.new) }
         ensures front { let texts : List ℕ × List ℕ =
             (string_bytes out.old, string_bytes out.new) in
-            self.old.source.is_told ≡ true → OnErr result (PutsFront char_data (content 0
+            self.old.source.is_visible ≡ true → OnErr result (PutsFront char_data (content 0
             (ahead self.old)) texts) }
         ensures err { IfErr result (TextFails self.old self.new) }
     {

@@ -3,8 +3,7 @@ ghost use Rattle.std.specs.List.{list_any};
 ghost use Rattle.std.specs.Str.{bytes_eq};
 ghost use Rattle.part_events.specs.declared.fault.StreamError.TheVariants.{Io};
 ghost use Rattle.part_events.specs.Event.{tag_of};
-ghost use Rattle.part_events.specs.Reading.{IsReading, IsAtElement, Reads};
-ghost use Rattle.part_events.specs.Reading.{Skips, SkipFails};
+ghost use Rattle.part_events.specs.Reading.{IsReading, IsAtElement, Reads, Skips, SkipFails};
 ghost use Rattle.part_events.specs.Section.{is_named, is_any};
 ghost use Rattle.part_events.specs.Walk.{wants, StandsInside, StepsInside, InsideFails, StandsAt};
 ghost use Rattle.part_events.specs.Walk.{FindsStart, FindsElement, WalkFails};
@@ -66,7 +65,7 @@ impl<P: Package> XlReader<P> {
         requires within { base ≤ length self.old.names }
         ensures reads { Reads Io result self.old self.new }
         ensures stands { IfOk result (λ step. StandsInside base step self.old self.new) }
-        ensures inside { self.old.source.is_told ≡ true →
+        ensures inside { self.old.source.is_visible ≡ true →
             IfOk result (λ step. StepsInside base step self.old self.new) }
         ensures err { IfErr result (InsideFails base self.old self.new) }
     {
@@ -87,9 +86,9 @@ impl<P: Package> XlReader<P> {
         ensures reads { Reads Io result self.old self.new }
         ensures stands { IfOk result
             (λ step. StandsAt (wants wanted.entry) base step self.old self.new) }
-        ensures starts { self.old.source.is_told ≡ true →
+        ensures starts { self.old.source.is_visible ≡ true →
             IfOk result (λ step. FindsStart (wants wanted.entry) base step self.old self.new) }
-        ensures elements { self.old.source.is_told ≡ true →
+        ensures elements { self.old.source.is_visible ≡ true →
             IfOk result (λ step. FindsElement (wants wanted.entry) base step self.old self.new) }
         ensures err { IfErr result (WalkFails (wants wanted.entry) base self.old self.new) }
     {
@@ -120,7 +119,7 @@ impl<P: Package> XlReader<P> {
         ensures stands { let wanted = is_named (map (λ name. name.now) names.now) in
             IfOk result (λ step. StandsAt wanted base step self.old self.new) }
         ensures found { let wanted = is_named (map (λ name. name.now) names.now) in
-            self.old.source.is_told ≡ true →
+            self.old.source.is_visible ≡ true →
             IfOk result (λ step. FindsStart wanted base step self.old self.new) }
         ensures err { let wanted = is_named (map (λ name. name.now) names.now) in
             IfErr result (WalkFails wanted base self.old self.new) }
@@ -141,7 +140,7 @@ impl<P: Package> XlReader<P> {
         ensures stands { let wanted = is_named (map (λ name. name.now) names.now) in
             IfOk result (λ step. StandsAt wanted base step self.old self.new) }
         ensures found { let wanted = is_named (map (λ name. name.now) names.now) in
-            self.old.source.is_told ≡ true → IfOk result
+            self.old.source.is_visible ≡ true → IfOk result
             (λ step. FindsElement wanted base step self.old self.new) }
         ensures err { let wanted = is_named (map (λ name. name.now) names.now) in
             IfErr result (WalkFails wanted base self.old self.new) }
@@ -159,7 +158,7 @@ impl<P: Package> XlReader<P> {
         requires within { base ≤ length self.old.names }
         ensures reads { Reads Io result self.old self.new }
         ensures stands { IfOk result (λ step. StandsAt is_any base step self.old self.new) }
-        ensures found { self.old.source.is_told ≡ true → IfOk result
+        ensures found { self.old.source.is_visible ≡ true → IfOk result
             (λ step. FindsElement is_any base step self.old self.new) }
         ensures err { IfErr result (WalkFails is_any base self.old self.new) }
     {
@@ -175,7 +174,7 @@ impl<P: Package> XlReader<P> {
         ensures reads { Reads Io result self.old self.new }
         ensures depth { OnOk result (length self.old.names
             ≡ suc (length self.new.names)) }
-        ensures skips { self.old.source.is_told ≡ true → OnOk result (Skips self.old self.new) }
+        ensures skips { self.old.source.is_visible ≡ true → OnOk result (Skips self.old self.new) }
         ensures err { IfErr result (SkipFails self.old self.new) }
     {
         let depth = self.depth();

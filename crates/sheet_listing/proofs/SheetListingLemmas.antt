@@ -1,7 +1,6 @@
 -- A step through three lists of cells takes the first line of their listing.
-use Rattle.std.proofs.Common.{◌≡◌, ℕ, ◌+◌, ◌<◌, true, ◌||◌}
-use Rattle.std.proofs.Common.{List, [], ◌∷◌, ◌++◌, length, Some, None, Option, refl, sym, ap, ◌∙◌}
-use Rattle.std.proofs.Common.{subst, arith, append_assoc, string_bytes}
+use Rattle.std.proofs.Common.{◌≡◌, ℕ, ◌+◌, ◌<◌, true, ◌||◌, List, [], ◌∷◌, ◌++◌, length, Some, None}
+use Rattle.std.proofs.Common.{Option, refl, sym, ap, ◌∙◌, subst, arith, append_assoc, string_bytes}
 use mathlib.Core.Path.{fun_ext}
 use Rattle.std.specs.Prelude.{map, is_some, String, MatchOption, ◌⊎◌}
 use Rattle.std.proofs.Common.{inl, inr}
@@ -14,46 +13,43 @@ use Rattle.std.specs.Ordering.{is_lt}
 use Rattle.std.proofs.lemmas.List.{append-nil}
 use Rattle.cell_refs.specs.declared.TheConstants.{MAX_ROWS, MAX_COLUMNS}
 use Rattle.std.proofs.lemmas.List.Elements.{All-map}
-use Rattle.cell_data.specs.Cells.{IsPlacedInSheet}
+use Rattle.cell_data.specs.Words.{IsPlacedInSheet, AreInOrder, given, Splits, positions_alone}
+use Rattle.cell_data.specs.Words.{StandsUpTo, IsEarlier, CellValue, nothing, value_of_data}
 use Rattle.cell_refs.proofs.PositionOrder.{and_both}
 use Rattle.sorted_cells.proofs.Orders.{after_sorted}
-use Rattle.sorted_cells.specs.Last.{last_key, comes_after}
-use Rattle.sorted_cells.specs.Placed.{first_position, left_behind}
+use Rattle.sorted_cells.specs.Words.{last_key, comes_after, first_position, left_behind}
 use Rattle.cell_data.proofs.Splitting.{past, at_first}
 use Rattle.cell_data.proofs.Stepping.{Adds, used_given, used_both, first_entries, no_positions}
 use Rattle.cell_data.proofs.Stepping.{below_entries, below_used, below_both, stands_before}
-use Rattle.cell_data.proofs.Stepping.{stands_first, no_cell, first_is, first_in_sheet}
-use Rattle.cell_data.proofs.Stepping.{no_longer, first_shorter}
-use Rattle.cell_data.proofs.Stepping.{meant_given, meant_below, meant_found}
-use Rattle.cell_data.specs.Splitting.{AreInOrder, given, Splits}
-use Rattle.cell_data.specs.Stepping.{used, StandsUpTo, IsEarlier}
-use Rattle.cell_data.specs.CellValue.{CellValue, nothing, value_of_data}
-use Rattle.cell_refs.specs.Positions.{position_cmp, is_rising}
+use Rattle.cell_data.proofs.Stepping.{stands_first, no_cell, first_is, first_in_sheet, no_longer}
+use Rattle.cell_data.proofs.Stepping.{first_shorter, meant_given, meant_below, meant_found}
+use Rattle.cell_refs.specs.Words.{position_cmp, is_rising}
 use Rattle.cell_data.specs.declared.value.Data.{Data}
-use Rattle.cell_styles.specs.StyleItems.{styled_entry, style_named, RiseOnSheet}
-use Rattle.cell_styles.specs.StyleMap.{StyledCell, StyleMap, style_at}
+use Rattle.cell_styles.specs.Words.{styled_entry, style_named, RiseOnSheet, StyledCell, StyleMap}
+use Rattle.cell_styles.specs.Words.{style_at}
 use Rattle.cell_styles.specs.declared.style.Style.{Style}
 use Rattle.list_lines.specs.declared.content.LineForm.{LineForm}
 use Rattle.list_lines.specs.declared.content.LineForm.TheVariants.{Text, Json}
 use Rattle.sheet_listing.specs.CellObjects.{line_in, lines_in}
-use Rattle.sheet_listing.specs.SheetListing.{value_placed, formula_placed, id_placed}
-use Rattle.sheet_listing.specs.SheetListing.{lines_with, cell_values, cell_formulas}
-use Rattle.sheet_listing.specs.SheetListing.{value_given, formula_given, id_given}
-use Rattle.sheet_listing.specs.SheetListing.{IsFirstOf, used_positions}
+use Rattle.sheet_listing.specs.SheetListing.{value_placed, formula_placed, id_placed, lines_with}
+use Rattle.sheet_listing.specs.SheetListing.{cell_values, cell_formulas, value_given, formula_given}
+use Rattle.sheet_listing.specs.SheetListing.{id_given, IsFirstOf, used_positions}
 
 module _ {X Y Z : Type 0} where
   -- the positions of three lists
   abbrev places : List ((ℕ × ℕ) × X) → List ((ℕ × ℕ) × Y) → List ((ℕ × ℕ) × Z) →
       List ((ℕ × ℕ) × Unit {0})
-  places vs fs ds = used vs ++ (used fs ++ used ds)
+  places vs fs ds = positions_alone vs ++ (positions_alone fs ++ positions_alone ds)
 
   below_places : (p : ℕ × ℕ)
       (vs : List ((ℕ × ℕ) × X)) (fs : List ((ℕ × ℕ) × Y)) (ds : List ((ℕ × ℕ) × Z)) →
       below_all position_cmp p vs ≡ true → below_all position_cmp p fs ≡ true →
       below_all position_cmp p ds ≡ true → below_all position_cmp p (places vs fs ds) ≡ true
   below_places p vs fs ds in_vs in_fs in_ds =
-      below_both p (used vs) (used fs ++ used ds) (below_used p vs in_vs)
-      (below_both p (used fs) (used ds) (below_used p fs in_fs) (below_used p ds in_ds))
+      below_both p (positions_alone vs) (positions_alone fs ++ positions_alone ds)
+      (below_used p vs in_vs)
+      (below_both p (positions_alone fs) (positions_alone ds) (below_used p fs in_fs)
+      (below_used p ds in_ds))
 
   -- a position of the first cell of some of them
   adds_places : (p : ℕ × ℕ) (v : Option X) (f : Option Y) (d : Option Z)
@@ -62,11 +58,13 @@ module _ {X Y Z : Type 0} where
       (places (given p v ++ vs) (given p f ++ fs) (given p d ++ ds)) (places vs fs ds)
   adds_places p v f d vs fs ds =
       used_both p (is_some v) (is_some f || is_some d)
-      (used (given p v ++ vs)) (used vs)
-      (used (given p f ++ fs) ++ used (given p d ++ ds)) (used fs ++ used ds)
+      (positions_alone (given p v ++ vs)) (positions_alone vs)
+      (positions_alone (given p f ++ fs) ++ positions_alone (given p d ++ ds)) (positions_alone fs
+      ++ positions_alone ds)
       (used_given p v vs)
-      (used_both p (is_some f) (is_some d) (used (given p f ++ fs)) (used fs)
-      (used (given p d ++ ds)) (used ds) (used_given p f fs) (used_given p d ds))
+      (used_both p (is_some f) (is_some d) (positions_alone (given p f ++ fs)) (positions_alone fs)
+      (positions_alone (given p d ++ ds)) (positions_alone ds) (used_given p f fs)
+      (used_given p d ds))
 
 -- a position that has nothing has no line
 no_line : (form : LineForm) (p : ℕ × ℕ) (own : Option Style) → line_in form p nothing [] 0 own ≡ []
@@ -191,7 +189,8 @@ pub lines_on : (form : LineForm) (style : ℕ × ℕ → ℕ → Option Style) (
     new ≡ old ++ line_in form p (value_given v) (formula_given f) (id_given d) found →
     old ++ lines_left form style values formulas ids ≡ whole →
     new ++ lines_left form style vs fs ds ≡ whole
-lines_on form style p v f d found values vs formulas fs ids ds old new whole splits_v splits_f splits_d
+lines_on form style p v f d found values vs formulas fs ids ds old new whole splits_v splits_f
+    splits_d
     is printed same =
     let line : Option Style → List ℕ =
     λ found. line_in form p (value_given v) (formula_given f) (id_given d) found in

@@ -1,24 +1,21 @@
 -- The lines that `cells --json` prints: an object of JSON for each position that has a value, a
 -- formula or a style id above 0, row by row.
-use Rattle.std.specs.Prelude.{ℕ, Bool, true, false, ◌||◌, List, [], ◌∷◌, codes, ℤ}
-use Rattle.std.specs.Prelude.{Option, Some, None, is_some, if◌then◌else◌, nat_lt, option_and_then}
+use Rattle.std.specs.Prelude.{ℕ, Bool, true, false, ◌||◌, List, [], ◌∷◌, codes, ℤ, Option, Some}
+use Rattle.std.specs.Prelude.{None, is_some, if◌then◌else◌, nat_lt, option_and_then}
 use Rattle.std.specs.Fmt.{signed_decimal}
 use Rattle.std.specs.List.{flat_map}
 use Rattle.std.specs.Option.{option_map}
-use Rattle.cell_data.specs.CellError.{cell_error_text}
-use Rattle.cell_data.specs.CellValue.{CellValue, nothing, integer, number, text, shared_text, truth}
-use Rattle.cell_data.specs.CellValue.{time, iso_time, failure}
+use Rattle.cell_data.specs.Words.{cell_error_text, CellValue, nothing, integer, number, text}
+use Rattle.cell_data.specs.Words.{shared_text, truth, time, iso_time, failure}
 use Rattle.cell_data.specs.declared.value.ExcelDateTimeType.{ExcelDateTimeType}
 use Rattle.cell_data.specs.declared.value.ExcelDateTimeType.TheVariants.{DateTime, TimeDelta}
-use Rattle.cell_refs.specs.Reference.{reference}
-use Rattle.cell_styles.specs.Color.{color_text}
-use Rattle.cell_styles.specs.StyleMap.{StyleMap, style_at}
+use Rattle.cell_refs.specs.Words.{reference}
+use Rattle.cell_styles.specs.Words.{color_text, StyleMap, style_at}
 use Rattle.cell_styles.specs.declared.style.Style.{Style}
-use Rattle.decimals.specs.Decimals.{printed}
-use Rattle.excel_dates.specs.IsoText.{iso_text}
-use Rattle.excel_dates.specs.Moments.{moment_of, is_told}
-use Rattle.json.specs.Json.{Json, boolean, number as number_of, string, object, Members}
-use Rattle.json.specs.Json.{no_members, member}
+use Rattle.decimals.specs.Words.{printed}
+use Rattle.excel_dates.specs.Words.{iso_text, moment_of, has_moment}
+use Rattle.json.specs.Json.{Json, boolean, number as number_of, string, object, Members, no_members}
+use Rattle.json.specs.Json.{member}
 use Rattle.json_lines.specs.JsonLines.{json_line, optional_member}
 use Rattle.list_lines.specs.declared.content.LineForm.{LineForm}
 use Rattle.list_lines.specs.declared.content.LineForm.TheVariants.{Text, Json as AsJson}
@@ -45,21 +42,21 @@ type_word (iso_time bytes) = codes "date"
 type_word (failure error) = codes "error"
 
 -- a value, by its exact digits where it is a number
-abbrev pub value_json : CellValue → Option Json
-value_json nothing = None
-value_json (integer n) = Some (number_of (signed_decimal n))
-value_json (number decimal) = Some (number_of (printed decimal))
-value_json (text bytes) = Some (string bytes)
-value_json (shared_text place) = None
-value_json (truth holds) = Some (boolean holds)
-value_json (time days kind is_1904) = Some (number_of (printed days))
-value_json (iso_time bytes) = Some (string bytes)
-value_json (failure error) = Some (string (cell_error_text error))
+abbrev pub cell_value_json : CellValue → Option Json
+cell_value_json nothing = None
+cell_value_json (integer n) = Some (number_of (signed_decimal n))
+cell_value_json (number decimal) = Some (number_of (printed decimal))
+cell_value_json (text bytes) = Some (string bytes)
+cell_value_json (shared_text place) = None
+cell_value_json (truth holds) = Some (boolean holds)
+cell_value_json (time days kind is_1904) = Some (number_of (printed days))
+cell_value_json (iso_time bytes) = Some (string bytes)
+cell_value_json (failure error) = Some (string (cell_error_text error))
 
 -- the text of so many days, where they stand for a date, a time of day or a time that has passed
 abbrev pub days_json : ℤ × ℤ → ExcelDateTimeType → Bool → Option Json
 days_json days kind is_1904 =
-    if is_told (moment_of days kind is_1904) then Some (string (iso_text days kind is_1904))
+    if has_moment (moment_of days kind is_1904) then Some (string (iso_text days kind is_1904))
     else None
 
 -- the text of a date or of a time that has passed
@@ -68,7 +65,7 @@ date_json (time days kind is_1904) = days_json days kind is_1904
 date_json (iso_time bytes) = Some (string bytes)
 date_json _ = None
 
--- an empty text is no formula
+-- the formula of a cell as JSON; an empty text is no formula
 abbrev pub formula_json : List ℕ → Option Json
 formula_json [] = None
 formula_json (byte ∷ bytes) = Some (string (byte ∷ bytes))
@@ -81,7 +78,7 @@ fill_json style =
 -- the members of a value and of its date, in front of others
 abbrev pub value_members : CellValue → Members → Members
 value_members value members =
-    optional_member (codes "value") (value_json value)
+    optional_member (codes "value") (cell_value_json value)
     (optional_member (codes "date") (date_json value) members)
 
 -- the members of a formula and of a fill

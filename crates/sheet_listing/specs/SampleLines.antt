@@ -1,13 +1,12 @@
 -- The lines of a sample: how much its sheet has, and the formula of its last row.
 use Rattle.std.specs.Prelude.{ℕ, ◌-◌, List, ◌++◌, codes, length}
 use Rattle.std.specs.Fmt.{decimal}
-use Rattle.cell_data.specs.CellValue.{CellValue}
-use Rattle.cell_styles.specs.Groups.{group_count}
-use Rattle.cell_styles.specs.StyleMap.{StyleMap}
+use Rattle.cell_data.specs.Words.{CellValue}
+use Rattle.cell_styles.specs.Words.{group_count, StyleMap}
 use Rattle.escaped_text.specs.Escaped.{escaped}
 use Rattle.sheet_listing.specs.SheetListing.{formula_placed, placed_ids}
 
--- how many there are of what a word names
+-- the line of a number of things that a word names
 abbrev pub count_line : List ℕ → ℕ → List ℕ
 count_line word count = word ++ (codes " " ++ (decimal count ++ codes "\n"))
 

@@ -1,29 +1,24 @@
 -- The lines that `cells` prints of the values, the formulas and the fills of a sheet: one for each
 -- position that has a value, a formula or a style id above 0, row by row.
-use Rattle.std.specs.Prelude.{◌≡◌, ℕ, ◌<◌, Bool, true, false, ◌||◌, ◌++◌, codes, map}
-use Rattle.std.specs.Prelude.{if◌then◌else◌, List, [], ◌∷◌, Option, Some, None, is_some}
-use Rattle.std.specs.Prelude.{String, string_bytes, ◌⊎◌, nat_lt, option_and_then}
+use Rattle.std.specs.Prelude.{◌≡◌, ℕ, ◌<◌, Bool, true, false, ◌||◌, ◌++◌, codes, map, if◌then◌else◌}
+use Rattle.std.specs.Prelude.{List, [], ◌∷◌, Option, Some, None, is_some, String, string_bytes, ◌⊎◌}
+use Rattle.std.specs.Prelude.{nat_lt, option_and_then}
 use Rattle.std.specs.FinMap.{find}
 use Rattle.std.specs.Fmt.{signed_decimal}
 use Rattle.std.specs.List.{flat_map}
 use Rattle.std.specs.Option.{option_map, unwrap_or}
 use Rattle.std.specs.declared.alloc.Global.{Global}
-use Rattle.cell_refs.specs.Reference.{reference}
+use Rattle.cell_refs.specs.Words.{reference, position_cmp}
 use Rattle.cell_refs.specs.declared.TheConstants.{MAX_ROWS, MAX_COLUMNS}
-use Rattle.cell_data.specs.CellError.{cell_error_text}
-use Rattle.cell_data.specs.CellValue.{CellValue, nothing, integer, number, text, shared_text, truth}
-use Rattle.cell_data.specs.CellValue.{time, iso_time, failure, value_of_data}
-use Rattle.cell_data.specs.Splitting.{none_earlier}
-use Rattle.cell_data.specs.Stepping.{IsOfFirst, used, positions_of}
-use Rattle.decimals.specs.Decimals.{printed}
-use Rattle.cell_refs.specs.Positions.{position_cmp}
+use Rattle.cell_data.specs.Words.{cell_error_text, CellValue, nothing, integer, number, text}
+use Rattle.cell_data.specs.Words.{shared_text, truth, time, iso_time, failure, value_of_data}
+use Rattle.cell_data.specs.Words.{none_earlier, IsOfFirst, positions_alone, positions_of}
+use Rattle.decimals.specs.Words.{printed}
 use Rattle.cell_data.specs.declared.value.Data.{Data}
 use Rattle.cell_data.specs.declared.value.ExcelDateTimeType.{ExcelDateTimeType}
 use Rattle.cell_data.specs.declared.value.ExcelDateTimeType.TheVariants.{DateTime, TimeDelta}
-use Rattle.cell_styles.specs.Color.{color_text}
-use Rattle.cell_styles.specs.Fill.{fill_color}
-use Rattle.cell_styles.specs.StyleItems.{styled_entry, styled_of}
-use Rattle.cell_styles.specs.StyleMap.{StyledCell, StyleMap, style_at}
+use Rattle.cell_styles.specs.Words.{color_text, fill_color, styled_entry, styled_of, StyledCell}
+use Rattle.cell_styles.specs.Words.{StyleMap, style_at}
 use Rattle.cell_styles.specs.declared.color.Color.{Color}
 use Rattle.cell_styles.specs.declared.fill.FillPattern.{FillPattern}
 use Rattle.cell_styles.specs.declared.fill.FillPattern.TheVariants as pattern
@@ -31,7 +26,7 @@ use Rattle.cell_styles.specs.declared.style.Style.{Style}
 use Rattle.escaped_text.specs.Escaped.{escaped}
 use Rattle.sheet_listing.specs.declared.styled_left.StyledLeft.{StyledLeft}
 
--- the field of a truth value
+-- the field of a boolean
 abbrev pub truth_text : Bool → List ℕ
 truth_text true = codes "b:true"
 truth_text false = codes "b:false"
@@ -60,16 +55,16 @@ value_field (time days kind is_1904) =
 value_field (iso_time bytes) = Some (codes "i:" ++ escaped bytes)
 value_field (failure error) = Some (codes "e:" ++ cell_error_text error)
 
--- an empty text is no formula
+-- the field of a formula; an empty text is no formula
 abbrev pub formula_field : List ℕ → Option (List ℕ)
 formula_field [] = None
 formula_field (byte ∷ bytes) = Some (codes "=" ++ escaped (byte ∷ bytes))
 
--- `-` where there is nothing
+-- the field of a text; `-` where there is nothing
 abbrev pub field : Option (List ℕ) → List ℕ
 field content = unwrap_or content (codes "-")
 
--- a fill without a pattern shows no color
+-- the color that a fill shows; one without a pattern shows none
 abbrev pub shown_color : FillPattern → Option Color → Option Color
 shown_color pattern.None color = None
 shown_color _ color = color
@@ -83,8 +78,8 @@ abbrev pub fill_field : Option Style → Option (List ℕ)
 fill_field style = option_map color_text (option_and_then fill_shown style)
 
 -- the fields of a position, with tabs between them
-abbrev pub line : ℕ × ℕ → Option (List ℕ) → Option (List ℕ) → Option (List ℕ) → List ℕ
-line position value formula fill =
+abbrev pub position_fields : ℕ × ℕ → Option (List ℕ) → Option (List ℕ) → Option (List ℕ) → List ℕ
+position_fields position value formula fill =
     reference position
     ++ (codes "\t" ++ (field value ++ (codes "\t"
     ++ (field formula ++ (codes "\t" ++ (field fill ++ codes "\n"))))))
@@ -115,7 +110,7 @@ row_line (value ∷ values) = field (value_field value) ++ (further_fields value
 abbrev pub line_of : ℕ × ℕ → CellValue → List ℕ → ℕ → Option (List ℕ) → List ℕ
 line_of position value formula id fill =
     if is_some (value_field value) || (is_some (formula_field formula) || nat_lt 0 id)
-    then line position (value_field value) (formula_field formula) fill else []
+    then position_fields position (value_field value) (formula_field formula) fill else []
 
 -- the value at a position, or nothing
 abbrev pub value_placed : ℕ × ℕ → List ((ℕ × ℕ) × CellValue) → CellValue
@@ -133,7 +128,8 @@ id_placed position ids = unwrap_or (find position_cmp position ids) 0
 abbrev pub used_positions :
     {X Y Z : Type 0} → List ((ℕ × ℕ) × X) → List ((ℕ × ℕ) × Y) → List ((ℕ × ℕ) × Z)
     → List (ℕ × ℕ)
-used_positions values formulas ids = positions_of (used values ++ (used formulas ++ used ids))
+used_positions values formulas ids = positions_of (positions_alone values
+    ++ (positions_alone formulas ++ positions_alone ids))
 
 -- the lines of values, formulas and style ids, where this is the style of each position with its id
 unfoldable pub lines_with :

@@ -1,6 +1,6 @@
 ghost use Rattle.std.specs.Prelude.{◌≡◌, option_and_then};
 ghost use Rattle.std.specs.Option.{option_copied};
-ghost use Rattle.cell_styles.specs.Fill.{fill_color};
+ghost use Rattle.cell_styles.specs.Words.{fill_color};
 ghost use Rattle.sheet_listing.specs.SheetListing.{shown_color, fill_shown};
 
 use cell_styles::{Color, Fill, Style};

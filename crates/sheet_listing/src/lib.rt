@@ -3,8 +3,8 @@
 //! Rooms: `lines` (one for each position that has a value, a formula or a style, in either form),
 //! `objects` (the object of JSON of a position), `fill` (the color that a style shows),
 //! `styled_left` (the styled positions that lie ahead of them) and `sample_lines` (how many there
-//! are of each, and one formula). It knows a sheet as two ranges and a `StyleRange`, and not where they were
-//! read from.
+//! are of each, and one formula). It knows a sheet as two ranges and a `StyleRange`, and not where
+//! they were read from.
 //!
 //! **The lines go along three lists at once**: the values, the formulas and the runs of style ids.
 //! The earliest of the three next positions has the next line (`first_position`), and each list

@@ -2,26 +2,19 @@ ghost use Rattle.std.specs.Prelude.{◌≡◌, ◌<◌, ◌++◌, ◌||◌, [], 
 ghost use Rattle.std.specs.Prelude.{codes, string_bytes, nat_lt, None, OnErr, map};
 ghost use Rattle.std.specs.Fmt.{signed_decimal};
 ghost use Rattle.std.specs.Option.{option_copied};
-ghost use Rattle.cell_data.specs.CellValue.{value_of_data, time_value};
-ghost use Rattle.cell_data.specs.Cells.{IsPlacedInSheet};
-ghost use Rattle.cell_data.specs.Range.{cells_of};
-ghost use Rattle.cell_data.specs.Splitting.{AreInOrder};
-ghost use Rattle.cell_refs.specs.Reference.{reference};
-ghost use Rattle.cell_styles.specs.StyleItems.{style_named};
-ghost use Rattle.cell_styles.specs.StyleMap.{style_at};
+ghost use Rattle.cell_data.specs.Words.{value_of_data, time_value, IsPlacedInSheet, cells_of};
+ghost use Rattle.cell_data.specs.Words.{AreInOrder};
+ghost use Rattle.cell_refs.specs.Words.{reference};
+ghost use Rattle.cell_styles.specs.Words.{style_named, style_at};
 ghost use Rattle.escaped_text.specs.Escaped.{escaped};
-ghost use Rattle.sorted_cells.specs.Placed.{placed_left};
+ghost use Rattle.sorted_cells.specs.Words.{placed_left};
 ghost use Rattle.sheet_listing.specs.CellObjects.{line_in, lines_in, object_listing};
 ghost use Rattle.sheet_listing.specs.SheetListing.{kind_text, calendar_text, value_field};
-ghost use Rattle.sheet_listing.specs.SheetListing.{formula_field};
-ghost use Rattle.sheet_listing.specs.SheetListing.{field, line, listing};
-ghost use Rattle.sheet_listing.specs.SheetListing.{cell_values, cell_formulas};
-ghost use Rattle.sheet_listing.specs.SheetListing.{value_given, formula_given};
-ghost use Rattle.sheet_listing.specs.SheetListing.{IsFirstOf};
-ghost use Rattle.sheet_listing.specs.SheetListing.{fill_field, id_given};
-ghost use Rattle.sheet_listing.specs.SheetListing.{ids_left, placed_ids};
-ghost use Rattle.sheet_listing.specs.SheetListing.{value_line, value_lines, row_line};
-ghost use Rattle.sheet_listing.specs.SheetListing.{further_fields};
+ghost use Rattle.sheet_listing.specs.SheetListing.{formula_field, field, position_fields, listing};
+ghost use Rattle.sheet_listing.specs.SheetListing.{cell_values, cell_formulas, value_given};
+ghost use Rattle.sheet_listing.specs.SheetListing.{formula_given, IsFirstOf, fill_field, id_given};
+ghost use Rattle.sheet_listing.specs.SheetListing.{ids_left, placed_ids, value_line, value_lines};
+ghost use Rattle.sheet_listing.specs.SheetListing.{row_line, further_fields};
 
 use crate::fill::fill_shown;
 use crate::objects::{LineScratch, push_object};
@@ -268,7 +261,8 @@ fn push_fields(
 ) -> Result<(), AllocError>
     requires in_rows { position.0 < MAX_ROWS }
     requires in_columns { position.1 < MAX_COLUMNS }
-    ensures { let printed = line position (value_field (value_given (option_copied value.entry)))
+    ensures { let printed =
+        position_fields position (value_field (value_given (option_copied value.entry)))
         (formula_field (formula_given (option_copied formula.entry)))
         (fill_field (option_copied style.entry)) in
         OnOk result (string_bytes out.new ≡ string_bytes out.old ++ printed) }
@@ -280,8 +274,8 @@ fn push_fields(
     out.push_str("\n")
 }
 
-/// Appends the line of a position, counted from 0, in its form, where it has a value, a formula or a
-/// style id above 0.
+/// Appends the line of a position, counted from 0, in its form, where it has a value, a formula or
+/// a style id above 0.
 fn push_line(
     out: &mut String,
     form: LineForm,

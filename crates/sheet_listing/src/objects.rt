@@ -1,8 +1,9 @@
 //! The line of a cell as an object of JSON.
 ghost use Rattle.std.specs.Prelude.{◌≡◌, ◌++◌, ◌<◌, ◌∷◌, [], string_bytes, option_and_then, OnOk};
+ghost use Rattle.std.specs.Prelude.{codes};
 ghost use Rattle.std.specs.Option.{option_copied};
-ghost use Rattle.cell_data.specs.CellValue.{value_of_data, time_value};
-ghost use Rattle.decimals.specs.Decimal.{number_of};
+ghost use Rattle.cell_data.specs.Words.{value_of_data, time_value};
+ghost use Rattle.decimals.specs.Words.{number_of};
 ghost use Rattle.json.specs.Json.{Members};
 ghost use Rattle.json.specs.Tree.{members_tokens, json_tokens};
 ghost use Rattle.json_lines.specs.JsonLines.{json_line, optional_member};
@@ -10,7 +11,6 @@ ghost use Rattle.sheet_listing.specs.CellObjects.{kind_word, type_word, value_me
 ghost use Rattle.sheet_listing.specs.CellObjects.{other_members, formula_json, fill_json};
 ghost use Rattle.sheet_listing.specs.CellObjects.{cell_object};
 ghost use Rattle.sheet_listing.specs.SheetListing.{value_given, formula_given};
-ghost use Rattle.std.specs.Prelude.{codes};
 
 use crate::fill::fill_shown;
 use cell_data::{Data, ExcelDateTime, ExcelDateTimeType};
@@ -76,7 +76,7 @@ fn write_date(
         (optional_member (codes "date") (date_json (time_value time.now)) members)) }
     ensures before { writer.new.before ≡ writer.old.before }
 {
-    if !time.is_told() {
+    if !time.has_moment() {
         return Ok(());
     }
     scratch.clear();

@@ -1,6 +1,6 @@
 ghost use Rattle.std.specs.Prelude.{◌≡◌, ◌++◌, IfOk, OnOk, string_bytes};
-ghost use Rattle.cell_data.specs.Range.{cells_of};
-ghost use Rattle.sorted_cells.specs.Kept.{kept_cells};
+ghost use Rattle.cell_data.specs.Words.{cells_of};
+ghost use Rattle.sorted_cells.specs.Words.{kept_cells};
 ghost use Rattle.sheet_listing.specs.SampleLines.{count_line, last_line, sample_lines};
 ghost use Rattle.sheet_listing.specs.SheetListing.{cell_values, cell_formulas, formula_placed};
 ghost use Rattle.sheet_listing.specs.SheetListing.{placed_ids};

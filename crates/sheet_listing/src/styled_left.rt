@@ -1,7 +1,7 @@
 //! The styled positions that a listing has still to pass.
 ghost use Rattle.std.specs.Prelude.{◌≡◌, map};
-ghost use Rattle.cell_styles.specs.StyleItems.{styled_entry};
-ghost use Rattle.sorted_cells.specs.Placed.{first_position, left_behind, value_first};
+ghost use Rattle.cell_styles.specs.Words.{styled_entry};
+ghost use Rattle.sorted_cells.specs.Words.{first_position, left_behind, value_first};
 ghost use Rattle.sheet_listing.specs.SheetListing.{ids_left};
 
 use cell_styles::StyledCells;

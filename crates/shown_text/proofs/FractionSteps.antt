@@ -9,7 +9,7 @@ use Rattle.excel_dates.proofs.SerialSteps.{by_true, by_false, is_less, not_less}
 use Rattle.std.specs.List.{fold, range_with_len}
 use Rattle.shown_text.specs.declared.fractions.Fraction.{Fraction}
 use Rattle.shown_text.specs.FractionTexts.{fraction_over, nearer, FractionParts, parts_text}
-use Rattle.shown_text.specs.FractionTexts.{parted, unparted}
+use Rattle.shown_text.specs.FractionTexts.{unit_parts, unparted}
 
 -- what the search from a denominator on makes of a fraction
 abbrev pub best_from : ℕ → ℕ → ℕ → Fraction → ℕ → Fraction
@@ -43,19 +43,19 @@ whole_size parts n count (negsuc p) above is = absurd (omega (arith, ints))
 
 pub parted_size : (parts : FractionParts) (n unit places : ℕ) (power : ℤ) → power <ℤ pos 0 →
     places ≡ nat_abs power → places ≤ 30 → unit ≡ 10 ^ places →
-    parted parts n unit ≡ parts_text parts n power
+    unit_parts parts n unit ≡ parts_text parts n power
 parted_size parts n unit places (pos p) below is few unit_is = absurd (omega (arith, ints))
 parted_size parts n unit places (negsuc p) below is few unit_is =
     let same : places ≡ p + 1 = omega (arith, is) in
-    ap (parted parts n) (unit_is ∙ ap (λ k. 10 ^ k) same)
-    ∙ sym (by_true (nat_lt p 30) (parted parts n (10 ^ (p + 1))) (unparted parts 0 0)
+    ap (unit_parts parts n) (unit_is ∙ ap (λ k. 10 ^ k) same)
+    ∙ sym (by_true (nat_lt p 30) (unit_parts parts n (10 ^ (p + 1))) (unparted parts 0 0)
     (is_less p 30 (omega (arith, same, few))))
 
 pub tiny_size : (parts : FractionParts) (n places : ℕ) (power : ℤ) → power <ℤ pos 0 →
     places ≡ nat_abs power → 30 < places → unparted parts 0 0 ≡ parts_text parts n power
 tiny_size parts n places (pos p) below is many = absurd (omega (arith, ints))
 tiny_size parts n places (negsuc p) below is many =
-    sym (by_false (nat_lt p 30) (parted parts n (10 ^ (p + 1))) (unparted parts 0 0)
+    sym (by_false (nat_lt p 30) (unit_parts parts n (10 ^ (p + 1))) (unparted parts 0 0)
     (not_less p 30 (omega (arith, is, many))))
 
 pub ruleset size_steps = (unit_some, unit_fits, whole_size, tiny_size)

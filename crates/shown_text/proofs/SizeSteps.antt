@@ -1,7 +1,6 @@
 -- A number by its digits.
-use Rattle.std.proofs.Common.{◌≡◌, ℕ, ◌+◌, ◌-◌, ◌%◌, ◌^◌, ◌<◌, ◌≤◌, ◌==◌}
-use Rattle.std.proofs.Common.{false, length, sym, ap, ◌∙◌, arith, inl, inr, ℤ, pos}
-use Rattle.std.proofs.Common.{negsuc, ◌+ℤ◌, ◌<ℤ◌, ◌≤ℤ◌, Some, ◌∷◌, []}
+use Rattle.std.proofs.Common.{◌≡◌, ℕ, ◌+◌, ◌-◌, ◌%◌, ◌^◌, ◌<◌, ◌≤◌, ◌==◌, false, length, sym, ap}
+use Rattle.std.proofs.Common.{◌∙◌, arith, inl, inr, ℤ, pos, negsuc, ◌+ℤ◌, ◌<ℤ◌, ◌≤ℤ◌, Some, ◌∷◌, []}
 use Rattle.std.specs.Prelude.{nat_abs, nat_lt, FitsSigned, ◌-ℤ◌}
 use Rattle.std.specs.Int.{w32}
 use Rattle.std.specs.Fmt.{decimal}
@@ -10,15 +9,16 @@ use Rattle.std.proofs.lemmas.Bool.{cases_lt}
 use Rattle.std.proofs.lemmas.Bool.Decides.{nat_tests}
 use Rattle.std.proofs.lemmas.Fmt.{decimal_is_IsNumeral_wide, length-decimal-le_wide}
 use Rattle.std.proofs.lemmas.Int.{ints}
-use Rattle.decimals.specs.Rounding.{digit_count, digits_behind, nearest, rounded_number}
+use Rattle.decimals.specs.Words.{digit_count, digits_behind, nearest}
+use Rattle.decimals.specs.Rounding.{rounded_number}
 use Rattle.decimals.proofs.Nearest.{nearest_most}
 use Rattle.decimals.proofs.Rounded.{size_signed}
 use Rattle.decimals.proofs.RoundedLaws.{has_digits, nearest_zero}
-use Rattle.excel_dates.specs.Serials.{nearest_at}
+use Rattle.excel_dates.specs.Words.{nearest_at}
 use Rattle.excel_dates.proofs.SerialSteps.{nothing_left, by_false, not_less}
 use Rattle.shown_text.specs.Digits.{digits_above_0, nearest_digits}
-use Rattle.shown_text.specs.GeneralText.{shown_digits, has_nine_places, general_places}
-use Rattle.shown_text.specs.GeneralText.{first_power, scientific, text_in_places, general_size}
+use Rattle.shown_text.specs.GeneralText.{shown_digits, has_nine_places, general_places, first_power}
+use Rattle.shown_text.specs.GeneralText.{scientific, text_in_places, general_size}
 
 -- a number has a digit
 pub some_digits : (n : ℕ) → n < 2 ^ 128 → 0 < length (decimal n)

@@ -1,11 +1,10 @@
 -- Values that a code leaves as they are.
 use Rattle.std.proofs.Common.{◌≡◌, ℕ, ℤ, List, Bool, true, false, cond, refl, ap, Option, None}
-use Rattle.cell_data.specs.CellError.{cell_error_text}
-use Rattle.cell_data.specs.CellValue.{number, text, failure}
+use Rattle.cell_data.specs.Words.{cell_error_text, number, text, failure}
 use Rattle.cell_data.specs.declared.value.CellErrorType.{CellErrorType}
 use Rattle.format_codes.specs.declared.piece.CodePiece.{CodePiece}
-use Rattle.format_codes.specs.Choosing.{is_supported, text_section, text_section_in, number_section}
-use Rattle.format_codes.specs.Sections.{shown_sections}
+use Rattle.format_codes.specs.Words.{is_supported, text_section, number_section, shown_sections}
+use Rattle.format_codes.specs.Choosing.{text_section_in}
 use Rattle.excel_dates.proofs.SerialSteps.{by_false}
 use Rattle.shown_text.specs.GeneralText.{general_text}
 use Rattle.shown_text.specs.ShownText.{shown_text, text_in_pieces, text_in_section}

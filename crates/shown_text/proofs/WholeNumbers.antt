@@ -1,7 +1,7 @@
 -- Whole numbers under General.
 use Rattle.std.proofs.Common.{◌≡◌, ℕ, ℤ, zero, suc, ◌+◌, ◌-◌, ◌*◌, ◌/◌, ◌%◌, ◌^◌, ◌<◌, ◌≤◌, ◌==◌}
-use Rattle.std.proofs.Common.{[], ◌∷◌, ◌++◌, refl, sym, ap, ◌∙◌, arith, pos, negsuc}
-use Rattle.std.proofs.Common.{Some, append-nil, inl, inr}
+use Rattle.std.proofs.Common.{[], ◌∷◌, ◌++◌, refl, sym, ap, ◌∙◌, arith, pos, negsuc, Some}
+use Rattle.std.proofs.Common.{append-nil, inl, inr}
 use Rattle.std.specs.Prelude.{nat_abs, nat_lt, neg_ℤ, ◌*ℤ◌}
 use Rattle.std.specs.Fmt.{decimal, signed_decimal, sign_text}
 use Rattle.std.specs.Int.{is_negative}
@@ -12,7 +12,7 @@ use Rattle.std.proofs.lemmas.Bool.{cases_lt}
 use Rattle.std.proofs.lemmas.Bool.Decides.{nat_tests}
 use Rattle.std.proofs.lemmas.Fmt.{decimal_digit, length-decimal-le_wide}
 use Rattle.std.proofs.lemmas.Nat.{pow-add}
-use Rattle.decimals.specs.Rounding.{digit_count, nearest}
+use Rattle.decimals.specs.Words.{digit_count, nearest}
 use Rattle.decimals.proofs.Nearest.{factors, times}
 use Rattle.decimals.proofs.Rounded.{not_negative, unit_some}
 use Rattle.decimals.proofs.RoundedLaws.{has_digits}

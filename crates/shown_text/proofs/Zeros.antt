@@ -13,10 +13,10 @@ use Rattle.std.proofs.lemmas.Fmt.{decimal_digit}
 use Rattle.std.proofs.lemmas.List.{reverse-append, length-reverse, length-replicate}
 use Rattle.std.proofs.lemmas.List.{replicate-append-replicate}
 use Rattle.std.proofs.lemmas.List.Folds.{prefix_len-append}
-use Rattle.decimals.specs.Decimals.{trailing_zeros, without_trailing_zeros}
+use Rattle.decimals.specs.Words.{trailing_zeros, without_trailing_zeros}
 use Rattle.decimals.proofs.OneForm.{value_kept}
 use Rattle.decimals.proofs.ReadsBack.{decimal_writes}
-use Rattle.excel_dates.specs.IsoText.{padded}
+use Rattle.excel_dates.specs.Words.{padded}
 use Rattle.excel_dates.proofs.SerialSteps.{by_true, by_false}
 use Rattle.shown_text.specs.GeneralText.{behind_point}
 

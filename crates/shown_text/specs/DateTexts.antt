@@ -5,10 +5,9 @@ use Rattle.std.specs.Prelude.{not, min, Bool, true, false, if◌then◌else◌, 
 use Rattle.std.specs.Prelude.{codes, slice_get, encode_utf8, Option, Some, None, unwrap_or, ℤ}
 use Rattle.std.specs.Fmt.{sign_text}
 use Rattle.std.specs.List.{flat_map}
-use Rattle.decimals.specs.Rounding.{nearest}
-use Rattle.excel_dates.specs.CalendarDates.{date_of_day, last_day}
-use Rattle.excel_dates.specs.IsoText.{padded}
-use Rattle.excel_dates.specs.Serials.{day_length, milliseconds_of, is_below}
+use Rattle.decimals.specs.Words.{nearest}
+use Rattle.excel_dates.specs.Words.{date_of_day, last_day, padded, day_length, milliseconds_of}
+use Rattle.excel_dates.specs.Words.{is_below}
 use Rattle.format_codes.specs.declared.piece.CodePiece.{CodePiece}
 use Rattle.format_codes.specs.declared.piece.CodePiece.TheVariants as piece
 use Rattle.format_codes.specs.declared.piece.HalfDay.{HalfDay}
@@ -16,8 +15,7 @@ use Rattle.format_codes.specs.declared.piece.HalfDay.TheVariants.{Words, Letters
 use Rattle.format_codes.specs.declared.piece.TimeUnit.{TimeUnit}
 use Rattle.format_codes.specs.declared.piece.TimeUnit.TheVariants.{Year, Month, Day, Hour, Minute}
 use Rattle.format_codes.specs.declared.piece.TimeUnit.TheVariants.{Second}
-use Rattle.format_codes.specs.Pieces.{has, is_half_day, is_passed, own_text, unit_of}
-use Rattle.format_codes.specs.TimedPieces.{second_places}
+use Rattle.format_codes.specs.Words.{has, is_half_day, is_passed, own_text, unit_of, second_places}
 use Rattle.shown_text.specs.GeneralText.{general_text}
 use Rattle.shown_text.specs.declared.date_texts.ShownTime.{ShownTime}
 
@@ -82,17 +80,17 @@ day_names =
     codes "Saturday" ∷ codes "Sunday" ∷ codes "Monday" ∷ codes "Tuesday" ∷ codes "Wednesday"
     ∷ codes "Thursday" ∷ codes "Friday" ∷ []
 
--- the name at a place
-abbrev pub name_at : List (List ℕ) → ℕ → List ℕ
-name_at names place = unwrap_or (slice_get names place) []
+-- the name at a place of a list of names, empty where there is none
+abbrev pub name_shown : List (List ℕ) → ℕ → List ℕ
+name_shown names place = unwrap_or (slice_get names place) []
 
--- the name of a month
+-- the name of a month by its number, counted from 1
 abbrev pub month_name : ℕ → List ℕ
-month_name month = name_at month_names (month - 1)
+month_name month = name_shown month_names (month - 1)
 
 -- the name of the day of the week
 abbrev pub day_name : Bool → ℕ → List ℕ
-day_name is_1904 day = name_at day_names ((day + (if is_1904 then 1462 else 0)) % 7)
+day_name is_1904 day = name_shown day_names ((day + (if is_1904 then 1462 else 0)) % 7)
 
 -- a year in two digits or in four
 abbrev pub year_text : ℕ → ℕ → List ℕ
@@ -109,7 +107,7 @@ month_text count month =
 abbrev pub weekday_text : ℕ → List ℕ → List ℕ
 weekday_text count name = if count == 3 then take 3 name else name
 
--- a part of a date: its year, its month, or its day
+-- the text of a part of a date: its year, its month, or its day
 abbrev pub date_part_text : Option (ℕ × ℕ × ℕ) → TimeUnit → ℕ → List ℕ
 date_part_text None unit count = []
 date_part_text (Some date) Year count = year_text count date.0
@@ -120,7 +118,7 @@ date_part_text (Some date) unit count = padded count date.2
 abbrev pub shown_hour : Bool → ℕ → ℕ
 shown_hour twelve hour = if twelve then (hour + 11) % 12 + 1 else hour
 
--- two units are one
+-- two units of time are one
 abbrev pub is_unit : TimeUnit → TimeUnit → Bool
 is_unit Year Year = true
 is_unit Month Month = true
@@ -161,41 +159,42 @@ clock_number at unit =
 abbrev pub day_at : ShownTime → ℕ
 day_at at = at.milliseconds / day_length
 
--- a part of a date or of a time of day
-abbrev pub part_text : ShownTime → TimeUnit → ℕ → List ℕ
-part_text at Hour count = padded (min count 2) (clock_number at Hour)
-part_text at Minute count = padded (min count 2) (clock_number at Minute)
-part_text at Second count = padded (min count 2) (clock_number at Second)
-part_text at Day count =
+-- the text of a part of a date or of a time of day
+abbrev pub part_shown : ShownTime → TimeUnit → ℕ → List ℕ
+part_shown at Hour count = padded (min count 2) (clock_number at Hour)
+part_shown at Minute count = padded (min count 2) (clock_number at Minute)
+part_shown at Second count = padded (min count 2) (clock_number at Second)
+part_shown at Day count =
     if nat_lt 2 count then weekday_text count (day_name at.is_1904 (day_at at))
     else date_part_text (shown_date at.is_1904 (day_at at)) Day count
-part_text at unit count = date_part_text (shown_date at.is_1904 (day_at at)) unit count
+part_shown at unit count = date_part_text (shown_date at.is_1904 (day_at at)) unit count
 
--- so many digits of a second
+-- a point, and so many digits of a second behind it, three at most
 abbrev pub second_digits_text : ℕ → ℕ → List ℕ
 second_digits_text count milliseconds =
     46 ∷ padded (min count 3) (milliseconds / 10 ^ (3 - min count 3))
 
--- a half of a day
+-- the text of a half of a day
 abbrev pub half_text : HalfDay → Bool → List ℕ
 half_text Words is_morning = if is_morning then codes "AM" else codes "PM"
 half_text (Letters morning evening) is_morning =
     if is_morning then encode_utf8 morning else encode_utf8 evening
 
--- a piece at a time
-abbrev pub piece_text : ShownTime → CodePiece → List ℕ
-piece_text at (piece.TimePart unit count) = part_text at unit count
-piece_text at (piece.Passed unit count) = padded count (clock_number at unit)
-piece_text at (piece.SecondDigits count) = second_digits_text count (at.milliseconds % 1000)
-piece_text at (piece.HalfDay half) = half_text half (nat_lt (at.milliseconds % day_length) 43200000)
-piece_text at other = own_text other
+-- the text of a piece at a time
+abbrev pub piece_shown : ShownTime → CodePiece → List ℕ
+piece_shown at (piece.TimePart unit count) = part_shown at unit count
+piece_shown at (piece.Passed unit count) = padded count (clock_number at unit)
+piece_shown at (piece.SecondDigits count) = second_digits_text count (at.milliseconds % 1000)
+piece_shown at (piece.HalfDay half) = half_text half (nat_lt (at.milliseconds % day_length)
+    43200000)
+piece_shown at other = own_text other
 
--- pieces at a time
+-- the text of pieces at a time, one behind the other
 abbrev pub pieces_at : ShownTime → List CodePiece → List ℕ
-pieces_at at pieces = flat_map (piece_text at) pieces
+pieces_at at pieces = flat_map (piece_shown at) pieces
 
--- Pieces show such a time: one that has passed, or one up to the end of 9999, before day 0 only in
--- the calendar from 1904.
+-- Pieces show a time: one that has passed, or one up to the end of 9999, before day 0 only in the
+-- calendar from 1904.
 abbrev pub has_time : Bool → List CodePiece → Bool → ℕ → Bool
 has_time is_1904 pieces below time =
     (has is_passed pieces && not (has is_date_part pieces))
@@ -203,19 +202,20 @@ has_time is_1904 pieces below time =
     && nat_le (time / day_length) (last_day is_1904))
 
 -- pieces at a time with its sign; General of the days where they don't show it
-abbrev pub text_at : Bool → List CodePiece → Bool → ℤ × ℤ → ℕ → List ℕ
-text_at is_1904 pieces below days time =
+abbrev pub shown_with_sign : Bool → List CodePiece → Bool → ℤ × ℤ → ℕ → List ℕ
+shown_with_sign is_1904 pieces below days time =
     if has_time is_1904 pieces below time
     then sign_text below ++ pieces_at (shown_time is_1904 pieces time) pieces
     else general_text days
 
--- so many days at the milliseconds that are shown of them; General where these are too many
+-- the text of so many days at the milliseconds that are shown of them; General where these are too
+-- many
 abbrev pub text_if_told : Bool → List CodePiece → Bool → ℤ × ℤ → Option ℕ → List ℕ
 text_if_told is_1904 pieces below days None = general_text days
-text_if_told is_1904 pieces below days (Some time) = text_at is_1904 pieces below days time
+text_if_told is_1904 pieces below days (Some time) = shown_with_sign is_1904 pieces below days time
 
--- so many days in the pieces of a section of dates; `unsigned` leaves the sign out
-unfoldable pub date_text : Bool → List CodePiece → Bool → ℤ × ℤ → List ℕ
-date_text is_1904 pieces unsigned days =
+-- the text of so many days in the pieces of a section of dates; `unsigned` leaves the sign out
+unfoldable pub date_shown : Bool → List CodePiece → Bool → ℤ × ℤ → List ℕ
+date_shown is_1904 pieces unsigned days =
     text_if_told is_1904 pieces (is_below days && not unsigned) days
     (told_milliseconds pieces days)

@@ -6,13 +6,13 @@ use Rattle.std.specs.Prelude.{ℤ, pos, negsuc, option_to_list}
 use Rattle.std.specs.Fmt.{decimal}
 use Rattle.std.specs.List.{flat_map, before_first, after_first, after_last, position_or_len}
 use Rattle.std.specs.List.{suffix_len}
-use Rattle.decimals.specs.Decimals.{trailing_zeros}
-use Rattle.decimals.specs.Rounding.{nearest}
+use Rattle.decimals.specs.Words.{trailing_zeros, nearest}
 use Rattle.format_codes.specs.declared.piece.CodePiece.{CodePiece}
 use Rattle.format_codes.specs.declared.piece.CodePiece.TheVariants as piece
 use Rattle.format_codes.specs.declared.piece.Filler.{Filler}
 use Rattle.format_codes.specs.declared.piece.Filler.TheVariants.{Zero, Nothing, Space}
-use Rattle.format_codes.specs.Pieces.{has, is_comma, is_digit, is_point, is_zero, own_text}
+use Rattle.format_codes.specs.Words.{has, is_comma, is_digit, is_point_piece, is_zero_place}
+use Rattle.format_codes.specs.Words.{own_text}
 
 -- the digits of a whole number with so many zeros behind them, and none of 0
 abbrev pub digits_above_0 : ℕ → ℕ → List ℕ
@@ -76,7 +76,7 @@ abbrev pub in_places : Bool → List ℕ → Bool → ℕ → List CodePiece →
 in_places grouped digits forced left [] = []
 in_places grouped digits forced left (p ∷ ps) =
     piece_in_place grouped digits forced (left - 1) p
-    ++ in_places grouped digits (forced || is_zero p) (places_behind left p) ps
+    ++ in_places grouped digits (forced || is_zero_place p) (places_behind left p) ps
 
 -- how many places of digits there are
 abbrev pub place_count : List CodePiece → ℕ
@@ -109,9 +109,9 @@ with_digits grouped forced front digits pieces =
 
 -- How many places at the end show no digit: those that have only zeros from there on, and no `0`.
 abbrev pub hidden_places : List ℕ → List CodePiece → ℕ
-hidden_places [] pieces = place_count (after_last is_zero pieces)
+hidden_places [] pieces = place_count (after_last is_zero_place pieces)
 hidden_places (d ∷ ds) pieces =
-    min (trailing_zeros (d ∷ ds)) (place_count (after_last is_zero pieces))
+    min (trailing_zeros (d ∷ ds)) (place_count (after_last is_zero_place pieces))
 
 -- the character of a place behind the point, which has so many places behind it
 abbrev pub fraction_character : Filler → List ℕ → ℕ → ℕ → Option ℕ
@@ -134,11 +134,11 @@ fraction_places digits hidden left (p ∷ ps) =
 
 -- the pieces before the point of a section
 abbrev pub before_point : List CodePiece → List CodePiece
-before_point section = before_first is_point section
+before_point section = before_first is_point_piece section
 
 -- the pieces behind the point, if there is one
 abbrev pub after_point : List CodePiece → List CodePiece
-after_point section = after_first is_point section
+after_point section = after_first is_point_piece section
 
 -- how many digits are shown behind the point
 abbrev pub fraction_count : List CodePiece → ℕ
@@ -161,7 +161,7 @@ behind_text shows_digits digits after =
 -- behind the point. `forced` has each place before the point show a zero at least.
 abbrev pub laid_out : Bool → List ℕ → List CodePiece → List ℕ
 laid_out forced digits section =
-    whole_text (has is_point section && has is_digit section) forced
+    whole_text (has is_point_piece section && has is_digit section) forced
     (take (length digits - fraction_count section) digits) (before_point section)
-    ++ (if has is_point section
+    ++ (if has is_point_piece section
     then 46 ∷ behind_text (has is_digit section) digits (after_point section) else [])

@@ -6,16 +6,15 @@ use Rattle.std.specs.List.{flat_map}
 use Rattle.format_codes.specs.declared.piece.CodePiece.{CodePiece}
 use Rattle.format_codes.specs.declared.piece.CodePiece.TheVariants as piece
 use Rattle.format_codes.specs.declared.piece.Filler.TheVariants.{Nothing, Space}
-use Rattle.format_codes.specs.Kinds.{is_fixed}
-use Rattle.format_codes.specs.Pieces.{has, is_zero}
+use Rattle.format_codes.specs.Words.{is_fixed, has, is_zero_place}
 use Rattle.shown_text.specs.Digits.{with_digits, among_places}
 
--- a place `?`
+-- a piece is the place of a digit that is `?`
 abbrev pub is_space_place : CodePiece → Bool
 is_space_place (piece.Digit Space) = true
 is_space_place other = false
 
--- a place `#`
+-- a piece is the place of a digit that is `#`
 abbrev pub is_empty_place : CodePiece → Bool
 is_empty_place (piece.Digit Nothing) = true
 is_empty_place other = false
@@ -34,7 +33,7 @@ has_width other = false
 abbrev pub width : List CodePiece → ℕ
 width pieces = count_by has_width pieces
 
--- so many spaces
+-- so many spaces, as a text
 abbrev pub spaces : ℕ → List ℕ
 spaces count = replicate count 32
 
@@ -51,5 +50,5 @@ filled_text under d =
 abbrev pub denominator_text : List CodePiece → ℕ → List ℕ
 denominator_text under d =
     if is_fixed under then decimal d
-    else (if has is_zero under then with_digits false false [] (decimal d) under
+    else (if has is_zero_place under then with_digits false false [] (decimal d) under
     else filled_text under d)

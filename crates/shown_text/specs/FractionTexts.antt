@@ -1,13 +1,13 @@
 -- Sections of fractions, such as `# ?/?` and `# ??/16`.
-use Rattle.std.specs.Prelude.{ℕ, ◌+◌, ◌-◌, ◌*◌, ◌/◌, ◌%◌, ◌^◌, ◌==◌, ◌&&◌, ◌||◌, nat_lt, not}
-use Rattle.std.specs.Prelude.{Bool, false, if◌then◌else◌, List, [], ◌∷◌, ◌++◌, length, take}
-use Rattle.std.specs.Prelude.{drop, replicate, ℤ, pos, negsuc}
+use Rattle.std.specs.Prelude.{ℕ, ◌+◌, ◌-◌, ◌*◌, ◌/◌, ◌%◌, ◌^◌, ◌==◌, ◌&&◌, ◌||◌, nat_lt, not, Bool}
+use Rattle.std.specs.Prelude.{false, if◌then◌else◌, List, [], ◌∷◌, ◌++◌, length, take, drop}
+use Rattle.std.specs.Prelude.{replicate, ℤ, pos, negsuc}
 use Rattle.std.specs.Fmt.{decimal}
-use Rattle.std.specs.List.{prefix_len, suffix_len, before_first}
-use Rattle.std.specs.List.{after_first, after_last, take_while, fold, range_with_len}
+use Rattle.std.specs.List.{prefix_len, suffix_len, before_first, after_first, after_last}
+use Rattle.std.specs.List.{take_while, fold, range_with_len}
 use Rattle.format_codes.specs.declared.piece.CodePiece.{CodePiece}
-use Rattle.format_codes.specs.Kinds.{from_denominator, is_denominator, is_fixed}
-use Rattle.format_codes.specs.Pieces.{has, is_digit, is_slash, is_zero}
+use Rattle.format_codes.specs.Words.{from_denominator, is_denominator, is_fixed, has, is_digit}
+use Rattle.format_codes.specs.Words.{is_slash_piece, is_zero_place}
 use Rattle.shown_text.specs.declared.fractions.Fraction.{Fraction}
 use Rattle.shown_text.specs.FractionPlaces.{is_space_place, is_empty_place, width, spaces}
 use Rattle.shown_text.specs.FractionPlaces.{texts_between, denominator_text}
@@ -57,7 +57,7 @@ parts_around front back = record {
 -- the parts of a section of a fraction
 abbrev pub fraction_parts : List CodePiece → FractionParts
 fraction_parts section =
-    parts_around (before_first is_slash section) (after_first is_slash section)
+    parts_around (before_first is_slash_piece section) (after_first is_slash_piece section)
 
 -- the fraction of this denominator that is nearest to n / unit
 abbrev pub fraction_over : ℕ → ℕ → ℕ → Fraction
@@ -90,7 +90,7 @@ whole_digits n zeros = if n == 0 then 48 ∷ [] else decimal n ++ replicate zero
 abbrev pub slash_text : FractionParts → List ℕ
 slash_text parts = texts_between parts.before ++ 47 ∷ texts_between parts.behind
 
--- numerator, slash and denominator
+-- the text of a fraction: numerator, slash and denominator
 abbrev pub slashed : FractionParts → List ℕ → ℕ → List ℕ
 slashed parts over under =
     with_digits false false [] over parts.over
@@ -119,8 +119,8 @@ abbrev pub no_fraction : FractionParts → List ℕ
 no_fraction parts = if has_space_place parts then front_gap parts ++ back_gap parts else []
 
 -- the places of a whole number with its digits
-abbrev pub whole_text : FractionParts → List ℕ → List ℕ
-whole_text parts digits = with_digits (is_grouped parts.whole) false [] digits parts.whole
+abbrev pub whole_part_text : FractionParts → List ℕ → List ℕ
+whole_part_text parts digits = with_digits (is_grouped parts.whole) false [] digits parts.whole
 
 -- A whole number that is 0 isn't shown: before a fraction where no place of it is `0`, before a
 -- numerator that is 0 where its only place is `#`.
@@ -128,7 +128,7 @@ abbrev pub is_whole_gone : FractionParts → ℕ → Bool
 is_whole_gone parts over =
     if over == 0
     then (place_count parts.whole == 1) && has is_empty_place parts.whole
-    else not (has is_zero parts.whole)
+    else not (has is_zero_place parts.whole)
 
 -- the spaces in place of what stands behind the whole number, where a place is `?`
 abbrev pub gap_text : FractionParts → List ℕ
@@ -145,13 +145,13 @@ in_place_of_whole parts =
 abbrev pub whole_front : FractionParts → List ℕ → Bool → ℕ → List ℕ
 whole_front parts digits is_zero_whole over =
     if is_zero_whole && is_whole_gone parts over then in_place_of_whole parts
-    else whole_text parts digits ++ texts_between parts.between
+    else whole_part_text parts digits ++ texts_between parts.between
 
 -- a whole number, by its digits, and a fraction
 abbrev pub mixed_digits : FractionParts → List ℕ → Bool → Fraction → List ℕ
 mixed_digits parts digits is_zero_whole f =
-    if (f.over == 0) && not (has is_zero parts.over)
-    then whole_text parts digits ++ no_fraction parts
+    if (f.over == 0) && not (has is_zero_place parts.over)
+    then whole_part_text parts digits ++ no_fraction parts
     else whole_front parts digits is_zero_whole f.over
     ++ slashed parts (decimal f.over) f.under
 
@@ -171,8 +171,8 @@ carried parts whole f =
     else mixed parts whole 0 f
 
 -- n / unit in the parts of a section
-abbrev pub parted : FractionParts → ℕ → ℕ → List ℕ
-parted parts n unit =
+abbrev pub unit_parts : FractionParts → ℕ → ℕ → List ℕ
+unit_parts parts n unit =
     if has is_digit parts.whole
     then carried parts (n / unit) (found_fraction parts.under (n % unit) unit)
     else texts_between parts.between
@@ -192,10 +192,10 @@ unparted parts n zeros =
 abbrev pub parts_text : FractionParts → ℕ → ℤ → List ℕ
 parts_text parts n (pos zeros) = unparted parts n zeros
 parts_text parts n (negsuc places) =
-    if nat_lt places 30 then parted parts n (10 ^ (places + 1)) else unparted parts 0 0
+    if nat_lt places 30 then unit_parts parts n (10 ^ (places + 1)) else unparted parts 0 0
 
 -- a size in a section of fractions
-unfoldable pub fraction_text : List CodePiece → ℕ → ℤ → List ℕ
-fraction_text section n power =
+unfoldable pub fraction_shown : List CodePiece → ℕ → ℤ → List ℕ
+fraction_shown section n power =
     parts_text (fraction_parts section) n power
     ++ texts_between (fraction_parts section).rest

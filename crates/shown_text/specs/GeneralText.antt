@@ -5,10 +5,9 @@ use Rattle.std.specs.Prelude.{if◌then◌else◌, List, [], ◌∷◌, ◌++◌
 use Rattle.std.specs.Prelude.{Some, ℤ, pos, negsuc, ◌+ℤ◌, nat_abs}
 use Rattle.std.specs.Fmt.{decimal, sign_text}
 use Rattle.std.specs.Int.{is_negative}
-use Rattle.decimals.specs.Decimals.{without_trailing_zeros}
-use Rattle.decimals.specs.Rounding.{digit_count, digits_behind, nearest, rounded_number}
-use Rattle.excel_dates.specs.IsoText.{padded}
-use Rattle.excel_dates.specs.Serials.{nearest_at}
+use Rattle.decimals.specs.Words.{without_trailing_zeros, digit_count, digits_behind, nearest}
+use Rattle.decimals.specs.Words.{rounded_number}
+use Rattle.excel_dates.specs.Words.{padded, nearest_at}
 
 -- digits behind a point, and nothing where there are none
 abbrev pub behind_point : List ℕ → List ℕ
@@ -44,7 +43,7 @@ with_places places n =
 abbrev pub first_power : ℕ → ℤ → ℤ
 first_power n power = power +ℤ pos (digit_count n - 1)
 
--- nothing stands behind the ninth place
+-- a number has no place behind its ninth one after the point
 abbrev pub has_nine_places : ℕ → ℤ → Bool
 has_nine_places n (pos power) = n % 10 ^ 0 == 0
 has_nine_places n (negsuc power) = n % 10 ^ (power + 1 - 9) == 0

@@ -2,9 +2,9 @@
 use Rattle.shown_text.specs.declared.fraction_parts.GivenParts.{GivenParts}
 use Rattle.shown_text.specs.FractionTexts.{FractionParts}
 
--- the pieces of each part
-abbrev pub parts_in : GivenParts → FractionParts
-parts_in parts = record {
+-- the pieces of each part of a section that shows fractions
+abbrev pub part_pieces : GivenParts → FractionParts
+part_pieces parts = record {
   whole = parts.whole.now;
   between = parts.between.now;
   over = parts.over.now;

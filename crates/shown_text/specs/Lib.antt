@@ -8,3 +8,4 @@ pub mod GivenDigits
 pub mod GivenParts
 pub mod NumberTexts
 pub mod ShownText
+pub mod Words

@@ -8,7 +8,7 @@ use Rattle.std.specs.Int.{is_negative}
 use Rattle.std.specs.List.{before_first, after_last, position_or_len}
 use Rattle.format_codes.specs.declared.piece.CodePiece.{CodePiece}
 use Rattle.format_codes.specs.declared.piece.CodePiece.TheVariants as piece
-use Rattle.format_codes.specs.Pieces.{has, is_comma, is_digit, is_exponent, is_percent}
+use Rattle.format_codes.specs.Words.{has, is_comma, is_digit, is_exponent, is_percent}
 use Rattle.shown_text.specs.Digits.{after_point, before_point, fraction_count, laid_out}
 use Rattle.shown_text.specs.Digits.{nearest_digits, place_count, with_digits}
 use Rattle.shown_text.specs.GeneralText.{first_power}
@@ -33,8 +33,8 @@ abbrev pub number_power : List CodePiece → ℤ → ℤ
 number_power section power = (power +ℤ scale section) +ℤ pos (fraction_count section)
 
 -- a size in a section of numbers: the nearest number of its places
-unfoldable pub number_text : List CodePiece → ℕ → ℤ → List ℕ
-number_text section n power =
+unfoldable pub size_shown : List CodePiece → ℕ → ℤ → List ℕ
+size_shown section n power =
     laid_out false (nearest_digits n (number_power section power)) section
 
 -- the greatest multiple of `step` that is no greater

@@ -1,28 +1,25 @@
 -- The text that a spreadsheet program shows of a value, in the language en-US and in a column of
 -- any width.
 use Rattle.std.specs.Prelude.{ℕ, ◌==◌, ◌&&◌, ◌||◌, ◌^◌, nat_le, not, Bool, true, false}
-use Rattle.std.specs.Prelude.{if◌then◌else◌, List, [], ◌++◌, length, codes, Option, Some, None}
-use Rattle.std.specs.Prelude.{ℤ, pos, nat_abs}
+use Rattle.std.specs.Prelude.{if◌then◌else◌, List, [], ◌++◌, length, codes, Option, Some, None, ℤ}
+use Rattle.std.specs.Prelude.{pos, nat_abs}
 use Rattle.std.specs.Fmt.{sign_text, signed_decimal}
 use Rattle.std.specs.Int.{is_negative}
 use Rattle.std.specs.List.{flat_map}
-use Rattle.cell_data.specs.CellError.{cell_error_text}
-use Rattle.cell_data.specs.CellValue.{CellValue, nothing, integer, number, text, shared_text}
-use Rattle.cell_data.specs.CellValue.{truth, time, iso_time, failure}
+use Rattle.cell_data.specs.Words.{cell_error_text, CellValue, nothing, integer, number, text}
+use Rattle.cell_data.specs.Words.{shared_text, truth, time, iso_time, failure}
 use Rattle.cell_data.specs.declared.value.ExcelDateTimeType.{ExcelDateTimeType}
-use Rattle.decimals.specs.Decimals.{decimal_from}
-use Rattle.excel_dates.specs.IsoText.{iso_text}
-use Rattle.excel_dates.specs.Moments.{moment_of, is_told}
+use Rattle.decimals.specs.Words.{decimal_from}
+use Rattle.excel_dates.specs.Words.{iso_text, moment_of, has_moment}
 use Rattle.format_codes.specs.declared.kind.SectionKind.{SectionKind}
 use Rattle.format_codes.specs.declared.kind.SectionKind.TheVariants as kind
 use Rattle.format_codes.specs.declared.piece.CodePiece.{CodePiece}
-use Rattle.format_codes.specs.Choosing.{ShownSection, is_supported, number_section}
-use Rattle.format_codes.specs.Choosing.{text_section_in}
-use Rattle.format_codes.specs.Pieces.{is_general, is_text_place, own_text}
-use Rattle.shown_text.specs.DateTexts.{date_text}
-use Rattle.shown_text.specs.FractionTexts.{fraction_text}
+use Rattle.format_codes.specs.Words.{ShownSection, is_supported, number_section, text_section_in}
+use Rattle.format_codes.specs.Words.{is_general, is_text_place, own_text}
+use Rattle.shown_text.specs.DateTexts.{date_shown}
+use Rattle.shown_text.specs.FractionTexts.{fraction_shown}
 use Rattle.shown_text.specs.GeneralText.{general_size, general_text, shown_digits}
-use Rattle.shown_text.specs.NumberTexts.{number_text, power_text}
+use Rattle.shown_text.specs.NumberTexts.{size_shown, power_text}
 
 -- a piece of a section of General
 abbrev pub general_piece : ℕ → ℤ → CodePiece → List ℕ
@@ -35,9 +32,9 @@ general_pieces pieces n power = flat_map (general_piece n power) pieces
 -- a size in the pieces of a section
 abbrev pub size_text : SectionKind → List CodePiece → ℕ → ℤ → List ℕ
 size_text kind.General pieces n power = general_pieces pieces n power
-size_text kind.Number pieces n power = number_text pieces n power
+size_text kind.Number pieces n power = size_shown pieces n power
 size_text kind.Power pieces n power = power_text pieces n power
-size_text kind.Fraction pieces n power = fraction_text pieces n power
+size_text kind.Fraction pieces n power = fraction_shown pieces n power
 size_text kind.Date pieces n power = []
 
 -- the greatest power of ten, and its opposite, of a number that is shown in a section
@@ -48,7 +45,7 @@ most_power = 400
 abbrev pub most_pieces : ℕ
 most_pieces = 2 ^ 20
 
--- a size with such a power is shown in a section
+-- a size of this power of ten is shown in a section: neither the power nor the section is too large
 abbrev pub is_sized : ShownSection → ℤ → Bool
 is_sized section power =
     nat_le (nat_abs power) most_power && nat_le (length section.pieces) most_pieces
@@ -68,17 +65,17 @@ sized_text section exact =
     else general_text exact
 
 -- a number in a section: the exact days of a date, and fifteen digits of what is none
-abbrev pub text_in : Bool → SectionKind → ShownSection → ℤ × ℤ → List ℕ
-text_in is_1904 kind.Date section exact =
-    date_text is_1904 section.pieces section.unsigned exact
-text_in is_1904 other section exact = sized_text section exact
+abbrev pub shown_by_section : Bool → SectionKind → ShownSection → ℤ × ℤ → List ℕ
+shown_by_section is_1904 kind.Date section exact =
+    date_shown is_1904 section.pieces section.unsigned exact
+shown_by_section is_1904 other section exact = sized_text section exact
 
 -- a number in the section that shows it, and under General where none does
 abbrev pub text_in_section : Bool → ℤ × ℤ → Option ShownSection → List ℕ
 text_in_section is_1904 exact None = general_text exact
-text_in_section is_1904 exact (Some section) = text_in is_1904 section.kind section exact
+text_in_section is_1904 exact (Some section) = shown_by_section is_1904 section.kind section exact
 
--- a number under a code; `other` where it isn't supported
+-- the text that is shown of a number under a code; `other` where the code isn't supported
 abbrev pub number_shown : Bool → List ℕ → ℤ × ℤ → List ℕ → List ℕ
 number_shown is_1904 code exact other =
     if is_supported code then text_in_section is_1904 exact (number_section code exact) else other
@@ -105,7 +102,7 @@ abbrev pub text_in_pieces : List ℕ → Option (List CodePiece) → List ℕ
 text_in_pieces bytes None = bytes
 text_in_pieces bytes (Some pieces) = text_pieces bytes pieces
 
--- a text under a code
+-- the text that is shown of a text under a code
 abbrev pub text_shown : List ℕ → List ℕ → List ℕ
 text_shown code bytes = text_in_pieces bytes (text_section_in code)
 
@@ -113,10 +110,10 @@ text_shown code bytes = text_in_pieces bytes (text_section_in code)
 -- where they stand for no moment
 abbrev pub days_otherwise : ℤ × ℤ → ExcelDateTimeType → Bool → List ℕ
 days_otherwise days kind is_1904 =
-    if is_told (moment_of days kind is_1904) then iso_text days kind is_1904
+    if has_moment (moment_of days kind is_1904) then iso_text days kind is_1904
     else general_text days
 
--- the words for truth
+-- the word that shows a boolean, `TRUE` or `FALSE`
 abbrev pub truth_word : Bool → List ℕ
 truth_word true = codes "TRUE"
 truth_word false = codes "FALSE"

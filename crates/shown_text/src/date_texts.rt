@@ -1,21 +1,17 @@
 //! Sections of dates, times of day and times that have passed. A refusal may leave a front of what
 //! is appended behind.
-ghost use Rattle.std.specs.Prelude.{◌≡◌, ◌<◌, ◌≤◌, ◌++◌, take, min};
-ghost use Rattle.std.specs.Prelude.{string_bytes, OnOk, OnErr};
+ghost use Rattle.std.specs.Prelude.{◌≡◌, ◌<◌, ◌≤◌, ◌++◌, take, min, string_bytes, OnOk, OnErr};
 ghost use Rattle.std.specs.Str.{IsAscii};
-ghost use Rattle.escaped_text.specs.Escaped.{Extends};
-ghost use Rattle.decimals.specs.Decimal.{number_of};
-ghost use Rattle.excel_dates.specs.CalendarDates.{last_day};
-ghost use Rattle.excel_dates.specs.IsoText.{padded};
-ghost use Rattle.excel_dates.specs.Serials.{is_below};
-ghost use Rattle.format_codes.specs.Pieces.{has, is_half_day, is_passed};
-ghost use Rattle.format_codes.specs.TimedPieces.{second_places};
+ghost use Rattle.escaped_text.specs.Escaped.{AddsBehind};
+ghost use Rattle.decimals.specs.Words.{number_of};
+ghost use Rattle.excel_dates.specs.Words.{last_day, padded, is_below};
+ghost use Rattle.format_codes.specs.Words.{has, is_half_day, is_passed, second_places};
 ghost use Rattle.shown_text.specs.DateTexts.{dropped_places, is_clock, is_date_part};
 ghost use Rattle.shown_text.specs.DateTexts.{told_milliseconds, shown_date, month_name, day_name};
-ghost use Rattle.shown_text.specs.DateTexts.{year_text, month_text, weekday_text};
-ghost use Rattle.shown_text.specs.DateTexts.{date_part_text, shown_hour, is_passed_in, is_unit};
-ghost use Rattle.shown_text.specs.DateTexts.{piece_text, pieces_at, second_digits_text};
-ghost use Rattle.shown_text.specs.DateTexts.{half_text, has_time, text_at, date_text};
+ghost use Rattle.shown_text.specs.DateTexts.{year_text, month_text, weekday_text, date_part_text};
+ghost use Rattle.shown_text.specs.DateTexts.{shown_hour, is_passed_in, is_unit, piece_shown};
+ghost use Rattle.shown_text.specs.DateTexts.{pieces_at, second_digits_text, half_text, has_time};
+ghost use Rattle.shown_text.specs.DateTexts.{shown_with_sign, date_shown};
 
 use crate::digits::push_own;
 use crate::general::{push_general, push_sign};
@@ -179,7 +175,7 @@ fn first_letters(name: &str, count: usize) -> &str
 fn push_year(out: &mut String, year: u16, count: usize) -> Result<(), AllocError>
     ensures ok { OnOk result
         (string_bytes out.new ≡ string_bytes out.old ++ year_text count year) }
-    ensures err { OnErr result (Extends (string_bytes out.old) (string_bytes out.new)) }
+    ensures err { OnErr result (AddsBehind (string_bytes out.old) (string_bytes out.new)) }
 {
     if count < 3 {
         return push_padded(out, u32::from(year % 100), 2);
@@ -191,7 +187,7 @@ fn push_year(out: &mut String, year: u16, count: usize) -> Result<(), AllocError
 fn push_month(out: &mut String, month: u8, count: usize) -> Result<(), AllocError>
     ensures ok { OnOk result
         (string_bytes out.new ≡ string_bytes out.old ++ month_text count month) }
-    ensures err { OnErr result (Extends (string_bytes out.old) (string_bytes out.new)) }
+    ensures err { OnErr result (AddsBehind (string_bytes out.old) (string_bytes out.new)) }
 {
     if count < 3 {
         return push_padded(out, u32::from(month), count);
@@ -211,7 +207,7 @@ fn push_weekday(out: &mut String, name: &str, count: usize) -> Result<(), AllocE
     requires { IsAscii name.now }
     ensures ok { OnOk result
         (string_bytes out.new ≡ string_bytes out.old ++ weekday_text count name.now) }
-    ensures err { OnErr result (Extends (string_bytes out.old) (string_bytes out.new)) }
+    ensures err { OnErr result (AddsBehind (string_bytes out.old) (string_bytes out.new)) }
 {
     out.push_str(if count == 3 {
         first_letters(name, 3)
@@ -229,7 +225,7 @@ fn push_date_part(
 ) -> Result<(), AllocError>
     ensures ok { OnOk result
         (string_bytes out.new ≡ string_bytes out.old ++ date_part_text date unit count) }
-    ensures err { OnErr result (Extends (string_bytes out.old) (string_bytes out.new)) }
+    ensures err { OnErr result (AddsBehind (string_bytes out.old) (string_bytes out.new)) }
 {
     let Some((year, month, day)) = date else {
         return Ok(());
@@ -245,7 +241,7 @@ fn push_date_part(
 fn push_count(out: &mut String, number: u128, width: usize) -> Result<(), AllocError>
     ensures ok { OnOk result
         (string_bytes out.new ≡ string_bytes out.old ++ padded width number) }
-    ensures err { OnErr result (Extends (string_bytes out.old) (string_bytes out.new)) }
+    ensures err { OnErr result (AddsBehind (string_bytes out.old) (string_bytes out.new)) }
 {
     let mut buffer = Buffer::new();
     let digits = buffer.format(number);
@@ -262,7 +258,7 @@ fn shown_hour(twelve: bool, hour: u128) -> u128
 }
 
 impl ShownTime {
-    ghost use Rattle.shown_text.specs.DateTexts.{shown_time, clock_number, part_text};
+    ghost use Rattle.shown_text.specs.DateTexts.{shown_time, clock_number, part_shown};
 
     /// What pieces are shown at.
     fn of(is_1904: bool, pieces: &[CodePiece], milliseconds: u128) -> ShownTime
@@ -295,8 +291,8 @@ impl ShownTime {
     /// Appends a part of a date or of a time of day.
     fn push_part(&self, out: &mut String, unit: TimeUnit, count: usize) -> Result<(), AllocError>
         ensures ok { OnOk result
-            (string_bytes out.new ≡ string_bytes out.old ++ part_text self.now unit count) }
-        ensures err { OnErr result (Extends (string_bytes out.old) (string_bytes out.new)) }
+            (string_bytes out.new ≡ string_bytes out.old ++ part_shown self.now unit count) }
+        ensures err { OnErr result (AddsBehind (string_bytes out.old) (string_bytes out.new)) }
     {
         let day = self.milliseconds / DAY;
         match unit {
@@ -311,8 +307,8 @@ impl ShownTime {
     /// Appends a piece at the time.
     fn push_piece(&self, out: &mut String, piece: CodePiece) -> Result<(), AllocError>
         ensures ok { OnOk result
-            (string_bytes out.new ≡ string_bytes out.old ++ piece_text self.now piece) }
-        ensures err { OnErr result (Extends (string_bytes out.old) (string_bytes out.new)) }
+            (string_bytes out.new ≡ string_bytes out.old ++ piece_shown self.now piece) }
+        ensures err { OnErr result (AddsBehind (string_bytes out.old) (string_bytes out.new)) }
     {
         match piece {
             CodePiece::TimePart(unit, count) => self.push_part(out, unit, count),
@@ -329,7 +325,7 @@ impl ShownTime {
     fn push_pieces(&self, out: &mut String, pieces: &[CodePiece]) -> Result<(), AllocError>
         ensures ok { OnOk result
             (string_bytes out.new ≡ string_bytes out.old ++ pieces_at self.now pieces.now) }
-        ensures err { OnErr result (Extends (string_bytes out.old) (string_bytes out.new)) }
+        ensures err { OnErr result (AddsBehind (string_bytes out.old) (string_bytes out.new)) }
     {
         for piece in pieces {
             self.push_piece(out, *piece)?;
@@ -367,7 +363,7 @@ fn is_unit(unit: TimeUnit, other: TimeUnit) -> bool
 fn push_second_digits(out: &mut String, count: usize, milliseconds: u32) -> Result<(), AllocError>
     ensures ok { OnOk result
         (string_bytes out.new ≡ string_bytes out.old ++ second_digits_text count milliseconds) }
-    ensures err { OnErr result (Extends (string_bytes out.old) (string_bytes out.new)) }
+    ensures err { OnErr result (AddsBehind (string_bytes out.old) (string_bytes out.new)) }
 {
     let places = count.min(3);
     out.push_str(".")?;
@@ -378,7 +374,7 @@ fn push_second_digits(out: &mut String, count: usize, milliseconds: u32) -> Resu
 fn push_half(out: &mut String, half: HalfDay, is_morning: bool) -> Result<(), AllocError>
     ensures ok { OnOk result
         (string_bytes out.new ≡ string_bytes out.old ++ half_text half is_morning) }
-    ensures err { OnErr result (Extends (string_bytes out.old) (string_bytes out.new)) }
+    ensures err { OnErr result (AddsBehind (string_bytes out.old) (string_bytes out.new)) }
 {
     match half {
         HalfDay::Words => out.push_str(if is_morning { "AM" } else { "PM" }),
@@ -441,8 +437,8 @@ fn push_at(
     milliseconds: u128,
 ) -> Result<(), AllocError>
     ensures ok { OnOk result (string_bytes out.new ≡ string_bytes out.old
-        ++ text_at is_1904 pieces.now is_below (number_of days.now) milliseconds) }
-    ensures err { OnErr result (Extends (string_bytes out.old) (string_bytes out.new)) }
+        ++ shown_with_sign is_1904 pieces.now is_below (number_of days.now) milliseconds) }
+    ensures err { OnErr result (AddsBehind (string_bytes out.old) (string_bytes out.new)) }
 {
     if !has_time(is_1904, pieces, is_below, milliseconds) {
         return push_general(out, days);
@@ -453,7 +449,7 @@ fn push_at(
 
 /// Appends so many days in the pieces of a section of dates, and under General where they have no
 /// text there.
-#[tactic(auto, unfolding(crate::specs::DateTexts::date_text))]
+#[tactic(auto, unfolding(crate::specs::DateTexts::date_shown))]
 pub fn push_date(
     out: &mut String,
     is_1904: bool,
@@ -462,8 +458,8 @@ pub fn push_date(
     days: &Decimal,
 ) -> Result<(), AllocError>
     ensures ok { OnOk result (string_bytes out.new ≡ string_bytes out.old
-        ++ date_text is_1904 pieces.now is_unsigned (number_of days.now)) }
-    ensures err { OnErr result (Extends (string_bytes out.old) (string_bytes out.new)) }
+        ++ date_shown is_1904 pieces.now is_unsigned (number_of days.now)) }
+    ensures err { OnErr result (AddsBehind (string_bytes out.old) (string_bytes out.new)) }
 {
     let has_sign = is_below(days) && !is_unsigned;
     match told_milliseconds(pieces, days) {

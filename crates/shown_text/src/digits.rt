@@ -1,17 +1,17 @@
 //! Digits in the places that a section has for them. A refusal may leave a front of what is
 //! appended behind.
-ghost use Rattle.std.specs.Prelude.{◌≡◌, ◌-◌, ◌<◌, ◌≤◌, ◌++◌, length, take};
-ghost use Rattle.std.specs.Prelude.{string_bytes, OnOk, OnErr, IfSome};
-ghost use Rattle.escaped_text.specs.Escaped.{Extends};
+ghost use Rattle.std.specs.Prelude.{◌≡◌, ◌-◌, ◌<◌, ◌≤◌, ◌++◌, length, take, string_bytes, OnOk};
+ghost use Rattle.std.specs.Prelude.{OnErr, IfSome};
+ghost use Rattle.escaped_text.specs.Escaped.{AddsBehind};
 ghost use Rattle.std.specs.List.{after_last, position_or_len};
-ghost use Rattle.format_codes.specs.Pieces.{has, is_digit, is_point, is_zero, own_text};
-ghost use Rattle.shown_text.specs.Digits.{place_character};
-ghost use Rattle.shown_text.specs.Digits.{separator, placed_text, surplus, among_places};
-ghost use Rattle.shown_text.specs.Digits.{piece_in_place, places_behind, in_places, place_count};
-ghost use Rattle.shown_text.specs.Digits.{first_place, last_place, is_grouped, own_texts};
-ghost use Rattle.shown_text.specs.Digits.{with_digits, hidden_places, fraction_character};
-ghost use Rattle.shown_text.specs.Digits.{fraction_piece, fraction_places, before_point};
-ghost use Rattle.shown_text.specs.Digits.{after_point, whole_text, behind_text, laid_out};
+ghost use Rattle.format_codes.specs.Words.{has, is_digit, is_point_piece, is_zero_place, own_text};
+ghost use Rattle.shown_text.specs.Digits.{place_character, separator, placed_text, surplus};
+ghost use Rattle.shown_text.specs.Digits.{among_places, piece_in_place, places_behind, in_places};
+ghost use Rattle.shown_text.specs.Digits.{place_count, first_place, last_place, is_grouped};
+ghost use Rattle.shown_text.specs.Digits.{own_texts, with_digits, hidden_places};
+ghost use Rattle.shown_text.specs.Digits.{fraction_character, fraction_piece, fraction_places};
+ghost use Rattle.shown_text.specs.Digits.{before_point, after_point, whole_text, behind_text};
+ghost use Rattle.shown_text.specs.Digits.{laid_out};
 ghost use Rattle.shown_text.specs.GivenDigits.{digits_in};
 
 use crate::given_digits::Digits;
@@ -44,7 +44,7 @@ fn push_placed(
     requires { IfSome character (λ c. c < 128) }
     ensures ok { OnOk result
         (string_bytes out.new ≡ string_bytes out.old ++ placed_text grouped place character) }
-    ensures err { OnErr result (Extends (string_bytes out.old) (string_bytes out.new)) }
+    ensures err { OnErr result (AddsBehind (string_bytes out.old) (string_bytes out.new)) }
 {
     let Some(character) = character else {
         return Ok(());
@@ -65,7 +65,7 @@ fn push_surplus(
 ) -> Result<(), AllocError>
     ensures ok { OnOk result (string_bytes out.new ≡ string_bytes out.old
         ++ surplus grouped (digits_in digits.now) places (length (digits_in digits.now))) }
-    ensures err { OnErr result (Extends (string_bytes out.old) (string_bytes out.new)) }
+    ensures err { OnErr result (AddsBehind (string_bytes out.old) (string_bytes out.new)) }
 {
     let mut left = digits.len();
     while left > places {
@@ -79,7 +79,7 @@ fn push_surplus(
 pub fn push_own(out: &mut String, piece: CodePiece) -> Result<(), AllocError>
     ensures ok { OnOk result
         (string_bytes out.new ≡ string_bytes out.old ++ own_text piece) }
-    ensures err { OnErr result (Extends (string_bytes out.old) (string_bytes out.new)) }
+    ensures err { OnErr result (AddsBehind (string_bytes out.old) (string_bytes out.new)) }
 {
     match piece {
         CodePiece::Literal(c) | CodePiece::Figure(c) => out.push(c),
@@ -95,7 +95,7 @@ pub fn push_own(out: &mut String, piece: CodePiece) -> Result<(), AllocError>
 pub fn push_among_places(out: &mut String, piece: CodePiece) -> Result<(), AllocError>
     ensures ok { OnOk result
         (string_bytes out.new ≡ string_bytes out.old ++ among_places piece) }
-    ensures err { OnErr result (Extends (string_bytes out.old) (string_bytes out.new)) }
+    ensures err { OnErr result (AddsBehind (string_bytes out.old) (string_bytes out.new)) }
 {
     if piece.is_comma() {
         return Ok(());
@@ -107,7 +107,7 @@ pub fn push_among_places(out: &mut String, piece: CodePiece) -> Result<(), Alloc
 pub fn push_own_texts(out: &mut String, pieces: &[CodePiece]) -> Result<(), AllocError>
     ensures ok { OnOk result
         (string_bytes out.new ≡ string_bytes out.old ++ own_texts pieces.now) }
-    ensures err { OnErr result (Extends (string_bytes out.old) (string_bytes out.new)) }
+    ensures err { OnErr result (AddsBehind (string_bytes out.old) (string_bytes out.new)) }
 {
     for piece in pieces {
         push_own(out, *piece)?;
@@ -126,7 +126,7 @@ fn push_in_place(
 ) -> Result<(), AllocError>
     ensures ok { OnOk result (string_bytes out.new ≡ string_bytes out.old
         ++ piece_in_place grouped (digits_in digits.now) forced place piece) }
-    ensures err { OnErr result (Extends (string_bytes out.old) (string_bytes out.new)) }
+    ensures err { OnErr result (AddsBehind (string_bytes out.old) (string_bytes out.new)) }
 {
     match piece {
         CodePiece::Digit(filler) => {
@@ -148,7 +148,7 @@ fn push_in_places(
 ) -> Result<(), AllocError>
     ensures ok { OnOk result (string_bytes out.new ≡ string_bytes out.old
         ++ in_places grouped (digits_in digits.now) forced places pieces.now) }
-    ensures err { OnErr result (Extends (string_bytes out.old) (string_bytes out.new)) }
+    ensures err { OnErr result (AddsBehind (string_bytes out.old) (string_bytes out.new)) }
 {
     let mut left = places;
     let mut forced = forced;
@@ -231,7 +231,7 @@ pub fn push_with_digits(
 ) -> Result<(), AllocError>
     ensures ok { OnOk result (string_bytes out.new ≡ string_bytes out.old
         ++ with_digits grouped forced front.now (digits_in digits.now) pieces.now) }
-    ensures err { OnErr result (Extends (string_bytes out.old) (string_bytes out.new)) }
+    ensures err { OnErr result (AddsBehind (string_bytes out.old) (string_bytes out.new)) }
 {
     let places = place_count(pieces);
     let (before, from) = pieces.split_at(first_place(pieces));
@@ -243,7 +243,7 @@ pub fn push_with_digits(
 
 /// How many places stand behind the last `0`.
 fn unforced_places(pieces: &[CodePiece]) -> usize
-    ensures { result ≡ place_count (after_last is_zero pieces.now) }
+    ensures { result ≡ place_count (after_last is_zero_place pieces.now) }
 {
     let mut last = pieces.len();
     while last > 0 && !pieces[last - 1].is_zero() {
@@ -285,7 +285,7 @@ fn push_fraction_piece(
 ) -> Result<(), AllocError>
     ensures ok { OnOk result (string_bytes out.new ≡ string_bytes out.old
         ++ fraction_piece (digits_in digits.now) hidden place piece) }
-    ensures err { OnErr result (Extends (string_bytes out.old) (string_bytes out.new)) }
+    ensures err { OnErr result (AddsBehind (string_bytes out.old) (string_bytes out.new)) }
 {
     match piece {
         CodePiece::Digit(filler) => {
@@ -308,7 +308,7 @@ fn push_fraction_places(
 ) -> Result<(), AllocError>
     ensures ok { OnOk result (string_bytes out.new ≡ string_bytes out.old
         ++ fraction_places (digits_in digits.now) hidden places pieces.now) }
-    ensures err { OnErr result (Extends (string_bytes out.old) (string_bytes out.new)) }
+    ensures err { OnErr result (AddsBehind (string_bytes out.old) (string_bytes out.new)) }
 {
     let mut left = places;
     for piece in pieces {
@@ -320,7 +320,7 @@ fn push_fraction_places(
 
 /// How many pieces stand before the point.
 fn point_place(section: &[CodePiece]) -> usize
-    ensures value { result ≡ position_or_len is_point section.now }
+    ensures value { result ≡ position_or_len is_point_piece section.now }
     ensures within { result ≤ length section.now }
 {
     let mut place = 0;
@@ -349,7 +349,7 @@ pub fn after_point(section: &[CodePiece]) -> &[CodePiece]
 
 /// Whether there is a point.
 fn has_point(section: &[CodePiece]) -> bool
-    ensures { result ≡ has is_point section.now }
+    ensures { result ≡ has is_point_piece section.now }
 {
     section.iter().any(|piece| piece.is_point())
 }
@@ -364,7 +364,7 @@ fn push_whole(
 ) -> Result<(), AllocError>
     ensures ok { OnOk result (string_bytes out.new ≡ string_bytes out.old
         ++ whole_text shows_digits forced (digits_in digits.now) before.now) }
-    ensures err { OnErr result (Extends (string_bytes out.old) (string_bytes out.new)) }
+    ensures err { OnErr result (AddsBehind (string_bytes out.old) (string_bytes out.new)) }
 {
     if has_places(before) {
         return push_with_digits(out, is_grouped(before), forced, "", digits, before);
@@ -385,7 +385,7 @@ fn push_behind(
 ) -> Result<(), AllocError>
     ensures ok { OnOk result (string_bytes out.new ≡ string_bytes out.old
         ++ behind_text shows_digits (digits_in digits.now) after.now) }
-    ensures err { OnErr result (Extends (string_bytes out.old) (string_bytes out.new)) }
+    ensures err { OnErr result (AddsBehind (string_bytes out.old) (string_bytes out.new)) }
 {
     if !shows_digits {
         return push_own_texts(out, after);
@@ -409,7 +409,7 @@ pub fn push_laid_out(
 ) -> Result<(), AllocError>
     ensures ok { OnOk result (string_bytes out.new ≡ string_bytes out.old
         ++ laid_out forced (digits_in digits.now) section.now) }
-    ensures err { OnErr result (Extends (string_bytes out.old) (string_bytes out.new)) }
+    ensures err { OnErr result (AddsBehind (string_bytes out.old) (string_bytes out.new)) }
 {
     let after = after_point(section);
     let whole = digits.without_last(place_count(after));

@@ -1,8 +1,7 @@
 //! The parts of a section of fractions.
 ghost use Rattle.std.specs.Prelude.{◌≡◌, ◌-◌, ◌≤◌, length, not};
 ghost use Rattle.std.specs.List.{position_or_len, prefix_len};
-ghost use Rattle.format_codes.specs.Kinds.{is_denominator};
-ghost use Rattle.format_codes.specs.Pieces.{is_slash};
+ghost use Rattle.format_codes.specs.Words.{is_denominator, is_slash_piece};
 ghost use Rattle.shown_text.specs.FractionTexts.{last_run};
 
 use crate::digits::{has_places, last_place};
@@ -28,7 +27,7 @@ pub struct GivenParts<'a> {
 
 /// How many pieces stand before the slash.
 fn slash_place(section: &[CodePiece]) -> usize
-    ensures value { result ≡ position_or_len is_slash section.now }
+    ensures value { result ≡ position_or_len is_slash_piece section.now }
     ensures within { result ≤ length section.now }
 {
     let mut place = 0;
@@ -83,11 +82,11 @@ fn denominator_len(pieces: &[CodePiece]) -> usize
 
 impl GivenParts<'_> {
     ghost use Rattle.shown_text.specs.FractionTexts.{fraction_parts, parts_around};
-    ghost use Rattle.shown_text.specs.GivenParts.{parts_in};
+    ghost use Rattle.shown_text.specs.GivenParts.{part_pieces};
 
     /// The parts by what stands before and behind the slash.
     fn around<'a>(front: &'a [CodePiece], back: &'a [CodePiece]) -> GivenParts<'a>
-        ensures { parts_in result ≡ parts_around front.now back.now }
+        ensures { part_pieces result ≡ parts_around front.now back.now }
     {
         let (to_last_place, before) = front.split_at(last_place(front));
         let (before_numerator, over) = to_last_place.split_at(run_place(to_last_place));
@@ -112,7 +111,7 @@ impl GivenParts<'_> {
 
     /// The parts of a section.
     pub fn of(section: &[CodePiece]) -> GivenParts<'_>
-        ensures { parts_in result ≡ fraction_parts section.now }
+        ensures { part_pieces result ≡ fraction_parts section.now }
     {
         let (front, from) = section.split_at(slash_place(section));
         let (_, back) = from.split_at(from.len().min(1));

@@ -3,14 +3,15 @@
 ghost use Rattle.std.specs.Prelude.{◌≡◌, ◌<◌, ◌≤◌, ◌^◌, ◌++◌, ◌∷◌, ◌==◌, length, ℕ, pos};
 ghost use Rattle.std.specs.Prelude.{string_bytes, OnOk, OnErr};
 ghost use Rattle.std.specs.Fmt.{decimal};
-ghost use Rattle.escaped_text.specs.Escaped.{Extends};
+ghost use Rattle.escaped_text.specs.Escaped.{AddsBehind};
 ghost use Rattle.shown_text.specs.GivenDigits.{digits_in};
-ghost use Rattle.shown_text.specs.GivenParts.{parts_in};
+ghost use Rattle.shown_text.specs.GivenParts.{part_pieces};
 ghost use Rattle.shown_text.specs.FractionTexts.{whole_digits, slashed, has_space_place};
-ghost use Rattle.shown_text.specs.FractionTexts.{no_fraction, whole_text, is_whole_gone, gap_text};
-ghost use Rattle.shown_text.specs.FractionTexts.{in_place_of_whole, whole_front, mixed, carried};
-ghost use Rattle.shown_text.specs.FractionTexts.{mixed_digits, slash_text, front_gap, back_gap};
-ghost use Rattle.shown_text.specs.FractionTexts.{parted, unparted, parts_text, fraction_text};
+ghost use Rattle.shown_text.specs.FractionTexts.{no_fraction, whole_part_text, is_whole_gone};
+ghost use Rattle.shown_text.specs.FractionTexts.{gap_text, in_place_of_whole, whole_front, mixed};
+ghost use Rattle.shown_text.specs.FractionTexts.{carried, mixed_digits, slash_text, front_gap};
+ghost use Rattle.shown_text.specs.FractionTexts.{back_gap, unit_parts, unparted, parts_text};
+ghost use Rattle.shown_text.specs.FractionTexts.{fraction_shown};
 
 use crate::digits::{has_places, is_grouped, place_count, push_with_digits};
 use crate::fraction_parts::GivenParts;
@@ -27,8 +28,8 @@ use std::alloc::AllocError;
 /// Appends the slash with what stands on either side of it.
 fn push_slash(out: &mut String, parts: &GivenParts) -> Result<(), AllocError>
     ensures ok { OnOk result (string_bytes out.new ≡ string_bytes out.old
-        ++ slash_text (parts_in parts.now)) }
-    ensures err { OnErr result (Extends (string_bytes out.old) (string_bytes out.new)) }
+        ++ slash_text (part_pieces parts.now)) }
+    ensures err { OnErr result (AddsBehind (string_bytes out.old) (string_bytes out.new)) }
 {
     push_between(out, parts.before)?;
     out.push_str("/")?;
@@ -43,8 +44,8 @@ fn push_slashed(
     under: u128,
 ) -> Result<(), AllocError>
     ensures ok { OnOk result (string_bytes out.new ≡ string_bytes out.old
-        ++ slashed (parts_in parts.now) (digits_in over.now) under) }
-    ensures err { OnErr result (Extends (string_bytes out.old) (string_bytes out.new)) }
+        ++ slashed (part_pieces parts.now) (digits_in over.now) under) }
+    ensures err { OnErr result (AddsBehind (string_bytes out.old) (string_bytes out.new)) }
 {
     push_with_digits(out, false, false, "", over, parts.over)?;
     push_slash(out, parts)?;
@@ -58,8 +59,8 @@ fn push_fraction_of(
     fraction: Fraction,
 ) -> Result<(), AllocError>
     ensures ok { OnOk result (string_bytes out.new ≡ string_bytes out.old
-        ++ slashed (parts_in parts.now) (decimal fraction.over) fraction.under) }
-    ensures err { OnErr result (Extends (string_bytes out.old) (string_bytes out.new)) }
+        ++ slashed (part_pieces parts.now) (decimal fraction.over) fraction.under) }
+    ensures err { OnErr result (AddsBehind (string_bytes out.old) (string_bytes out.new)) }
 {
     let mut buffer = Buffer::new();
     let text = buffer.format(fraction.over);
@@ -69,7 +70,7 @@ fn push_fraction_of(
 /// Whether a place of the whole number, of the numerator, or of a denominator that isn't given is
 /// `?`.
 fn has_space_place(parts: &GivenParts) -> bool
-    ensures { result ≡ has_space_place (parts_in parts.now) }
+    ensures { result ≡ has_space_place (part_pieces parts.now) }
 {
     has_space(parts.whole)
         || has_space(parts.over)
@@ -79,8 +80,8 @@ fn has_space_place(parts: &GivenParts) -> bool
 /// Appends the spaces in place of what stands before a slash.
 fn push_front_gap(out: &mut String, parts: &GivenParts) -> Result<(), AllocError>
     ensures ok { OnOk result (string_bytes out.new ≡ string_bytes out.old
-        ++ front_gap (parts_in parts.now)) }
-    ensures err { OnErr result (Extends (string_bytes out.old) (string_bytes out.new)) }
+        ++ front_gap (part_pieces parts.now)) }
+    ensures err { OnErr result (AddsBehind (string_bytes out.old) (string_bytes out.new)) }
 {
     push_width(out, parts.between)?;
     push_width(out, parts.over)?;
@@ -90,8 +91,8 @@ fn push_front_gap(out: &mut String, parts: &GivenParts) -> Result<(), AllocError
 /// Appends the spaces in place of a slash and what stands behind it.
 fn push_back_gap(out: &mut String, parts: &GivenParts) -> Result<(), AllocError>
     ensures ok { OnOk result (string_bytes out.new ≡ string_bytes out.old
-        ++ back_gap (parts_in parts.now)) }
-    ensures err { OnErr result (Extends (string_bytes out.old) (string_bytes out.new)) }
+        ++ back_gap (part_pieces parts.now)) }
+    ensures err { OnErr result (AddsBehind (string_bytes out.old) (string_bytes out.new)) }
 {
     out.push_str(" ")?;
     push_width(out, parts.behind)?;
@@ -101,8 +102,8 @@ fn push_back_gap(out: &mut String, parts: &GivenParts) -> Result<(), AllocError>
 /// Appends the spaces in place of a fraction of 0.
 fn push_no_fraction(out: &mut String, parts: &GivenParts) -> Result<(), AllocError>
     ensures ok { OnOk result (string_bytes out.new ≡ string_bytes out.old
-        ++ no_fraction (parts_in parts.now)) }
-    ensures err { OnErr result (Extends (string_bytes out.old) (string_bytes out.new)) }
+        ++ no_fraction (part_pieces parts.now)) }
+    ensures err { OnErr result (AddsBehind (string_bytes out.old) (string_bytes out.new)) }
 {
     if !has_space_place(parts) {
         return Ok(());
@@ -118,15 +119,15 @@ fn push_whole_places(
     digits: &Digits,
 ) -> Result<(), AllocError>
     ensures ok { OnOk result (string_bytes out.new ≡ string_bytes out.old
-        ++ whole_text (parts_in parts.now) (digits_in digits.now)) }
-    ensures err { OnErr result (Extends (string_bytes out.old) (string_bytes out.new)) }
+        ++ whole_part_text (part_pieces parts.now) (digits_in digits.now)) }
+    ensures err { OnErr result (AddsBehind (string_bytes out.old) (string_bytes out.new)) }
 {
     push_with_digits(out, is_grouped(parts.whole), false, "", digits, parts.whole)
 }
 
 /// Whether a whole number that is 0 isn't shown.
 fn is_whole_gone(parts: &GivenParts, over: u128) -> bool
-    ensures { result ≡ is_whole_gone (parts_in parts.now) over }
+    ensures { result ≡ is_whole_gone (part_pieces parts.now) over }
 {
     if over == 0 {
         place_count(parts.whole) == 1 && has_empty(parts.whole)
@@ -138,8 +139,8 @@ fn is_whole_gone(parts: &GivenParts, over: u128) -> bool
 /// Appends the spaces in place of what stands behind a whole number.
 fn push_gap(out: &mut String, parts: &GivenParts) -> Result<(), AllocError>
     ensures ok { OnOk result (string_bytes out.new ≡ string_bytes out.old
-        ++ gap_text (parts_in parts.now)) }
-    ensures err { OnErr result (Extends (string_bytes out.old) (string_bytes out.new)) }
+        ++ gap_text (part_pieces parts.now)) }
+    ensures err { OnErr result (AddsBehind (string_bytes out.old) (string_bytes out.new)) }
 {
     if has_space(parts.whole) {
         out.push_str(" ")?;
@@ -154,8 +155,8 @@ fn push_gap(out: &mut String, parts: &GivenParts) -> Result<(), AllocError>
 /// Appends what stands in place of a whole number.
 fn push_in_place_of_whole(out: &mut String, parts: &GivenParts) -> Result<(), AllocError>
     ensures ok { OnOk result (string_bytes out.new ≡ string_bytes out.old
-        ++ in_place_of_whole (parts_in parts.now)) }
-    ensures err { OnErr result (Extends (string_bytes out.old) (string_bytes out.new)) }
+        ++ in_place_of_whole (part_pieces parts.now)) }
+    ensures err { OnErr result (AddsBehind (string_bytes out.old) (string_bytes out.new)) }
 {
     let (places, _) = parts.whole.split_at(parts.whole.len().saturating_sub(1));
     push_with_digits(
@@ -178,8 +179,8 @@ fn push_whole_front(
     over: u128,
 ) -> Result<(), AllocError>
     ensures ok { OnOk result (string_bytes out.new ≡ string_bytes out.old
-        ++ whole_front (parts_in parts.now) (digits_in digits.now) is_zero over) }
-    ensures err { OnErr result (Extends (string_bytes out.old) (string_bytes out.new)) }
+        ++ whole_front (part_pieces parts.now) (digits_in digits.now) is_zero over) }
+    ensures err { OnErr result (AddsBehind (string_bytes out.old) (string_bytes out.new)) }
 {
     if is_zero && is_whole_gone(parts, over) {
         return push_in_place_of_whole(out, parts);
@@ -197,8 +198,8 @@ fn push_mixed_digits(
     fraction: Fraction,
 ) -> Result<(), AllocError>
     ensures ok { OnOk result (string_bytes out.new ≡ string_bytes out.old
-        ++ mixed_digits (parts_in parts.now) (digits_in digits.now) is_zero fraction) }
-    ensures err { OnErr result (Extends (string_bytes out.old) (string_bytes out.new)) }
+        ++ mixed_digits (part_pieces parts.now) (digits_in digits.now) is_zero fraction) }
+    ensures err { OnErr result (AddsBehind (string_bytes out.old) (string_bytes out.new)) }
 {
     if fraction.over == 0 && !has_zero(parts.over) {
         push_whole_places(out, parts, digits)?;
@@ -218,8 +219,8 @@ fn push_mixed(
 ) -> Result<(), AllocError>
     requires { zeros < 2 ^ 62 }
     ensures ok { OnOk result (string_bytes out.new ≡ string_bytes out.old
-        ++ mixed (parts_in parts.now) whole zeros fraction) }
-    ensures err { OnErr result (Extends (string_bytes out.old) (string_bytes out.new)) }
+        ++ mixed (part_pieces parts.now) whole zeros fraction) }
+    ensures err { OnErr result (AddsBehind (string_bytes out.old) (string_bytes out.new)) }
 {
     if whole == 0 {
         return push_mixed_digits(
@@ -247,8 +248,8 @@ fn push_carried(
 ) -> Result<(), AllocError>
     requires { whole ≤ 10 ^ 15 }
     ensures ok { OnOk result (string_bytes out.new ≡ string_bytes out.old
-        ++ carried (parts_in parts.now) whole fraction) }
-    ensures err { OnErr result (Extends (string_bytes out.old) (string_bytes out.new)) }
+        ++ carried (part_pieces parts.now) whole fraction) }
+    ensures err { OnErr result (AddsBehind (string_bytes out.old) (string_bytes out.new)) }
 {
     if fraction.over == fraction.under {
         return push_mixed(out, parts, whole + 1, 0, Fraction::empty(parts.under));
@@ -267,8 +268,8 @@ fn push_parted(
     requires some { 0 < unit }
     requires unit { unit ≤ 10 ^ 30 }
     ensures ok { OnOk result (string_bytes out.new ≡ string_bytes out.old
-        ++ parted (parts_in parts.now) number unit) }
-    ensures err { OnErr result (Extends (string_bytes out.old) (string_bytes out.new)) }
+        ++ unit_parts (part_pieces parts.now) number unit) }
+    ensures err { OnErr result (AddsBehind (string_bytes out.old) (string_bytes out.new)) }
 {
     if has_places(parts.whole) {
         let fraction = Fraction::found(parts.under, number % unit, unit);
@@ -288,8 +289,8 @@ fn push_improper(
 ) -> Result<(), AllocError>
     requires { zeros < 2 ^ 62 }
     ensures ok { OnOk result (string_bytes out.new ≡ string_bytes out.old
-        ++ slashed (parts_in parts.now) (whole_digits number zeros) under) }
-    ensures err { OnErr result (Extends (string_bytes out.old) (string_bytes out.new)) }
+        ++ slashed (part_pieces parts.now) (whole_digits number zeros) under) }
+    ensures err { OnErr result (AddsBehind (string_bytes out.old) (string_bytes out.new)) }
 {
     if number == 0 {
         return push_slashed(
@@ -317,8 +318,8 @@ fn push_unparted(
     requires number { number ≤ 10 ^ 15 }
     requires zeros { zeros < 2 ^ 62 }
     ensures ok { OnOk result (string_bytes out.new ≡ string_bytes out.old
-        ++ unparted (parts_in parts.now) number zeros) }
-    ensures err { OnErr result (Extends (string_bytes out.old) (string_bytes out.new)) }
+        ++ unparted (part_pieces parts.now) number zeros) }
+    ensures err { OnErr result (AddsBehind (string_bytes out.old) (string_bytes out.new)) }
 {
     let fraction = Fraction::empty(parts.under);
     if has_places(parts.whole) {
@@ -332,8 +333,8 @@ fn push_unparted(
 #[tactic(auto, using(crate::proofs::FractionSteps::size_steps))]
 fn push_parts(out: &mut String, parts: &GivenParts, size: Size) -> Result<(), AllocError>
     ensures ok { OnOk result (string_bytes out.new ≡ string_bytes out.old
-        ++ parts_text (parts_in parts.now) size.number size.power) }
-    ensures err { OnErr result (Extends (string_bytes out.old) (string_bytes out.new)) }
+        ++ parts_text (part_pieces parts.now) size.number size.power) }
+    ensures err { OnErr result (AddsBehind (string_bytes out.old) (string_bytes out.new)) }
 {
     let places = size.power.unsigned_abs();
     if size.power >= 0 {
@@ -346,11 +347,11 @@ fn push_parts(out: &mut String, parts: &GivenParts, size: Size) -> Result<(), Al
 }
 
 /// Appends a size in a section of fractions.
-#[tactic(auto, unfolding(crate::specs::FractionTexts::fraction_text))]
+#[tactic(auto, unfolding(crate::specs::FractionTexts::fraction_shown))]
 pub fn push_fraction(out: &mut String, section: &[CodePiece], size: Size) -> Result<(), AllocError>
     ensures ok { OnOk result (string_bytes out.new ≡ string_bytes out.old
-        ++ fraction_text section.now size.number size.power) }
-    ensures err { OnErr result (Extends (string_bytes out.old) (string_bytes out.new)) }
+        ++ fraction_shown section.now size.number size.power) }
+    ensures err { OnErr result (AddsBehind (string_bytes out.old) (string_bytes out.new)) }
 {
     let parts = GivenParts::of(section);
     push_parts(out, &parts, size)?;

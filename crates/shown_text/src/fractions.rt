@@ -3,12 +3,11 @@ ghost use Rattle.std.specs.Prelude.{◌≡◌, ◌+◌, ◌-◌, ◌*◌, ◌<�
 ghost use Rattle.std.specs.Prelude.{string_bytes, false, [], OnOk, OnErr};
 ghost use Rattle.std.specs.Fmt.{decimal};
 ghost use Rattle.std.specs.List.{fold};
-ghost use Rattle.escaped_text.specs.Escaped.{Extends};
-ghost use Rattle.format_codes.specs.Kinds.{is_fixed};
-ghost use Rattle.format_codes.specs.Pieces.{has, is_zero};
+ghost use Rattle.escaped_text.specs.Escaped.{AddsBehind};
+ghost use Rattle.format_codes.specs.Words.{is_fixed, has, is_zero_place};
 ghost use Rattle.shown_text.specs.Digits.{with_digits};
-ghost use Rattle.shown_text.specs.FractionPlaces.{is_space_place, is_empty_place, has_width};
-ghost use Rattle.shown_text.specs.FractionPlaces.{width, spaces, texts_between, filled_text};
+ghost use Rattle.shown_text.specs.FractionPlaces.{is_space_place, is_empty_place, has_width, width};
+ghost use Rattle.shown_text.specs.FractionPlaces.{spaces, texts_between, filled_text};
 ghost use Rattle.shown_text.specs.FractionPlaces.{denominator_text};
 ghost use Rattle.shown_text.specs.FractionArithmetic.{nearest_over, distance, figure_value};
 ghost use Rattle.shown_text.specs.FractionArithmetic.{fixed_denominator, most_denominator};
@@ -219,7 +218,7 @@ pub fn has_empty(pieces: &[CodePiece]) -> bool
 
 /// Whether a place is `0`.
 pub fn has_zero(pieces: &[CodePiece]) -> bool
-    ensures { result ≡ has is_zero pieces.now }
+    ensures { result ≡ has is_zero_place pieces.now }
 {
     pieces.iter().any(|piece| piece.is_zero())
 }
@@ -242,7 +241,7 @@ fn has_width(piece: CodePiece) -> bool
 /// Appends so many spaces.
 pub fn push_spaces(out: &mut String, count: usize) -> Result<(), AllocError>
     ensures ok { OnOk result (string_bytes out.new ≡ string_bytes out.old ++ spaces count) }
-    ensures err { OnErr result (Extends (string_bytes out.old) (string_bytes out.new)) }
+    ensures err { OnErr result (AddsBehind (string_bytes out.old) (string_bytes out.new)) }
 {
     for _ in 0..count {
         out.push_str(" ")?;
@@ -254,7 +253,7 @@ pub fn push_spaces(out: &mut String, count: usize) -> Result<(), AllocError>
 pub fn push_width(out: &mut String, pieces: &[CodePiece]) -> Result<(), AllocError>
     ensures ok { OnOk result
         (string_bytes out.new ≡ string_bytes out.old ++ spaces (width pieces.now)) }
-    ensures err { OnErr result (Extends (string_bytes out.old) (string_bytes out.new)) }
+    ensures err { OnErr result (AddsBehind (string_bytes out.old) (string_bytes out.new)) }
 {
     push_spaces(
         out,
@@ -266,7 +265,7 @@ pub fn push_width(out: &mut String, pieces: &[CodePiece]) -> Result<(), AllocErr
 pub fn push_between(out: &mut String, pieces: &[CodePiece]) -> Result<(), AllocError>
     ensures ok { OnOk result
         (string_bytes out.new ≡ string_bytes out.old ++ texts_between pieces.now) }
-    ensures err { OnErr result (Extends (string_bytes out.old) (string_bytes out.new)) }
+    ensures err { OnErr result (AddsBehind (string_bytes out.old) (string_bytes out.new)) }
 {
     for piece in pieces {
         push_among_places(out, *piece)?;
@@ -278,7 +277,7 @@ pub fn push_between(out: &mut String, pieces: &[CodePiece]) -> Result<(), AllocE
 pub fn push_decimal(out: &mut String, number: u128, pieces: &[CodePiece]) -> Result<(), AllocError>
     ensures ok { OnOk result (string_bytes out.new ≡ string_bytes out.old
         ++ with_digits false false [] (decimal number) pieces.now) }
-    ensures err { OnErr result (Extends (string_bytes out.old) (string_bytes out.new)) }
+    ensures err { OnErr result (AddsBehind (string_bytes out.old) (string_bytes out.new)) }
 {
     let mut buffer = Buffer::new();
     let text = buffer.format(number);
@@ -289,7 +288,7 @@ pub fn push_decimal(out: &mut String, number: u128, pieces: &[CodePiece]) -> Res
 fn push_filled(out: &mut String, under: &[CodePiece], number: u128) -> Result<(), AllocError>
     ensures ok { OnOk result (string_bytes out.new ≡ string_bytes out.old
         ++ filled_text under.now number) }
-    ensures err { OnErr result (Extends (string_bytes out.old) (string_bytes out.new)) }
+    ensures err { OnErr result (AddsBehind (string_bytes out.old) (string_bytes out.new)) }
 {
     let places = under.iter().filter(|piece| is_space_place(**piece)).count();
     let mut buffer = Buffer::new();
@@ -306,7 +305,7 @@ pub fn push_denominator(
 ) -> Result<(), AllocError>
     ensures ok { OnOk result (string_bytes out.new ≡ string_bytes out.old
         ++ denominator_text under.now number) }
-    ensures err { OnErr result (Extends (string_bytes out.old) (string_bytes out.new)) }
+    ensures err { OnErr result (AddsBehind (string_bytes out.old) (string_bytes out.new)) }
 {
     if is_fixed(under) {
         let mut buffer = Buffer::new();

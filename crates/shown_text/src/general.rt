@@ -3,10 +3,9 @@ ghost use Rattle.std.specs.Prelude.{◌≡◌, ◌++◌, ◌≤◌, ◌<◌, ◌
 ghost use Rattle.std.specs.Prelude.{length, nat_abs};
 ghost use Rattle.std.specs.Fmt.{sign_text};
 ghost use Rattle.std.specs.Str.{IsAscii};
-ghost use Rattle.escaped_text.specs.Escaped.{Extends};
-ghost use Rattle.decimals.specs.Decimal.{number_of};
-ghost use Rattle.decimals.specs.Decimals.{without_trailing_zeros};
-ghost use Rattle.excel_dates.specs.IsoText.{padded};
+ghost use Rattle.escaped_text.specs.Escaped.{AddsBehind};
+ghost use Rattle.decimals.specs.Words.{number_of, without_trailing_zeros};
+ghost use Rattle.excel_dates.specs.Words.{padded};
 ghost use Rattle.shown_text.specs.GeneralText.{behind_point, exponent_text, scientific, with_power};
 ghost use Rattle.shown_text.specs.GeneralText.{with_places, general_places, has_nine_places};
 ghost use Rattle.shown_text.specs.GeneralText.{first_power, general_size, general_text};
@@ -25,7 +24,7 @@ const SCIENTIFIC_DIGITS: usize = 6;
 pub fn push_sign(out: &mut String, is_negative: bool) -> Result<(), AllocError>
     ensures ok { OnOk result
         (string_bytes out.new ≡ string_bytes out.old ++ sign_text is_negative) }
-    ensures err { OnErr result (Extends (string_bytes out.old) (string_bytes out.new)) }
+    ensures err { OnErr result (AddsBehind (string_bytes out.old) (string_bytes out.new)) }
 {
     if is_negative {
         out.push_str("-")?;
@@ -37,7 +36,7 @@ pub fn push_sign(out: &mut String, is_negative: bool) -> Result<(), AllocError>
 fn push_behind_point(out: &mut String, digits: &str) -> Result<(), AllocError>
     ensures ok { OnOk result
         (string_bytes out.new ≡ string_bytes out.old ++ behind_point digits.now) }
-    ensures err { OnErr result (Extends (string_bytes out.old) (string_bytes out.new)) }
+    ensures err { OnErr result (AddsBehind (string_bytes out.old) (string_bytes out.new)) }
 {
     if digits.is_empty() {
         return Ok(());
@@ -49,7 +48,7 @@ fn push_behind_point(out: &mut String, digits: &str) -> Result<(), AllocError>
 fn push_exponent(out: &mut String, power: i64) -> Result<(), AllocError>
     ensures ok { OnOk result
         (string_bytes out.new ≡ string_bytes out.old ++ exponent_text power) }
-    ensures err { OnErr result (Extends (string_bytes out.old) (string_bytes out.new)) }
+    ensures err { OnErr result (AddsBehind (string_bytes out.old) (string_bytes out.new)) }
 {
     out.push_str(if power < 0 { "E-" } else { "E+" })?;
     let mut buffer = Buffer::new();
@@ -66,7 +65,7 @@ fn push_with_power(out: &mut String, digits: &str, power: i64) -> Result<(), All
     requires near { nat_abs power < 2 ^ 33 }
     ensures ok { OnOk result
         (string_bytes out.new ≡ string_bytes out.old ++ with_power digits.now power) }
-    ensures err { OnErr result (Extends (string_bytes out.old) (string_bytes out.new)) }
+    ensures err { OnErr result (AddsBehind (string_bytes out.old) (string_bytes out.new)) }
 {
     let (first, others) = digits.split_at(1);
     out.push_str(first)?;
@@ -79,7 +78,7 @@ fn push_with_power(out: &mut String, digits: &str, power: i64) -> Result<(), All
 fn push_scientific(out: &mut String, size: Size) -> Result<(), AllocError>
     ensures ok { OnOk result (string_bytes out.new
         ≡ string_bytes out.old ++ scientific size.number size.power) }
-    ensures err { OnErr result (Extends (string_bytes out.old) (string_bytes out.new)) }
+    ensures err { OnErr result (AddsBehind (string_bytes out.old) (string_bytes out.new)) }
 {
     let behind = digit_count(size.number).saturating_sub(SCIENTIFIC_DIGITS);
     let mut buffer = Buffer::new();
@@ -91,7 +90,7 @@ fn push_scientific(out: &mut String, size: Size) -> Result<(), AllocError>
 fn push_places(out: &mut String, rest: u128, places: usize) -> Result<(), AllocError>
     ensures ok { OnOk result (string_bytes out.new
         ≡ string_bytes out.old ++ behind_point (without_trailing_zeros (padded places rest))) }
-    ensures err { OnErr result (Extends (string_bytes out.old) (string_bytes out.new)) }
+    ensures err { OnErr result (AddsBehind (string_bytes out.old) (string_bytes out.new)) }
 {
     if rest == 0 {
         return Ok(());
@@ -109,7 +108,7 @@ fn push_with_places(out: &mut String, number: u128, places: u32) -> Result<(), A
     requires { places ≤ 9 }
     ensures ok { OnOk result
         (string_bytes out.new ≡ string_bytes out.old ++ with_places places number) }
-    ensures err { OnErr result (Extends (string_bytes out.old) (string_bytes out.new)) }
+    ensures err { OnErr result (AddsBehind (string_bytes out.old) (string_bytes out.new)) }
 {
     let unit = 10u128.pow(places);
     let mut buffer = Buffer::new();
@@ -156,7 +155,7 @@ fn general_places(size: Size) -> Option<u32>
 pub fn push_size(out: &mut String, size: Size) -> Result<(), AllocError>
     ensures ok { OnOk result (string_bytes out.new
         ≡ string_bytes out.old ++ general_size size.number size.power) }
-    ensures err { OnErr result (Extends (string_bytes out.old) (string_bytes out.new)) }
+    ensures err { OnErr result (AddsBehind (string_bytes out.old) (string_bytes out.new)) }
 {
     if size.number == 0 {
         return out.push_str("0");
@@ -179,7 +178,7 @@ pub fn push_size(out: &mut String, size: Size) -> Result<(), AllocError>
 pub fn push_general(out: &mut String, number: &Decimal) -> Result<(), AllocError>
     ensures ok { OnOk result (string_bytes out.new
         ≡ string_bytes out.old ++ general_text (number_of number.now)) }
-    ensures err { OnErr result (Extends (string_bytes out.old) (string_bytes out.new)) }
+    ensures err { OnErr result (AddsBehind (string_bytes out.old) (string_bytes out.new)) }
 {
     push_sign(out, number.mantissa() < 0)?;
     push_size(out, Size::of(number))

@@ -1,7 +1,7 @@
 //! The digits of a whole number, of which the last are zeros that are only counted.
 ghost use Rattle.std.specs.Prelude.{◌≡◌, ◌<◌, ◌≤◌, ◌^◌, length, nat_abs, IfSome};
 ghost use Rattle.std.specs.Str.{IsAscii};
-ghost use Rattle.decimals.specs.Decimals.{without_trailing_zeros};
+ghost use Rattle.decimals.specs.Words.{without_trailing_zeros};
 
 use excel_dates::push_zeros;
 use std::alloc::AllocError;
@@ -31,8 +31,8 @@ pub fn without_trailing_zeros(digits: &str) -> &str
 
 impl Digits<'_> {
     ghost use Rattle.std.specs.Prelude.{◌-◌, ◌++◌, take, string_bytes, OnOk, OnErr};
-    ghost use Rattle.escaped_text.specs.Escaped.{Extends};
-    ghost use Rattle.decimals.specs.Decimals.{trailing_zeros};
+    ghost use Rattle.escaped_text.specs.Escaped.{AddsBehind};
+    ghost use Rattle.decimals.specs.Words.{trailing_zeros};
     ghost use Rattle.shown_text.specs.Digits.{digit_at};
     ghost use Rattle.shown_text.specs.GivenDigits.{digits_in};
 
@@ -85,7 +85,7 @@ impl Digits<'_> {
     pub fn push_to(&self, out: &mut String) -> Result<(), AllocError>
         ensures ok { OnOk result
             (string_bytes out.new ≡ string_bytes out.old ++ digits_in self.now) }
-        ensures err { OnErr result (Extends (string_bytes out.old) (string_bytes out.new)) }
+        ensures err { OnErr result (AddsBehind (string_bytes out.old) (string_bytes out.new)) }
     {
         out.push_str(self.text)?;
         push_zeros(out, self.zeros)

@@ -2,11 +2,9 @@
 ghost use Rattle.std.specs.Prelude.{◌≡◌, ◌<◌, ◌*◌, ◌^◌, ◌*ℤ◌, ℕ, ℤ, Bool, List, false, None, pos};
 ghost use Rattle.std.specs.Prelude.{nat_abs};
 ghost use Rattle.std.specs.Fmt.{signed_decimal};
-ghost use Rattle.cell_data.specs.CellError.{cell_error_text};
-ghost use Rattle.cell_data.specs.CellValue.{number, text, failure};
+ghost use Rattle.cell_data.specs.Words.{cell_error_text, number, text, failure};
 ghost use Rattle.cell_data.specs.declared.value.CellErrorType.{CellErrorType};
-ghost use Rattle.format_codes.specs.Choosing.{is_supported, text_section};
-ghost use Rattle.format_codes.specs.Sections.{shown_sections};
+ghost use Rattle.format_codes.specs.Words.{is_supported, text_section, shown_sections};
 ghost use Rattle.shown_text.specs.GeneralText.{general_text};
 ghost use Rattle.shown_text.specs.ShownText.{shown_text};
 

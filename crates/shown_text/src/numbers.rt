@@ -3,16 +3,14 @@
 ghost use Rattle.std.specs.Prelude.{◌≡◌, ◌+◌, ◌<◌, ◌≤◌, ◌^◌, ◌++◌, ◌==◌, length, nat_abs, drop};
 ghost use Rattle.std.specs.Prelude.{string_bytes, OnOk, OnErr, count_by, ◌+ℤ◌};
 ghost use Rattle.std.specs.List.{before_first, position_or_len};
-ghost use Rattle.escaped_text.specs.Escaped.{Extends};
-ghost use Rattle.format_codes.specs.Pieces.{is_exponent, is_percent};
-ghost use Rattle.shown_text.specs.Digits.{laid_out};
+ghost use Rattle.escaped_text.specs.Escaped.{AddsBehind};
+ghost use Rattle.format_codes.specs.Words.{is_exponent, is_percent};
+ghost use Rattle.shown_text.specs.Digits.{laid_out, nearest_digits, digits_above_0};
 ghost use Rattle.shown_text.specs.GivenDigits.{digits_in};
-ghost use Rattle.shown_text.specs.Digits.{nearest_digits, digits_above_0};
 ghost use Rattle.shown_text.specs.NumberTexts.{commas_behind, thousands, scale, number_power};
 ghost use Rattle.shown_text.specs.NumberTexts.{whole_steps, front_places, power_over, overflows};
-ghost use Rattle.shown_text.specs.NumberTexts.{shown_power, power_sign, power_behind};
-ghost use Rattle.shown_text.specs.NumberTexts.{number_text, power_in, power_front, power_parts};
-ghost use Rattle.shown_text.specs.NumberTexts.{power_text};
+ghost use Rattle.shown_text.specs.NumberTexts.{shown_power, power_sign, power_behind, size_shown};
+ghost use Rattle.shown_text.specs.NumberTexts.{power_in, power_front, power_parts, power_text};
 
 use crate::digits::{
     after_point, before_point, has_places, last_place, place_count, push_laid_out, push_with_digits,
@@ -75,7 +73,7 @@ fn push_nearest(
     requires near { nat_abs power < 2 ^ 62 }
     ensures ok { OnOk result (string_bytes out.new ≡ string_bytes out.old
         ++ laid_out forced (nearest_digits number power) section.now) }
-    ensures err { OnErr result (Extends (string_bytes out.old) (string_bytes out.new)) }
+    ensures err { OnErr result (AddsBehind (string_bytes out.old) (string_bytes out.new)) }
 {
     let (whole, zeros) = nearest_whole(number, power);
     if whole == 0 {
@@ -108,12 +106,12 @@ fn number_power(section: &[CodePiece], power: i64) -> i64
 }
 
 /// Appends a size in a section of numbers.
-#[tactic(auto, unfolding(crate::specs::NumberTexts::number_text))]
+#[tactic(auto, unfolding(crate::specs::NumberTexts::size_shown))]
 pub fn push_number(out: &mut String, section: &[CodePiece], size: Size) -> Result<(), AllocError>
     requires { length section.now ≤ 2 ^ 32 }
     ensures ok { OnOk result (string_bytes out.new ≡ string_bytes out.old
-        ++ number_text section.now size.number size.power) }
-    ensures err { OnErr result (Extends (string_bytes out.old) (string_bytes out.new)) }
+        ++ size_shown section.now size.number size.power) }
+    ensures err { OnErr result (AddsBehind (string_bytes out.old) (string_bytes out.new)) }
 {
     push_nearest(
         out,
@@ -202,7 +200,7 @@ fn power_sign(plus: bool, power: i64) -> &'static str
 fn push_power_behind(out: &mut String, pieces: &[CodePiece], power: i64) -> Result<(), AllocError>
     ensures ok { OnOk result
         (string_bytes out.new ≡ string_bytes out.old ++ power_behind pieces.now power) }
-    ensures err { OnErr result (Extends (string_bytes out.old) (string_bytes out.new)) }
+    ensures err { OnErr result (AddsBehind (string_bytes out.old) (string_bytes out.new)) }
 {
     let Some((CodePiece::Exponent(letter, plus), behind)) = pieces.split_first() else {
         return Ok(());
@@ -250,7 +248,7 @@ fn push_power_front(
     requires over { nat_abs over < 2 ^ 35 }
     ensures ok { OnOk result (string_bytes out.new ≡ string_bytes out.old
         ++ power_front front.now size.number size.power over) }
-    ensures err { OnErr result (Extends (string_bytes out.old) (string_bytes out.new)) }
+    ensures err { OnErr result (AddsBehind (string_bytes out.old) (string_bytes out.new)) }
 {
     let power = power_over(front, size.power, over);
     push_nearest(out, size.number == 0, size.number, power, front)
@@ -266,7 +264,7 @@ fn push_power_parts(
     requires { length front.now ≤ 2 ^ 32 }
     ensures ok { OnOk result (string_bytes out.new ≡ string_bytes out.old
         ++ power_parts front.now behind.now size.number size.power) }
-    ensures err { OnErr result (Extends (string_bytes out.old) (string_bytes out.new)) }
+    ensures err { OnErr result (AddsBehind (string_bytes out.old) (string_bytes out.new)) }
 {
     let power = power_in(front, size);
     push_power_front(out, front, size, power)?;
@@ -279,7 +277,7 @@ pub fn push_power(out: &mut String, section: &[CodePiece], size: Size) -> Result
     requires { length section.now ≤ 2 ^ 32 }
     ensures ok { OnOk result (string_bytes out.new ≡ string_bytes out.old
         ++ power_text section.now size.number size.power) }
-    ensures err { OnErr result (Extends (string_bytes out.old) (string_bytes out.new)) }
+    ensures err { OnErr result (AddsBehind (string_bytes out.old) (string_bytes out.new)) }
 {
     let (front, behind) = section.split_at(exponent_place(section));
     push_power_parts(out, front, behind, size)

@@ -1,10 +1,10 @@
 //! Numbers and texts in a section. A refusal may leave a front of what is appended behind.
 ghost use Rattle.std.specs.Prelude.{◌≡◌, ◌≤◌, ◌^◌, ◌++◌, length, string_bytes, OnOk, OnErr};
-ghost use Rattle.escaped_text.specs.Escaped.{Extends};
-ghost use Rattle.decimals.specs.Decimal.{number_of};
-ghost use Rattle.format_codes.specs.ShownFormats.{shown_by};
+ghost use Rattle.escaped_text.specs.Escaped.{AddsBehind};
+ghost use Rattle.decimals.specs.Words.{number_of};
+ghost use Rattle.format_codes.specs.Words.{shown_by};
 ghost use Rattle.shown_text.specs.ShownText.{general_piece, general_pieces, size_text, is_sized};
-ghost use Rattle.shown_text.specs.ShownText.{signed_text, sized_text, text_in, text_piece};
+ghost use Rattle.shown_text.specs.ShownText.{signed_text, sized_text, shown_by_section, text_piece};
 ghost use Rattle.shown_text.specs.ShownText.{text_pieces, truth_word};
 
 use crate::date_texts::push_date;
@@ -27,7 +27,7 @@ const MOST_PIECES: usize = 1 << 20;
 fn push_general_piece(out: &mut String, size: Size, piece: CodePiece) -> Result<(), AllocError>
     ensures ok { OnOk result (string_bytes out.new ≡ string_bytes out.old
         ++ general_piece size.number size.power piece) }
-    ensures err { OnErr result (Extends (string_bytes out.old) (string_bytes out.new)) }
+    ensures err { OnErr result (AddsBehind (string_bytes out.old) (string_bytes out.new)) }
 {
     if piece.is_general() {
         return push_size(out, size);
@@ -39,7 +39,7 @@ fn push_general_piece(out: &mut String, size: Size, piece: CodePiece) -> Result<
 fn push_general_pieces(out: &mut String, pieces: &[CodePiece], size: Size) -> Result<(), AllocError>
     ensures ok { OnOk result (string_bytes out.new ≡ string_bytes out.old
         ++ general_pieces pieces.now size.number size.power) }
-    ensures err { OnErr result (Extends (string_bytes out.old) (string_bytes out.new)) }
+    ensures err { OnErr result (AddsBehind (string_bytes out.old) (string_bytes out.new)) }
 {
     for piece in pieces {
         push_general_piece(out, size, *piece)?;
@@ -57,7 +57,7 @@ fn push_sized_pieces(
     requires { length pieces.now ≤ 2 ^ 20 }
     ensures ok { OnOk result (string_bytes out.new ≡ string_bytes out.old
         ++ size_text kind pieces.now size.number size.power) }
-    ensures err { OnErr result (Extends (string_bytes out.old) (string_bytes out.new)) }
+    ensures err { OnErr result (AddsBehind (string_bytes out.old) (string_bytes out.new)) }
 {
     match kind {
         SectionKind::General => push_general_pieces(out, pieces, size),
@@ -85,7 +85,7 @@ fn push_signed(
     requires { length section.now.pieces.now ≤ 2 ^ 20 }
     ensures ok { OnOk result (string_bytes out.new ≡ string_bytes out.old
         ++ signed_text (shown_by section.now) is_below size.number size.power) }
-    ensures err { OnErr result (Extends (string_bytes out.old) (string_bytes out.new)) }
+    ensures err { OnErr result (AddsBehind (string_bytes out.old) (string_bytes out.new)) }
 {
     if section.pieces.len() == 0 {
         return Ok(());
@@ -99,7 +99,7 @@ fn push_signed(
 fn push_sized(out: &mut String, section: &ChosenSection, number: &Decimal) -> Result<(), AllocError>
     ensures ok { OnOk result (string_bytes out.new ≡ string_bytes out.old
         ++ sized_text (shown_by section.now) (number_of number.now)) }
-    ensures err { OnErr result (Extends (string_bytes out.old) (string_bytes out.new)) }
+    ensures err { OnErr result (AddsBehind (string_bytes out.old) (string_bytes out.new)) }
 {
     let size = Size::of(number);
     if !is_sized(section, size.power) {
@@ -116,8 +116,9 @@ pub fn push_in_section(
     number: &Decimal,
 ) -> Result<(), AllocError>
     ensures ok { OnOk result (string_bytes out.new ≡ string_bytes out.old
-        ++ text_in is_1904 section.now.kind (shown_by section.now) (number_of number.now)) }
-    ensures err { OnErr result (Extends (string_bytes out.old) (string_bytes out.new)) }
+        ++ shown_by_section is_1904 section.now.kind (shown_by section.now)
+        (number_of number.now)) }
+    ensures err { OnErr result (AddsBehind (string_bytes out.old) (string_bytes out.new)) }
 {
     match section.kind {
         SectionKind::Date => {
@@ -131,7 +132,7 @@ pub fn push_in_section(
 fn push_text_piece(out: &mut String, text: &str, piece: CodePiece) -> Result<(), AllocError>
     ensures ok { OnOk result (string_bytes out.new ≡ string_bytes out.old
         ++ text_piece text.now piece) }
-    ensures err { OnErr result (Extends (string_bytes out.old) (string_bytes out.new)) }
+    ensures err { OnErr result (AddsBehind (string_bytes out.old) (string_bytes out.new)) }
 {
     if piece.is_text_place() || piece.is_general() {
         return out.push_str(text);
@@ -147,7 +148,7 @@ pub fn push_text_pieces(
 ) -> Result<(), AllocError>
     ensures ok { OnOk result (string_bytes out.new ≡ string_bytes out.old
         ++ text_pieces text.now pieces.now) }
-    ensures err { OnErr result (Extends (string_bytes out.old) (string_bytes out.new)) }
+    ensures err { OnErr result (AddsBehind (string_bytes out.old) (string_bytes out.new)) }
 {
     for piece in pieces {
         push_text_piece(out, text, *piece)?;

@@ -1,13 +1,10 @@
 //! The text of a value under a code. A refusal may leave a front of what is appended behind.
 ghost use Rattle.std.specs.Prelude.{◌≡◌, ◌++◌, ℕ, List, string_bytes, pos, OnOk, OnErr};
-ghost use Rattle.escaped_text.specs.Escaped.{Extends};
-ghost use Rattle.decimals.specs.Decimal.{number_of};
-ghost use Rattle.decimals.specs.Decimals.{decimal_from};
-ghost use Rattle.cell_data.specs.CellValue.{value_of_data};
-ghost use Rattle.excel_dates.specs.Moments.{moment_of, is_told};
-ghost use Rattle.excel_dates.specs.IsoText.{iso_text};
-ghost use Rattle.format_codes.specs.Choosing.{number_section, text_section_in};
-ghost use Rattle.format_codes.specs.ShownFormats.{IsFormatOf};
+ghost use Rattle.escaped_text.specs.Escaped.{AddsBehind};
+ghost use Rattle.decimals.specs.Words.{number_of, decimal_from};
+ghost use Rattle.cell_data.specs.Words.{value_of_data};
+ghost use Rattle.excel_dates.specs.Words.{moment_of, has_moment, iso_text};
+ghost use Rattle.format_codes.specs.Words.{number_section, text_section_in, IsFormatOf};
 ghost use Rattle.shown_text.specs.ShownText.{text_in_section, number_or_general, integer_shown};
 ghost use Rattle.shown_text.specs.ShownText.{text_shown, days_otherwise, number_shown, shown_text};
 
@@ -29,7 +26,7 @@ fn push_in_its_section(
     ensures ok { OnOk result ((code : List ℕ) → IsFormatOf code format.now
         → string_bytes out.new ≡ string_bytes out.old ++ text_in_section is_1904
         (number_of number.now) (number_section code (number_of number.now))) }
-    ensures err { OnErr result (Extends (string_bytes out.old) (string_bytes out.new)) }
+    ensures err { OnErr result (AddsBehind (string_bytes out.old) (string_bytes out.new)) }
 {
     match format.section_for(*number) {
         Some(section) => push_in_section(out, is_1904, &section, number),
@@ -47,7 +44,7 @@ fn push_number_shown(
     ensures ok { OnOk result ((code : List ℕ) → IsFormatOf code format.now
         → string_bytes out.new ≡ string_bytes out.old
         ++ number_or_general is_1904 code (number_of number.now)) }
-    ensures err { OnErr result (Extends (string_bytes out.old) (string_bytes out.new)) }
+    ensures err { OnErr result (AddsBehind (string_bytes out.old) (string_bytes out.new)) }
 {
     if !format.is_supported() {
         return push_general(out, number);
@@ -65,7 +62,7 @@ fn push_integer_shown(
     ensures ok { OnOk result ((code : List ℕ) → IsFormatOf code format.now
         → string_bytes out.new ≡ string_bytes out.old
         ++ integer_shown is_1904 code number (decimal_from (number, pos 0))) }
-    ensures err { OnErr result (Extends (string_bytes out.old) (string_bytes out.new)) }
+    ensures err { OnErr result (AddsBehind (string_bytes out.old) (string_bytes out.new)) }
 {
     match Decimal::from_parts(i128::from(number), 0) {
         Some(decimal) => push_number_shown(out, format, is_1904, &decimal),
@@ -80,9 +77,9 @@ fn push_integer_shown(
 fn push_days_otherwise(out: &mut String, date: &ExcelDateTime) -> Result<(), AllocError>
     ensures ok { OnOk result (string_bytes out.new ≡ string_bytes out.old
         ++ days_otherwise (number_of date.now.value) date.now.kind date.now.is_1904) }
-    ensures err { OnErr result (Extends (string_bytes out.old) (string_bytes out.new)) }
+    ensures err { OnErr result (AddsBehind (string_bytes out.old) (string_bytes out.new)) }
 {
-    if date.is_told() {
+    if date.has_moment() {
         return date.push_iso(out);
     }
     push_general(out, &date.value)
@@ -98,7 +95,7 @@ fn push_days_shown(
         → string_bytes out.new ≡ string_bytes out.old
         ++ number_shown date.now.is_1904 code (number_of date.now.value)
         (days_otherwise (number_of date.now.value) date.now.kind date.now.is_1904)) }
-    ensures err { OnErr result (Extends (string_bytes out.old) (string_bytes out.new)) }
+    ensures err { OnErr result (AddsBehind (string_bytes out.old) (string_bytes out.new)) }
 {
     if !format.is_supported() {
         return push_days_otherwise(out, date);
@@ -110,7 +107,7 @@ fn push_days_shown(
 fn push_text_shown(out: &mut String, format: &ShownFormat, text: &str) -> Result<(), AllocError>
     ensures ok { OnOk result ((code : List ℕ) → IsFormatOf code format.now
         → string_bytes out.new ≡ string_bytes out.old ++ text_shown code text.now) }
-    ensures err { OnErr result (Extends (string_bytes out.old) (string_bytes out.new)) }
+    ensures err { OnErr result (AddsBehind (string_bytes out.old) (string_bytes out.new)) }
 {
     match format.text_section() {
         Some(pieces) => push_text_pieces(out, text, pieces),
@@ -135,7 +132,7 @@ pub fn push_shown(
     ensures ok { OnOk result ((code : List ℕ) → IsFormatOf code format.now
         → string_bytes out.new ≡ string_bytes out.old
         ++ shown_text is_1904 code (value_of_data value.now)) }
-    ensures err { OnErr result (Extends (string_bytes out.old) (string_bytes out.new)) }
+    ensures err { OnErr result (AddsBehind (string_bytes out.old) (string_bytes out.new)) }
 {
     match value {
         Data::Int(number) => push_integer_shown(out, format, is_1904, *number),

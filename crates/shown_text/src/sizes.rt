@@ -1,8 +1,7 @@
 //! A number without its sign, by fifteen significant digits.
 ghost use Rattle.std.specs.Prelude.{◌≡◌, ◌+◌, ◌^◌, ◌<◌, ◌≤◌, length, nat_abs, SomeIff};
-ghost use Rattle.decimals.specs.Decimal.{number_of};
-ghost use Rattle.decimals.specs.Rounding.{digit_count, digits_behind, nearest};
-ghost use Rattle.excel_dates.specs.Serials.{nearest_at};
+ghost use Rattle.decimals.specs.Words.{number_of, digit_count, digits_behind, nearest};
+ghost use Rattle.excel_dates.specs.Words.{nearest_at};
 ghost use Rattle.shown_text.specs.Digits.{digits_above_0, nearest_digits};
 ghost use Rattle.shown_text.specs.GeneralText.{shown_digits, first_power};
 

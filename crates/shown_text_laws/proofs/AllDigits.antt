@@ -1,24 +1,21 @@
 -- What numbers are written by: digits, and around them no comma.
 use Rattle.std.proofs.Common.{◌≡◌, ◌++◌, ◌+◌, ◌-◌, ◌/◌, ◌%◌, ◌<◌, ◌==◌, ℕ, zero, suc, ℤ, pos}
-use Rattle.std.proofs.Common.{negsuc}
-use Rattle.std.proofs.Common.{Bool, true, false, cond, List, [], ◌∷◌, Option, Some, None, length}
-use Rattle.std.proofs.Common.{take}
-use Rattle.std.proofs.Common.{drop, replicate, refl, ap, arith, not}
+use Rattle.std.proofs.Common.{negsuc, Bool, true, false, cond, List, [], ◌∷◌, Option, Some, None}
+use Rattle.std.proofs.Common.{length, take, drop, replicate, refl, ap, arith, not}
 use Rattle.std.specs.Prelude.{nat_lt, nat_abs, ◌+ℤ◌, ◌^◌}
-use Rattle.decimals.specs.Rounding.{digits_behind, nearest}
-use Rattle.excel_dates.specs.Serials.{nearest_at}
+use Rattle.decimals.specs.Words.{digits_behind, nearest, without_trailing_zeros, trailing_zeros}
+use Rattle.excel_dates.specs.Words.{nearest_at, padded}
 use Rattle.std.specs.Fmt.{decimal, digits, digits_onto, digit_glyph, sign_text}
 use Rattle.std.specs.Int.{is_negative}
 use Rattle.std.specs.List.{All}
 use Rattle.std.proofs.lemmas.List.Elements.{All-nil, All-cons, All-append, All-replicate, All-take}
 use Rattle.std.proofs.lemmas.List.Elements.{All-drop}
 use Rattle.std.proofs.lemmas.Bool.Decides.{nat_tests}
-use Rattle.decimals.specs.Decimals.{without_trailing_zeros, trailing_zeros}
-use Rattle.excel_dates.specs.IsoText.{padded}
-use Rattle.shown_text.specs.Digits.{digits_above_0, nearest_digits}
-use Rattle.shown_text.specs.GeneralText.{behind_point, exponent_sign, exponent_text, with_power}
-use Rattle.shown_text.specs.GeneralText.{scientific, with_places, general_places, text_in_places}
-use Rattle.shown_text.specs.GeneralText.{general_size, general_text, shown_digits, first_power}
+use Rattle.shown_text.specs.Words.{digits_above_0, nearest_digits, behind_point, exponent_sign}
+use Rattle.shown_text.specs.Words.{exponent_text, with_power, scientific, with_places}
+use Rattle.shown_text.specs.Words.{general_places, text_in_places, general_size, shown_digits}
+use Rattle.shown_text.specs.Words.{first_power}
+use Rattle.shown_text.specs.GeneralText.{general_text}
 use Rattle.shown_text_laws.specs.NumberCodes.{without_commas}
 
 -- a digit, or a byte behind these

@@ -1,26 +1,24 @@
 -- Which section shows a value.
 use Rattle.std.proofs.Common.{◌≡◌, ◌∙◌, ℕ, ℤ, List, [], ◌∷◌, Bool, true, false, codes, refl, ap}
-use Rattle.std.proofs.Common.{sym}
-use Rattle.std.proofs.Common.{rules, zero, suc, ◌++◌, length, pos, not, ◌&&◌, ◌==◌}
+use Rattle.std.proofs.Common.{sym, rules, zero, suc, ◌++◌, length, pos, not, ◌&&◌, ◌==◌}
 use Rattle.std.specs.Prelude.{nat_abs, if◌then◌else◌}
 use Rattle.std.specs.Fmt.{sign_text}
 use Rattle.std.specs.Int.{is_negative}
-use Rattle.cell_data.specs.CellValue.{number, text}
+use Rattle.cell_data.specs.Words.{number, text}
 use Rattle.format_codes.specs.declared.piece.CodePiece.{CodePiece}
-use Rattle.decimals.specs.Decimals.{with_sign}
-use Rattle.decimals.specs.Rounding.{digits_behind, nearest, rounded_number}
-use Rattle.format_codes.specs.Choosing.{ShownSection, is_supported, chosen, number_section}
-use Rattle.format_codes.specs.Choosing.{section_for}
-use Rattle.format_codes.specs.Choosing.{text_section_in}
-use Rattle.format_codes.specs.Sections.{pieces}
-use Rattle.shown_text.specs.ShownText.{shown_text, text_in_section, is_sized, sized_text}
-use Rattle.shown_text.specs.ShownText.{signed_text, size_text}
-use Rattle.shown_text.specs.GeneralText.{shown_digits}
+use Rattle.decimals.specs.Words.{with_sign, digits_behind, nearest}
+use Rattle.decimals.specs.Rounding.{rounded_number}
+use Rattle.format_codes.specs.Words.{ShownSection, chosen, section_for}
+use Rattle.format_codes.specs.Choosing.{is_supported, number_section, text_section_in}
+use Rattle.format_codes.specs.Sections.{code_pieces}
+use Rattle.shown_text.specs.Words.{text_in_section, is_sized, sized_text, signed_text, size_text}
+use Rattle.shown_text.specs.Words.{shown_digits}
+use Rattle.shown_text.specs.ShownText.{shown_text}
 use Rattle.shown_text_laws.specs.TwoSections.{HasTwoSections}
 
 pub text_at_its_place : (is_1904 : Bool) (bytes : List ℕ)
     → shown_text is_1904 (codes "@") (text bytes) ≡ bytes
-unfolding shown_text text_section_in is_supported pieces
+unfolding shown_text text_section_in is_supported code_pieces
 text_at_its_place is_1904 bytes = search rules
 
 module _ (is_1904 : Bool) (code : List ℕ) (first second : List CodePiece) (exact : ℤ × ℤ)

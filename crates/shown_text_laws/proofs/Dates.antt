@@ -1,33 +1,31 @@
 -- Dates and times as they are shown.
 use Rattle.shown_text_laws.proofs.Tests.{and_true, both_hold, is_within}
-use Rattle.std.proofs.Common.{◌≡◌, ◌∙◌, ◌++◌, ◌*◌, ◌/◌, ◌%◌, ◌<◌, ◌≤◌, ◌&&◌, ◌||◌, ◌==◌, ℕ, ℤ}
-use Rattle.std.proofs.Common.{Bool, true, false, not, List, [], ◌∷◌, Option, Some, None, codes}
-use Rattle.std.proofs.Common.{refl, ap, arith, append-nil, length, replicate, ◌-◌}
+use Rattle.std.proofs.Common.{◌≡◌, ◌∙◌, ◌++◌, ◌*◌, ◌/◌, ◌%◌, ◌<◌, ◌≤◌, ◌&&◌, ◌||◌, ◌==◌, ℕ, ℤ, Bool}
+use Rattle.std.proofs.Common.{true, false, not, List, [], ◌∷◌, Option, Some, None, codes, refl, ap}
+use Rattle.std.proofs.Common.{arith, append-nil, length, replicate, ◌-◌}
 use lib.Utf8.{encode}
 use Rattle.std.specs.Prelude.{nat_lt, nat_le, ◌^◌}
 use Rattle.std.specs.Fmt.{decimal, sign_text}
 use Rattle.std.specs.Int.{is_negative}
 use Rattle.std.proofs.lemmas.Bool.Decides.{nat_tests}
-use Rattle.cell_data.specs.CellValue.{number}
-use Rattle.decimals.specs.Rounding.{nearest}
+use Rattle.cell_data.specs.Words.{number}
+use Rattle.decimals.specs.Words.{nearest}
 use Rattle.excel_dates.proofs.SerialSteps.{by_true, by_false, not_less}
-use Rattle.excel_dates.specs.CalendarDates.{date_of_day, first_day, last_day}
-use Rattle.excel_dates.specs.IsoText.{date_text, padded}
-use Rattle.excel_dates.specs.Serials.{day_length, is_below, milliseconds_of}
+use Rattle.excel_dates.specs.Words.{date_of_day, first_day, last_day, date_text, padded, day_length}
+use Rattle.excel_dates.specs.Words.{is_below, milliseconds_of}
 use Rattle.format_codes.specs.Choosing.{is_supported, number_section}
+use Rattle.format_codes.specs.Kinds.{section_kind}
+use Rattle.format_codes.specs.Sections.{code_pieces}
+use Rattle.format_codes.specs.TimedPieces.{timed_pieces}
 use Rattle.format_codes.specs.declared.piece.CodePiece.{CodePiece}
 use Rattle.format_codes.specs.declared.piece.CodePiece.TheVariants as piece
 use Rattle.format_codes.specs.declared.piece.TimeUnit.TheVariants.{Year, Month, Day, Hour, Minute}
 use Rattle.format_codes.specs.declared.piece.TimeUnit.TheVariants.{Second}
-use Rattle.format_codes.specs.Kinds.{kind_of}
-use Rattle.format_codes.specs.Sections.{pieces}
-use Rattle.format_codes.specs.TimedPieces.{timed_pieces}
 use Rattle.shown_text.specs.DateTexts as shown
-use Rattle.shown_text.specs.DateTexts.{date_text as shown_date_text}
-use Rattle.shown_text.specs.GeneralText.{general_text}
-use Rattle.shown_text.proofs.SizeSteps.{some_digits}
-use Rattle.shown_text.specs.DateTexts.{longest_time, shown_time, pieces_at, shown_date}
+use Rattle.shown_text.specs.Words.{general_text, longest_time, shown_time, pieces_at, shown_date}
+use Rattle.shown_text.specs.DateTexts.{date_shown as shown_date_text}
 use Rattle.shown_text.specs.ShownText.{shown_text}
+use Rattle.shown_text.proofs.SizeSteps.{some_digits}
 use Rattle.shown_text_laws.specs.ReadTimes.{IsTimeOf}
 
 abbrev iso_pieces : List CodePiece
@@ -42,14 +40,14 @@ clock_pieces =
 
 under_iso : (is_1904 : Bool) (days : ℤ × ℤ)
     → shown_text is_1904 (codes "yyyy-mm-dd") (number days)
-    ≡ shown.date_text is_1904 iso_pieces false days
-unfolding shown_text number_section is_supported pieces kind_of timed_pieces
+    ≡ shown.date_shown is_1904 iso_pieces false days
+unfolding shown_text number_section is_supported code_pieces section_kind timed_pieces
 under_iso is_1904 days = refl
 
 under_clock : (is_1904 : Bool) (days : ℤ × ℤ)
     → shown_text is_1904 (codes "[h]:mm:ss.000") (number days)
-    ≡ shown.date_text is_1904 clock_pieces false days
-unfolding shown_text number_section is_supported pieces kind_of timed_pieces
+    ≡ shown.date_shown is_1904 clock_pieces false days
+unfolding shown_text number_section is_supported code_pieces section_kind timed_pieces
 under_clock is_1904 days = refl
 
 last_bound : (is_1904 : Bool) → last_day is_1904 ≤ 2958465
@@ -120,7 +118,7 @@ dates is_1904 days above first last =
     ap (λ b. (b && not (ms == 0)) && true) above in
     under_iso is_1904 days
     ∙ ap (shown.text_if_told is_1904 iso_pieces (is_below days && true) days) (iso_told days few)
-    ∙ ap (λ below. shown.text_at is_1904 iso_pieces below days ms) positive
+    ∙ ap (λ below. shown.shown_with_sign is_1904 iso_pieces below days ms) positive
     ∙ by_true (shown.has_time is_1904 iso_pieces false ms)
     (pieces_at (shown_time is_1904 iso_pieces ms) iso_pieces) (general_text days)
     (both_hold (is_1904 || true) (nat_le day (last_day is_1904)) (or_true is_1904)

@@ -1,9 +1,9 @@
 -- The pieces in front of a text are those in front of it with `;` and more behind it.
 use Rattle.excel_dates.proofs.SerialSteps.{by_true, is_less}
-use Rattle.std.proofs.Common.{◌≡◌, ◌∙◌, ◌++◌, ◌+◌, ◌<◌, ◌≤◌, ◌&&◌, ◌||◌, ◌==◌, ℕ, suc, Bool}
-use Rattle.std.proofs.Common.{true, false, cond, List, [], ◌∷◌, Option, Some, None, codes, length}
-use Rattle.std.proofs.Common.{take, not, get_or, refl, sym, ap, subst, arith, rules, ◌⊎◌, inl, inr}
-use Rattle.std.proofs.Common.{◌≢◌, eqb}
+use Rattle.std.proofs.Common.{◌≡◌, ◌∙◌, ◌++◌, ◌+◌, ◌<◌, ◌≤◌, ◌&&◌, ◌||◌, ◌==◌, ℕ, suc, Bool, true}
+use Rattle.std.proofs.Common.{false, cond, List, [], ◌∷◌, Option, Some, None, codes, length, take}
+use Rattle.std.proofs.Common.{not, get_or, refl, sym, ap, subst, arith, rules, ◌⊎◌, inl, inr, ◌≢◌}
+use Rattle.std.proofs.Common.{eqb}
 use Rattle.std.specs.Prelude.{nat_lt}
 use Rattle.std.specs.Char.{to_ascii_lowercase}
 use Rattle.std.specs.List.{prefix_len, position_or_len, before_first, list_any, list_all}
@@ -15,12 +15,11 @@ use Rattle.format_codes.specs.declared.piece.CodePiece.{CodePiece}
 use Rattle.format_codes.specs.declared.piece.CodePiece.TheVariants as piece
 use Rattle.format_codes.specs.declared.piece.HalfDay.TheVariants.{Words, Letters}
 use Rattle.format_codes.specs.declared.piece.TimeUnit.{TimeUnit}
-use Rattle.format_codes.specs.Groups.{begins, date_unit, literal_pieces, group_pieces}
-use Rattle.format_codes.specs.Sections.{PiecesInFront, one, size_behind, character_size}
-use Rattle.format_codes.specs.Sections.{first_character, quoted_in_front, group_in_front}
-use Rattle.format_codes.specs.Sections.{unit_in_front, unit_or_other, half_day_or_other}
-use Rattle.format_codes.specs.Sections.{letter_in_front, sign_or_letter, sign_piece}
-use Rattle.format_codes.specs.Sections.{pieces_in_front}
+use Rattle.format_codes.specs.Words.{begins, date_unit, literal_pieces, group_pieces, PiecesInFront}
+use Rattle.format_codes.specs.Words.{one, size_behind, character_size, first_character}
+use Rattle.format_codes.specs.Words.{quoted_in_front, group_in_front, unit_in_front, unit_or_other}
+use Rattle.format_codes.specs.Words.{half_day_or_other, letter_in_front, sign_or_letter, sign_piece}
+use Rattle.format_codes.specs.Words.{pieces_in_front}
 use Rattle.shown_text_laws.specs.JoinedCodes.{stays_open}
 
 -- how many elements pass in front, where one behind them doesn't

@@ -1,24 +1,22 @@
 -- Commas only group.
 use Rattle.std.proofs.Common.{◌≡◌, ◌∙◌, ◌++◌, ◌&&◌, ◌-◌, ℕ, ℤ, Bool, true, false, cond, List, []}
-use Rattle.std.proofs.Common.{◌∷◌, codes}
-use Rattle.std.proofs.Common.{length, take, ap, sym}
+use Rattle.std.proofs.Common.{◌∷◌, codes, length, take, ap, sym}
 use Rattle.std.specs.Prelude.{nat_abs, nat_le}
 use Rattle.std.specs.Fmt.{sign_text}
 use Rattle.std.specs.Int.{is_negative}
 use Rattle.std.specs.List.{All}
 use Rattle.std.proofs.lemmas.List.Elements.{All-take}
-use Rattle.cell_data.specs.CellValue.{number}
+use Rattle.cell_data.specs.Words.{number}
 use Rattle.format_codes.specs.declared.piece.CodePiece.TheVariants as piece
 use Rattle.format_codes.specs.declared.piece.Filler.TheVariants.{Zero, Nothing}
-use Rattle.shown_text.specs.Digits.{laid_out, nearest_digits, with_digits, behind_text}
-use Rattle.shown_text.specs.GeneralText.{general_text, shown_digits}
-use Rattle.shown_text.specs.NumberTexts.{number_text, number_power}
-use Rattle.shown_text.specs.ShownText.{shown_text, most_power}
+use Rattle.shown_text.specs.Words.{laid_out, nearest_digits, with_digits, behind_text, general_text}
+use Rattle.shown_text.specs.Words.{shown_digits, number_power, shown_text, most_power}
+use Rattle.shown_text.specs.NumberTexts.{size_shown}
 use Rattle.shown_text_laws.specs.NumberCodes.{without_commas}
 use Rattle.shown_text_laws.proofs.AllDigits.{IsFigure, plain_general, plain_sign, nearest_figures}
 use Rattle.shown_text_laws.proofs.AllDigits.{without_none, plain_figures}
-use Rattle.shown_text_laws.proofs.Literals.{two_places, two_places_grouped}
-use Rattle.shown_text_laws.proofs.Literals.{under_grouped, under_two_places}
+use Rattle.shown_text_laws.proofs.Literals.{two_places, two_places_grouped, under_grouped}
+use Rattle.shown_text_laws.proofs.Literals.{under_two_places}
 use Rattle.shown_text_laws.proofs.Places.{whole_kept, behind_figures, without_both}
 
 laid_grouped : (ds : List ℕ) → All IsFigure ds
@@ -33,8 +31,8 @@ laid_grouped ds all =
     (ap (λ rest. 46 ∷ rest) (without_none behind (plain_figures behind (behind_figures ds all))))
 
 number_grouped : (n : ℕ) (power : ℤ)
-    → without_commas (number_text two_places_grouped n power) ≡ number_text two_places n power
-unfolding number_text
+    → without_commas (size_shown two_places_grouped n power) ≡ size_shown two_places n power
+unfolding size_shown
 number_grouped n power =
     laid_grouped (nearest_digits n (number_power two_places power))
     (nearest_figures n (number_power two_places power))
@@ -52,10 +50,10 @@ grouped is_1904 exact =
     let power = (shown_digits exact).1 in
     let sign = sign_text (is_negative exact.0 && true) in
     ap without_commas (under_grouped is_1904 exact)
-    ∙ by_size (nat_le (nat_abs power) most_power) (sign ++ number_text two_places_grouped n power)
-    (sign ++ number_text two_places n power) (general_text exact)
-    (without_both sign (number_text two_places_grouped n power) sign
-    (number_text two_places n power)
+    ∙ by_size (nat_le (nat_abs power) most_power) (sign ++ size_shown two_places_grouped n power)
+    (sign ++ size_shown two_places n power) (general_text exact)
+    (without_both sign (size_shown two_places_grouped n power) sign
+    (size_shown two_places n power)
     (without_none sign (plain_sign (is_negative exact.0 && true))) (number_grouped n power))
     (without_none (general_text exact) (plain_general exact))
     ∙ sym (under_two_places is_1904 exact)

@@ -5,8 +5,8 @@ use Rattle.std.specs.List.{slice_split, onto_first}
 use Rattle.std.proofs.lemmas.List.Splits.{length-slice_split}
 use Rattle.format_codes.specs.declared.piece.CodePiece.{CodePiece}
 use Rattle.format_codes.specs.declared.piece.CodePiece.TheVariants as piece
-use Rattle.format_codes.specs.Pieces.{is_divider}
-use Rattle.format_codes.specs.Sections.{pieces, pieces_behind, pieces_in_front, sections}
+use Rattle.format_codes.specs.Words.{is_divider, code_pieces_behind, pieces_in_front}
+use Rattle.format_codes.specs.Sections.{code_pieces, sections}
 use Rattle.shown_text_laws.specs.JoinedCodes.{stays_open, leaves_open, leaves_open_behind}
 use Rattle.shown_text_laws.proofs.FrontKept.{front_kept}
 
@@ -16,8 +16,8 @@ neither false b none = (refl, none)
 
 -- the pieces of a text that leaves nothing open, with `;` and more behind it
 behind_kept : (skip : ℕ) (first second : List ℕ) → leaves_open_behind skip first ≡ false
-    → pieces_behind skip (first ++ 59 ∷ second)
-    ≡ pieces_behind skip first ++ piece.Divider ∷ pieces_behind 0 second
+    → code_pieces_behind skip (first ++ 59 ∷ second)
+    ≡ code_pieces_behind skip first ++ piece.Divider ∷ code_pieces_behind 0 second
 behind_kept zero [] second closed = refl
 behind_kept (suc skip) [] second closed = absurd (cc)
 behind_kept (suc skip) (b ∷ bs) second closed = behind_kept skip bs second closed
@@ -25,10 +25,11 @@ behind_kept zero (b ∷ bs) second closed =
     let each =
     neither (stays_open b bs) (leaves_open_behind (pieces_in_front b bs).size bs) closed in
     let front = pieces_in_front b bs in
-    ap (λ f. f.pieces ++ pieces_behind f.size (bs ++ 59 ∷ second)) (front_kept b bs second each.0)
+    ap (λ f. f.pieces ++ code_pieces_behind f.size (bs ++ 59 ∷ second))
+    (front_kept b bs second each.0)
     ∙ (ap (λ found. front.pieces ++ found) (behind_kept front.size bs second each.1)
-    ∙ sym (append_assoc front.pieces (pieces_behind front.size bs)
-    (piece.Divider ∷ pieces_behind 0 second)))
+    ∙ sym (append_assoc front.pieces (code_pieces_behind front.size bs)
+    (piece.Divider ∷ code_pieces_behind 0 second)))
 
 onto_joined : (first : CodePiece) (parts others : List (List CodePiece)) → 0 < length parts
     → onto_first first (parts ++ others) ≡ onto_first first parts ++ others
@@ -56,8 +57,9 @@ split_joined (p ∷ ps) second =
 
 pub joined : (first second : List ℕ) → leaves_open first ≡ false
     → sections (first ++ codes ";" ++ second) ≡ sections first ++ sections second
-unfolding sections pieces
+unfolding sections code_pieces
 joined first second closed =
-    ap (λ code. slice_split is_divider (pieces_behind 0 code)) (append_assoc first (59 ∷ []) second)
+    ap (λ code. slice_split is_divider (code_pieces_behind 0 code)) (append_assoc first (59
+    ∷ []) second)
     ∙ ap (slice_split is_divider) (behind_kept 0 first second closed)
-    ∙ split_joined (pieces first) (pieces second)
+    ∙ split_joined (code_pieces first) (code_pieces second)

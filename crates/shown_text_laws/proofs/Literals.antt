@@ -1,22 +1,22 @@
 -- What codes that are written out show of a number.
 use Rattle.excel_dates.proofs.SerialSteps.{by_true}
 use Rattle.shown_text_laws.proofs.Tests.{both_hold, is_within}
-use Rattle.std.proofs.Common.{◌≡◌, ℤ, List, [], ◌∷◌, Bool, true, false, codes}
-use Rattle.std.proofs.Common.{refl, length}
+use Rattle.std.proofs.Common.{◌≡◌, ℤ, List, [], ◌∷◌, Bool, true, false, codes, refl, length}
 use Rattle.std.specs.Prelude.{nat_abs, nat_le, pos, ◌+ℤ◌}
-use Rattle.decimals.specs.Rounding.{digits_behind, rounded_number}
+use Rattle.decimals.specs.Words.{digits_behind}
+use Rattle.decimals.specs.Rounding.{rounded_number}
 use Rattle.std.specs.Int.{is_negative}
-use Rattle.cell_data.specs.CellValue.{number}
-use Rattle.format_codes.specs.Choosing.{ShownSection, is_supported, number_section}
+use Rattle.cell_data.specs.Words.{number}
+use Rattle.format_codes.specs.Words.{ShownSection}
+use Rattle.format_codes.specs.Choosing.{is_supported, number_section}
+use Rattle.format_codes.specs.Kinds.{section_kind}
+use Rattle.format_codes.specs.Sections.{code_pieces}
 use Rattle.format_codes.specs.declared.kind.SectionKind.TheVariants as kind
 use Rattle.format_codes.specs.declared.piece.CodePiece.{CodePiece}
 use Rattle.format_codes.specs.declared.piece.CodePiece.TheVariants as piece
 use Rattle.format_codes.specs.declared.piece.Filler.TheVariants.{Zero, Nothing}
-use Rattle.format_codes.specs.Kinds.{kind_of}
-use Rattle.format_codes.specs.Sections.{pieces}
-use Rattle.shown_text.specs.GeneralText.{shown_digits}
-use Rattle.shown_text.specs.ShownText.{shown_text, is_sized, sized_text, signed_text}
-use Rattle.shown_text.specs.ShownText.{most_pieces}
+use Rattle.shown_text.specs.Words.{shown_digits, is_sized, sized_text, signed_text, most_pieces}
+use Rattle.shown_text.specs.ShownText.{shown_text}
 use Rattle.shown_text_laws.specs.NumberCodes.{IsShownBySection}
 
 -- a section of numbers without conditions
@@ -42,30 +42,30 @@ two_places_grouped =
 
 pub under_one_place : (is_1904 : Bool) (exact : ℤ × ℤ)
     → shown_text is_1904 (codes "0.0") (number exact) ≡ sized_text (section_of one_place) exact
-unfolding shown_text number_section is_supported pieces kind_of
+unfolding shown_text number_section is_supported code_pieces section_kind
 under_one_place is_1904 exact = refl
 
 pub under_percent : (is_1904 : Bool) (exact : ℤ × ℤ)
     → shown_text is_1904 (codes "0.0%") (number exact)
     ≡ sized_text (section_of one_place_percent) exact
-unfolding shown_text number_section is_supported pieces kind_of
+unfolding shown_text number_section is_supported code_pieces section_kind
 under_percent is_1904 exact = refl
 
 pub under_thousands : (is_1904 : Bool) (exact : ℤ × ℤ)
     → shown_text is_1904 (codes "0.0,") (number exact)
     ≡ sized_text (section_of one_place_thousands) exact
-unfolding shown_text number_section is_supported pieces kind_of
+unfolding shown_text number_section is_supported code_pieces section_kind
 under_thousands is_1904 exact = refl
 
 pub under_two_places : (is_1904 : Bool) (exact : ℤ × ℤ)
     → shown_text is_1904 (codes "0.00") (number exact) ≡ sized_text (section_of two_places) exact
-unfolding shown_text number_section is_supported pieces kind_of
+unfolding shown_text number_section is_supported code_pieces section_kind
 under_two_places is_1904 exact = refl
 
 pub under_grouped : (is_1904 : Bool) (exact : ℤ × ℤ)
     → shown_text is_1904 (codes "#,##0.00") (number exact)
     ≡ sized_text (section_of two_places_grouped) exact
-unfolding shown_text number_section is_supported pieces kind_of
+unfolding shown_text number_section is_supported code_pieces section_kind
 under_grouped is_1904 exact = refl
 
 -- a number that is shown by its section

@@ -1,27 +1,27 @@
 -- Codes of any number of places behind the point.
-use Rattle.std.proofs.Common.{◌≡◌, ◌∙◌, ◌+◌, ◌≤◌, ◌&&◌, ◌||◌, ℕ, zero, suc, ℤ, Bool}
-use Rattle.std.proofs.Common.{true, false, cond, List, [], ◌∷◌, Some, None, length, drop}
-use Rattle.std.proofs.Common.{take, replicate, refl, ap, arith}
+use Rattle.std.proofs.Common.{◌≡◌, ◌∙◌, ◌+◌, ◌≤◌, ◌&&◌, ◌||◌, ℕ, zero, suc, ℤ, Bool, true, false}
+use Rattle.std.proofs.Common.{cond, List, [], ◌∷◌, Some, None, length, drop, take, replicate, refl}
+use Rattle.std.proofs.Common.{ap, arith}
 use Rattle.std.specs.Prelude.{nat_le, is_some}
 use Rattle.std.specs.List.{list_all, slice_split, onto_first, position_or_len, after_first}
 use Rattle.std.proofs.lemmas.List.{drop_all, length-replicate}
-use Rattle.cell_data.specs.CellValue.{number}
+use Rattle.cell_data.specs.Words.{number}
 use Rattle.excel_dates.proofs.SerialSteps.{by_true, by_false}
-use Rattle.format_codes.specs.Choosing.{are_supported, chosen, is_supported}
-use Rattle.format_codes.specs.Choosing.{number_section, section_for, text_section, is_text_sound}
-use Rattle.format_codes.specs.Choosing.{number_sections, shown_of_kind}
-use Rattle.format_codes.specs.Conditions.{condition_in, leaves_sign_out, takes}
-use Rattle.format_codes.specs.Kinds.{is_denominator, is_fraction, is_no_number, kind_of}
-use Rattle.format_codes.specs.Pieces.{has, is_divider, is_exponent, is_general, is_slash}
-use Rattle.format_codes.specs.Pieces.{is_text_place, is_time}
-use Rattle.format_codes.specs.Sections.{pieces, pieces_behind, shown_sections}
-use Rattle.format_codes.specs.TimedPieces.{timed_pieces}
+use Rattle.format_codes.specs.Words.{are_supported, chosen, section_for, text_section}
+use Rattle.format_codes.specs.Words.{is_text_sound, number_sections, shown_of_kind, condition_in}
+use Rattle.format_codes.specs.Words.{leaves_sign_out, takes, is_denominator, is_fraction}
+use Rattle.format_codes.specs.Words.{is_no_number, has, is_divider, is_exponent, is_general}
+use Rattle.format_codes.specs.Words.{is_slash_piece, is_text_place, is_time, code_pieces_behind}
+use Rattle.format_codes.specs.Words.{shown_sections, timed_pieces}
+use Rattle.format_codes.specs.Choosing.{is_supported, number_section}
+use Rattle.format_codes.specs.Kinds.{section_kind}
+use Rattle.format_codes.specs.Sections.{code_pieces}
 use Rattle.format_codes.specs.declared.kind.SectionKind.TheVariants as kind
 use Rattle.format_codes.specs.declared.piece.CodePiece.{CodePiece}
 use Rattle.format_codes.specs.declared.piece.CodePiece.TheVariants as piece
 use Rattle.format_codes.specs.declared.piece.Filler.TheVariants.{Zero}
-use Rattle.shown_text.specs.ShownText.{shown_text, sized_text, text_in_section}
-use Rattle.shown_text.specs.GeneralText.{general_text}
+use Rattle.shown_text.specs.Words.{sized_text, text_in_section, general_text}
+use Rattle.shown_text.specs.ShownText.{shown_text}
 use Rattle.shown_text_laws.proofs.Literals.{section_of}
 use Rattle.shown_text_laws.proofs.Tests.{both_hold, is_within}
 
@@ -34,7 +34,7 @@ places f = replicate f place
 abbrev pub pointed : ℕ → List CodePiece
 pointed f = piece.Digit Zero ∷ piece.Point ∷ places f
 
-pieces_of_zeros : (f : ℕ) → pieces_behind 0 (replicate f 48) ≡ places f
+pieces_of_zeros : (f : ℕ) → code_pieces_behind 0 (replicate f 48) ≡ places f
 pieces_of_zeros zero = refl
 pieces_of_zeros (suc f) = ap (λ ps. place ∷ ps) (pieces_of_zeros f)
 
@@ -50,11 +50,11 @@ no_condition : (f : ℕ) → condition_in (places f) ≡ None
 no_condition zero = refl
 no_condition (suc f) = no_condition f
 
-no_slash : (f : ℕ) → position_or_len is_slash (places f) ≡ f
+no_slash : (f : ℕ) → position_or_len is_slash_piece (places f) ≡ f
 no_slash zero = refl
 no_slash (suc f) = let same : 1 + f ≡ suc f = omega arith in ap (λ n. 1 + n) (no_slash f) ∙ same
 
-nothing_behind : (f : ℕ) → after_first is_slash (pointed f) ≡ []
+nothing_behind : (f : ℕ) → after_first is_slash_piece (pointed f) ≡ []
 nothing_behind f =
     let long : length (pointed f) ≤ 1 + (1 + f) + 1 =
     omega (arith, length-replicate {A = CodePiece} f place) in
@@ -65,11 +65,11 @@ last_false : (a b : Bool) → b ≡ false → (a && b) ≡ false
 last_false true b fails = fails
 last_false false b fails = refl
 
-kind_is : (f : ℕ) → kind_of (pointed f) ≡ Some kind.Number
-unfolding kind_of
+kind_is : (f : ℕ) → section_kind (pointed f) ≡ Some kind.Number
+unfolding section_kind
 kind_is f =
     let fraction : is_fraction (pointed f) ≡ false =
-    last_false _ (has is_denominator (after_first is_slash (pointed f)))
+    last_false _ (has is_denominator (after_first is_slash_piece (pointed f)))
     (ap (λ ps. has is_denominator ps) (nothing_behind f)) in
     by_false (has is_no_number (places f)) _ _ (none_of is_no_number refl f)
     ∙ by_false (has is_general (places f)) _ _ (none_of is_general refl f)
@@ -84,12 +84,12 @@ no_texts f =
 sound : (f : ℕ) → are_supported (pointed f ∷ []) ≡ true
 sound f =
     ap (λ texts. is_text_sound texts
-    && list_all (λ section. is_some (kind_of section))
+    && list_all (λ section. is_some (section_kind section))
     (cond (is_some texts) (take 0 (pointed f ∷ [])) (pointed f ∷ []))) (no_texts f)
     ∙ ap (λ found. is_some found && true) (kind_is f)
 
 cut : (f : ℕ) → shown_sections (48 ∷ 46 ∷ replicate f 48) ≡ pointed f ∷ []
-unfolding pieces
+unfolding code_pieces
 cut f =
     ap (λ ps. slice_split is_divider (place ∷ piece.Point ∷ ps)) (pieces_of_zeros f)
     ∙ ap (λ parts. onto_first place (onto_first piece.Point parts)) (undivided f)

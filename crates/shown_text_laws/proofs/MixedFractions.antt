@@ -1,8 +1,7 @@
 -- A whole number and a fraction, as they are shown.
 use Rattle.shown_text_laws.proofs.Tests.{and_false, and_true, both_hold, is_within}
 use Rattle.std.proofs.Common.{◌≡◌, ◌∙◌, ◌++◌, ◌+◌, ◌-◌, ◌*◌, ◌/◌, ◌%◌, ◌^◌, ◌<◌, ◌≤◌, ◌==◌, ◌&&◌, ℕ}
-use Rattle.std.proofs.Common.{zero, suc}
-use Rattle.std.proofs.Common.{ℤ, negsuc, Bool, true, false, cond, List, [], ◌∷◌, codes}
+use Rattle.std.proofs.Common.{zero, suc, ℤ, negsuc, Bool, true, false, cond, List, [], ◌∷◌, codes}
 use Rattle.std.proofs.Common.{refl, ap, sym, arith, inl, inr, append_assoc, append-nil, replicate}
 use lib.Utf8.{encode}
 use Rattle.std.specs.Prelude.{nat_lt, nat_le, nat_abs}
@@ -13,24 +12,22 @@ use Rattle.std.proofs.Math.Nat.{pow-le-pow_right, mul-le-mul_right, le_of_mul-le
 use Rattle.std.proofs.lemmas.Bool.{cases_lt, eqb-true}
 use Rattle.std.proofs.lemmas.Bool.Decides.{nat_tests}
 use Rattle.std.proofs.lemmas.Fmt.{decimal_digit}
-use Rattle.cell_data.specs.CellValue.{number}
+use Rattle.cell_data.specs.Words.{number}
 use Rattle.decimals.proofs.Rounded.{unit_some}
 use Rattle.excel_dates.proofs.SerialSteps.{by_true, by_false}
 use Rattle.format_codes.specs.Choosing.{is_supported, number_section}
-use Rattle.format_codes.specs.Kinds.{kind_of}
-use Rattle.format_codes.specs.Sections.{pieces}
+use Rattle.format_codes.specs.Kinds.{section_kind}
+use Rattle.format_codes.specs.Sections.{code_pieces}
 use Rattle.format_codes.specs.declared.kind.SectionKind.TheVariants as kind
 use Rattle.format_codes.specs.declared.piece.CodePiece.{CodePiece}
 use Rattle.format_codes.specs.declared.piece.CodePiece.TheVariants as piece
 use Rattle.format_codes.specs.declared.piece.Filler.TheVariants.{Zero}
-use Rattle.shown_text.specs.Digits.{with_digits}
-use Rattle.shown_text.specs.FractionArithmetic.{distance}
-use Rattle.shown_text.specs.FractionTexts.{FractionParts, fraction_parts, fraction_text}
-use Rattle.shown_text.specs.FractionTexts.{mixed, nearest_fraction, parted, parts_text, unparted}
-use Rattle.shown_text.specs.FractionTexts.{whole_digits}
-use Rattle.shown_text.specs.GeneralText.{general_text, shown_digits}
+use Rattle.shown_text.specs.Words.{with_digits, distance, FractionParts, fraction_parts, mixed}
+use Rattle.shown_text.specs.Words.{nearest_fraction, unit_parts, parts_text, unparted, whole_digits}
+use Rattle.shown_text.specs.Words.{general_text, shown_digits, most_power, sized_text}
+use Rattle.shown_text.specs.FractionTexts.{fraction_shown}
+use Rattle.shown_text.specs.ShownText.{shown_text}
 use Rattle.shown_text.specs.declared.fractions.Fraction.{Fraction}
-use Rattle.shown_text.specs.ShownText.{most_power, shown_text, sized_text}
 use Rattle.shown_text_laws.specs.NearFractions.{HasNoneNearer, IsNearestMixed}
 use Rattle.shown_text_laws.proofs.NearPlaces.{at_most_fifteen}
 use Rattle.shown_text_laws.proofs.NearFractions.{none_nearer}
@@ -44,7 +41,7 @@ mixed_pieces =
 under_mixed : (is_1904 : Bool) (exact : ℤ × ℤ)
     → shown_text is_1904 (codes "0 0/0") (number exact)
     ≡ sized_text (record { kind = kind.Fraction; pieces = mixed_pieces; unsigned = false }) exact
-unfolding shown_text number_section is_supported pieces kind_of
+unfolding shown_text number_section is_supported code_pieces section_kind
 under_mixed is_1904 exact = refl
 
 abbrev parts : FractionParts
@@ -197,7 +194,7 @@ chosen_mixed n unit w false f is near = record {
   nearest = near;
 }
 
-parted_mixed : (n unit : ℕ) → 0 < unit → IsNearestMixed n unit (parted parts n unit)
+parted_mixed : (n unit : ℕ) → 0 < unit → IsNearestMixed n unit (unit_parts parts n unit)
 parted_mixed n unit positive =
     let f = nearest_fraction (n % unit) unit 9 in
     chosen_mixed n unit (n / unit) (f.over == f.under) f (eqb-true f.over f.under)
@@ -226,7 +223,7 @@ tiny_near n unit far = record {
 }
 
 near_chosen : (n unit : ℕ) (test : Bool) → 0 < unit → (test ≡ false → n * 18 ≤ unit)
-    → IsNearestMixed n unit (cond test (parted parts n unit) (unparted parts 0 0))
+    → IsNearestMixed n unit (cond test (unit_parts parts n unit) (unparted parts 0 0))
 near_chosen n unit true positive far = parted_mixed n unit positive
 near_chosen n unit false positive far = record {
   whole = 0;
@@ -254,7 +251,7 @@ by_parts : (is_1904 : Bool) (exact : ℤ × ℤ) → IsShownBySection exact
     → shown_text is_1904 (codes "0 0/0") (number exact)
     ≡ sign_text (is_negative exact.0)
     ++ parts_text parts (nat_abs (shown_digits exact).0) (shown_digits exact).1
-unfolding fraction_text
+unfolding fraction_shown
 by_parts is_1904 exact sized =
     let n = nat_abs (shown_digits exact).0 in
     let sign = sign_text (is_negative exact.0 && true) in

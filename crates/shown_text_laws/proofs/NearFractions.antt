@@ -7,8 +7,7 @@ use Rattle.std.proofs.Math.Nat.{div-mul-le_self, lt-div-mul-add, le_of_mul-le-mu
 use Rattle.std.proofs.Math.Nat.{mul-le-mul_right}
 use Rattle.std.proofs.lemmas.Bool.{cases_lt}
 use Rattle.std.proofs.lemmas.Bool.Decides.{nat_tests}
-use Rattle.shown_text.specs.FractionArithmetic.{distance, nearest_over}
-use Rattle.shown_text.specs.FractionTexts.{fraction_over, nearer, nearest_fraction}
+use Rattle.shown_text.specs.Words.{distance, nearest_over, fraction_over, nearer, nearest_fraction}
 use Rattle.shown_text.specs.declared.fractions.Fraction.{Fraction}
 use Rattle.shown_text_laws.specs.NearFractions.{HasNoneNearer}
 

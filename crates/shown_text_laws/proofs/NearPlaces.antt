@@ -1,7 +1,7 @@
 -- The number that is read of a text with places behind the point, and how near it is.
-use Rattle.std.proofs.Common.{◌≡◌, ◌∙◌, ◌+◌, ◌*◌, ◌%◌, ◌^◌, ◌<◌, ◌≤◌, ◌==◌, ℕ, zero, suc}
-use Rattle.std.proofs.Common.{ℤ, pos, negsuc, neg_ℤ, ◌+ℤ◌, ◌-ℤ◌, ◌*ℤ◌, Bool, true, false, List, []}
-use Rattle.std.proofs.Common.{Some, refl, ap, sym, subst, arith, inl, inr}
+use Rattle.std.proofs.Common.{◌≡◌, ◌∙◌, ◌+◌, ◌*◌, ◌%◌, ◌^◌, ◌<◌, ◌≤◌, ◌==◌, ℕ, zero, suc, ℤ, pos}
+use Rattle.std.proofs.Common.{negsuc, neg_ℤ, ◌+ℤ◌, ◌-ℤ◌, ◌*ℤ◌, Bool, true, false, List, [], Some}
+use Rattle.std.proofs.Common.{refl, ap, sym, subst, arith, inl, inr}
 use Rattle.std.specs.Prelude.{nat_abs}
 use Rattle.std.specs.Fmt.{decimal}
 use Rattle.std.specs.Int.{is_negative}
@@ -10,9 +10,9 @@ use Rattle.std.proofs.lemmas.Bool.{cases_lt}
 use Rattle.std.proofs.lemmas.Bool.Decides.{nat_tests}
 use Rattle.std.proofs.lemmas.Int.{ints}
 use Rattle.std.proofs.lemmas.List.Sums.{suffix_len-le-length}
-use Rattle.decimals.specs.Decimals.{fitting, has_bits, number_of_digits, with_sign}
-use Rattle.decimals.specs.Rounding.{digits_behind, nearest, rounded_number}
-use Rattle.decimals.specs.Significand.{digits_added}
+use Rattle.decimals.specs.Words.{fitting, has_bits, number_of_digits, with_sign, digits_behind}
+use Rattle.decimals.specs.Words.{nearest, digits_added}
+use Rattle.decimals.specs.Rounding.{rounded_number}
 use Rattle.decimals.specs.declared.significand.Significand.{Significand}
 use Rattle.decimals.proofs.Nearest.{factors, half_above, half_below, near_up, some, times}
 use Rattle.decimals.proofs.ReadsBack.{Writes, decimal_writes, it_fits, number_form}
@@ -21,7 +21,7 @@ use Rattle.decimals.proofs.RoundedLaws.{times_signed}
 use Rattle.decimals.proofs.Significands.{Keeps, keeps_added, keeps_none}
 use Rattle.excel_dates.proofs.SerialSteps.{by_true}
 use Rattle.shown_text.proofs.SizeSteps.{few_kept, size_is}
-use Rattle.shown_text.specs.GeneralText.{shown_digits}
+use Rattle.shown_text.specs.Words.{shown_digits}
 use Rattle.shown_text_laws.specs.ReadNumbers.{IsWithinHalfAPlace}
 
 -- a number above 0 without the zeros at its end

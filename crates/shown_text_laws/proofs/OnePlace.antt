@@ -1,8 +1,7 @@
 -- Digits in one place.
 use Rattle.std.proofs.Common.{◌≡◌, ◌∙◌, ◌++◌, ◌+◌, ◌-◌, ◌<◌, ◌≤◌, ℕ, zero, suc, Bool, true, false}
-use Rattle.std.proofs.Common.{cond}
-use Rattle.std.proofs.Common.{List, [], ◌∷◌, Some, None, length, drop, get_or, ap, sym}
-use Rattle.std.proofs.Common.{arith, append-nil, drop-cons}
+use Rattle.std.proofs.Common.{cond, List, [], ◌∷◌, Some, None, length, drop, get_or, ap, sym, arith}
+use Rattle.std.proofs.Common.{append-nil, drop-cons}
 use Rattle.std.proofs.lemmas.List.{drop_all}
 use Rattle.std.specs.Prelude.{nat_lt, nat_le, ◌/◌, ◌%◌, ◌==◌}
 use Rattle.std.specs.Fmt.{decimal, digits, digits_onto, digit_glyph}
@@ -10,7 +9,7 @@ use Rattle.std.proofs.lemmas.Bool.Decides.{nat_tests}
 use Rattle.excel_dates.proofs.SerialSteps.{by_true, is_less}
 use Rattle.format_codes.specs.declared.piece.CodePiece.TheVariants as piece
 use Rattle.format_codes.specs.declared.piece.Filler.TheVariants.{Zero}
-use Rattle.shown_text.specs.Digits.{digit_at, place_character, placed_text, surplus, with_digits}
+use Rattle.shown_text.specs.Words.{digit_at, place_character, placed_text, surplus, with_digits}
 use Rattle.shown_text_laws.proofs.Places.{place_taken}
 
 pub digit_of : (ds : List ℕ) (place : ℕ) → place < length ds

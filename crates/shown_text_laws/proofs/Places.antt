@@ -2,10 +2,8 @@
 use Rattle.excel_dates.proofs.SerialSteps.{by_true, by_false}
 use Rattle.shown_text_laws.proofs.Tests.{less_told}
 use Rattle.std.proofs.Common.{◌≡◌, ◌∙◌, ◌++◌, ◌+◌, ◌-◌, ◌<◌, ◌≤◌, ◌==◌, ℕ, zero, suc, Bool, true}
-use Rattle.std.proofs.Common.{false}
-use Rattle.std.proofs.Common.{cond, List, [], ◌∷◌, Option, Some, None, length, get_or, refl, ap}
-use Rattle.std.proofs.Common.{sym, subst}
-use Rattle.std.proofs.Common.{arith, not, inl, inr, append_assoc, append-nil}
+use Rattle.std.proofs.Common.{false, cond, List, [], ◌∷◌, Option, Some, None, length, get_or, refl}
+use Rattle.std.proofs.Common.{ap, sym, subst, arith, not, inl, inr, append_assoc, append-nil}
 use Rattle.std.specs.Prelude.{nat_lt, nat_le, unwrap_or, option_to_list}
 use Rattle.std.specs.List.{All}
 use Rattle.std.proofs.lemmas.List.Elements.{All-nil, All-cons, All-append, All-get_or}
@@ -14,8 +12,8 @@ use Rattle.std.proofs.lemmas.Bool.{cases_lt}
 use Rattle.std.proofs.lemmas.Bool.Decides.{nat_tests}
 use Rattle.format_codes.specs.declared.piece.CodePiece.TheVariants as piece
 use Rattle.format_codes.specs.declared.piece.Filler.TheVariants.{Zero, Nothing}
-use Rattle.shown_text.specs.Digits.{digit_at, place_character, separator, placed_text, surplus}
-use Rattle.shown_text.specs.Digits.{with_digits, fraction_character, hidden_places, behind_text}
+use Rattle.shown_text.specs.Words.{digit_at, place_character, separator, placed_text, surplus}
+use Rattle.shown_text.specs.Words.{with_digits, fraction_character, hidden_places, behind_text}
 use Rattle.shown_text_laws.specs.NumberCodes.{without_commas}
 use Rattle.shown_text_laws.proofs.AllDigits.{plain_step, IsFigure, no_comma}
 

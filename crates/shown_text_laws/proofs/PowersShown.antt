@@ -1,11 +1,10 @@
 -- Numbers with a power of ten are read back in six digits.
-use Rattle.std.proofs.Common.{◌≡◌, ◌∙◌, ◌++◌, ◌+◌, ◌-◌, ◌*◌, ◌^◌, ◌<◌, ◌≤◌, ◌==◌, ◌&&◌, ℕ, ℤ}
-use Rattle.std.proofs.Common.{pos, negsuc, ◌+ℤ◌, ◌-ℤ◌, Bool, true, false, cond, List, [], ◌∷◌}
-use Rattle.std.proofs.Common.{codes, Some, None, length, take, refl, ap, sym, subst, arith}
-use Rattle.std.proofs.Common.{append_assoc, inl, inr}
-use Rattle.std.specs.Prelude.{nat_abs, nat_le, nat_lt, ◌||◌}
+use Rattle.std.proofs.Common.{◌≡◌, ◌∙◌, ◌++◌, ◌+◌, ◌-◌, ◌*◌, ◌^◌, ◌<◌, ◌≤◌, ◌==◌, ◌&&◌, ℕ, ℤ, pos}
+use Rattle.std.proofs.Common.{negsuc, ◌+ℤ◌, ◌-ℤ◌, Bool, true, false, cond, List, [], ◌∷◌, codes}
+use Rattle.std.proofs.Common.{Some, None, length, take, refl, ap, sym, subst, arith, append_assoc}
+use Rattle.std.proofs.Common.{inl, inr}
+use Rattle.std.specs.Prelude.{nat_abs, nat_le, nat_lt, ◌||◌, drop}
 use Rattle.std.specs.Fmt.{decimal, sign_text}
-use Rattle.std.specs.Prelude.{drop}
 use Rattle.std.proofs.Math.Utf8.{encode}
 use Rattle.std.specs.List.{before_first, position_or_len}
 use Rattle.std.specs.Int.{is_negative}
@@ -14,29 +13,32 @@ use Rattle.std.proofs.lemmas.Bool.{cases_lt}
 use Rattle.std.proofs.lemmas.Bool.Decides.{nat_tests}
 use Rattle.std.proofs.lemmas.Fmt.{decimal_digit}
 use Rattle.std.proofs.lemmas.Int.{ints}
-use Rattle.cell_data.specs.CellValue.{number}
-use Rattle.decimals.specs.Decimals.{decimal_from, decimal_of, fitting, number_of_digits, with_sign}
-use Rattle.decimals.specs.Rounding.{digit_count, digits_behind, nearest, rounded_number}
+use Rattle.cell_data.specs.Words.{number}
+use Rattle.decimals.specs.Words.{fitting, number_of_digits, with_sign, digit_count, digits_behind}
+use Rattle.decimals.specs.Words.{nearest}
+use Rattle.decimals.specs.Decimals.{decimal_from, decimal_of}
+use Rattle.decimals.specs.Rounding.{rounded_number}
 use Rattle.decimals.proofs.Nearest.{some, times}
 use Rattle.decimals.proofs.ReadsBack.{Writes, decimal_writes}
 use Rattle.decimals.proofs.Rounded.{few_digits, size_signed}
 use Rattle.decimals.proofs.RoundedLaws.{nearest_zero}
 use Rattle.excel_dates.proofs.SerialSteps.{by_true, by_false, is_less, not_less}
-use Rattle.format_codes.specs.Choosing.{ShownSection, is_supported, number_section}
-use Rattle.format_codes.specs.Kinds.{kind_of}
-use Rattle.format_codes.specs.Pieces.{is_exponent}
-use Rattle.format_codes.specs.Sections.{pieces}
+use Rattle.format_codes.specs.Words.{ShownSection, is_exponent}
+use Rattle.format_codes.specs.Choosing.{is_supported, number_section}
+use Rattle.format_codes.specs.Kinds.{section_kind}
+use Rattle.format_codes.specs.Sections.{code_pieces}
 use Rattle.format_codes.specs.declared.kind.SectionKind.TheVariants as kind
 use Rattle.format_codes.specs.declared.piece.CodePiece.{CodePiece}
 use Rattle.format_codes.specs.declared.piece.CodePiece.TheVariants as piece
 use Rattle.format_codes.specs.declared.piece.Filler.TheVariants.{Zero}
-use Rattle.shown_text.specs.Digits.{digits_above_0, laid_out, nearest_digits}
-use Rattle.shown_text.specs.GeneralText.{exponent_sign, first_power, general_places, general_size}
-use Rattle.shown_text.specs.GeneralText.{has_nine_places}
-use Rattle.shown_text.specs.GeneralText.{general_text, scientific, shown_digits, text_in_places}
-use Rattle.shown_text.specs.NumberTexts.{power_in, power_over, power_text}
-use Rattle.shown_text.specs.NumberTexts.{power_behind, power_front, power_parts, shown_power}
-use Rattle.shown_text.specs.ShownText.{is_sized, most_pieces, shown_text, signed_text, sized_text}
+use Rattle.shown_text.specs.Words.{digits_above_0, laid_out, nearest_digits, exponent_sign}
+use Rattle.shown_text.specs.Words.{first_power, general_places, general_size, has_nine_places}
+use Rattle.shown_text.specs.Words.{scientific, shown_digits, text_in_places, power_in, power_over}
+use Rattle.shown_text.specs.Words.{power_behind, power_front, power_parts, shown_power, is_sized}
+use Rattle.shown_text.specs.Words.{most_pieces, signed_text, sized_text}
+use Rattle.shown_text.specs.GeneralText.{general_text}
+use Rattle.shown_text.specs.NumberTexts.{power_text}
+use Rattle.shown_text.specs.ShownText.{shown_text}
 use Rattle.shown_text_laws.specs.ReadNumbers.{IsReadInDigits}
 use Rattle.shown_text_laws.proofs.Literals.{power_of}
 use Rattle.shown_text_laws.proofs.ManyPlaces.{places, pointed}
@@ -60,7 +62,7 @@ section = record { kind = kind.Power; pieces = powers; unsigned = false }
 
 under_powers : (is_1904 : Bool) (exact : ℤ × ℤ)
     → shown_text is_1904 (codes "0.00000E+00") (number exact) ≡ sized_text section exact
-unfolding shown_text number_section is_supported pieces kind_of
+unfolding shown_text number_section is_supported code_pieces section_kind
 under_powers is_1904 exact = refl
 
 -- the text of a size with its power

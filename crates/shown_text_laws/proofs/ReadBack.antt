@@ -1,9 +1,7 @@
 -- Numbers with places behind the point are read back.
-use Rattle.std.proofs.Common.{◌≡◌, ◌∙◌, ◌++◌, ◌+◌, ◌-◌, ◌*◌, ◌^◌, ◌<◌, ◌≤◌, ◌==◌, ℕ, ℤ}
-use Rattle.std.proofs.Common.{pos, negsuc, ◌+ℤ◌, ◌-ℤ◌, Bool, true, false, cond, List, [], ◌∷◌}
-use Rattle.std.proofs.Common.{codes}
-use Rattle.std.proofs.Common.{Some, length, take, replicate, refl, ap, sym, subst, arith}
-use Rattle.std.proofs.Common.{append-nil}
+use Rattle.std.proofs.Common.{◌≡◌, ◌∙◌, ◌++◌, ◌+◌, ◌-◌, ◌*◌, ◌^◌, ◌<◌, ◌≤◌, ◌==◌, ℕ, ℤ, pos, negsuc}
+use Rattle.std.proofs.Common.{◌+ℤ◌, ◌-ℤ◌, Bool, true, false, cond, List, [], ◌∷◌, codes, Some}
+use Rattle.std.proofs.Common.{length, take, replicate, refl, ap, sym, subst, arith, append-nil}
 use Rattle.std.specs.Prelude.{count_by, nat_abs}
 use Rattle.std.specs.Fmt.{sign_text}
 use Rattle.std.specs.Int.{is_negative}
@@ -13,22 +11,21 @@ use Rattle.std.proofs.lemmas.Int.{ints}
 use Rattle.std.proofs.lemmas.List.{length-replicate}
 use Rattle.std.proofs.lemmas.List.Folds.{sum_by-replicate}
 use Rattle.std.proofs.lemmas.Str.Parse.{tells_all_ascii_digits}
-use Rattle.cell_data.specs.CellValue.{number}
-use Rattle.decimals.specs.Decimals.{decimal_of, fitting, number_of_digits, with_sign}
-use Rattle.decimals.specs.Rounding.{nearest}
+use Rattle.cell_data.specs.Words.{number}
+use Rattle.decimals.specs.Words.{decimal_of, fitting, number_of_digits, with_sign, nearest}
 use Rattle.decimals.proofs.ReadsBack.{Writes}
 use Rattle.excel_dates.proofs.SerialSteps.{by_false}
+use Rattle.format_codes.specs.Words.{is_comma, is_digit, is_percent}
 use Rattle.format_codes.specs.Choosing.{is_supported, number_section}
-use Rattle.format_codes.specs.Kinds.{kind_of}
-use Rattle.format_codes.specs.Sections.{pieces}
+use Rattle.format_codes.specs.Kinds.{section_kind}
+use Rattle.format_codes.specs.Sections.{code_pieces}
 use Rattle.format_codes.specs.declared.piece.CodePiece.{CodePiece}
 use Rattle.format_codes.specs.declared.piece.CodePiece.TheVariants as piece
 use Rattle.format_codes.specs.declared.piece.Filler.TheVariants.{Zero}
-use Rattle.format_codes.specs.Pieces.{is_comma, is_digit, is_percent}
-use Rattle.shown_text.specs.Digits.{laid_out, nearest_digits}
-use Rattle.shown_text.specs.GeneralText.{shown_digits}
-use Rattle.shown_text.specs.NumberTexts.{number_power, number_text, thousands}
-use Rattle.shown_text.specs.ShownText.{most_pieces, shown_text, sized_text}
+use Rattle.shown_text.specs.Words.{laid_out, nearest_digits, shown_digits, number_power, thousands}
+use Rattle.shown_text.specs.Words.{most_pieces, sized_text}
+use Rattle.shown_text.specs.NumberTexts.{size_shown}
+use Rattle.shown_text.specs.ShownText.{shown_text}
 use Rattle.shown_text_laws.specs.NumberCodes.{IsShownBySection}
 use Rattle.shown_text_laws.specs.ReadNumbers.{IsReadBackNear, WritesNear}
 use Rattle.shown_text_laws.proofs.Literals.{by_section, section_of}
@@ -64,9 +61,9 @@ laid_is ds f =
     (λ i. whole_place (take (length ds - place_count_is f i) ds) ++ 46 ∷ behind_is ds f i)
 
 text_is : (f n : ℕ) (power : ℤ)
-    → number_text (pointed f) n power
+    → size_shown (pointed f) n power
     ≡ laid_out false (nearest_digits n (power +ℤ pos f)) (pointed f)
-unfolding number_text
+unfolding size_shown
 text_is f n power = ap (λ k. laid_out false (nearest_digits n k) (pointed f)) (power_is f power)
 
 -- what is read of digits that write a number
@@ -189,12 +186,12 @@ read_back exact f few_places = λ is_1904 small sized.
 -- under `0`
 under_whole : (is_1904 : Bool) (exact : ℤ × ℤ)
     → shown_text is_1904 (codes "0") (number exact) ≡ sized_text (section_of (places 1)) exact
-unfolding shown_text number_section is_supported pieces kind_of
+unfolding shown_text number_section is_supported code_pieces section_kind
 under_whole is_1904 exact = refl
 
 whole_text_is : (n : ℕ) (power : ℤ)
-    → number_text (places 1) n power ≡ laid_out false (nearest_digits n (power +ℤ pos 0)) (places 1)
-unfolding number_text
+    → size_shown (places 1) n power ≡ laid_out false (nearest_digits n (power +ℤ pos 0)) (places 1)
+unfolding size_shown
 whole_text_is n power =
     let same : number_power (places 1) power ≡ power +ℤ pos 0 = omega (arith, ints) in
     ap (λ k. laid_out false (nearest_digits n k) (places 1)) same

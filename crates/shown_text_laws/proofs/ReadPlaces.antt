@@ -1,8 +1,8 @@
 -- The digits of a number in places behind the point, and how they are read.
 use Rattle.std.proofs.Common.{◌≡◌, ◌∙◌, ◌++◌, ◌+◌, ◌-◌, ◌*◌, ◌^◌, ◌<◌, ◌≤◌, ◌==◌, ℕ, zero, suc}
-use Rattle.std.proofs.Common.{Bool, true, false, cond, List, [], ◌∷◌}
-use Rattle.std.proofs.Common.{Some, None, length, take, min, replicate, get_or, refl, ap, sym}
-use Rattle.std.proofs.Common.{add-one, arith, append_assoc, inl, inr, subst}
+use Rattle.std.proofs.Common.{Bool, true, false, cond, List, [], ◌∷◌, Some, None, length, take, min}
+use Rattle.std.proofs.Common.{replicate, get_or, refl, ap, sym, add-one, arith, append_assoc, inl}
+use Rattle.std.proofs.Common.{inr, subst}
 use Rattle.std.specs.Prelude.{nat_lt, not, option_to_list, unwrap_or}
 use Rattle.std.specs.Fmt.{decimal}
 use Rattle.std.specs.List.{after_last, suffix_len}
@@ -16,16 +16,16 @@ use Rattle.std.proofs.lemmas.List.{append-nil, drop_all, length-replicate, take_
 use Rattle.std.proofs.lemmas.List.Folds.{sum_by-replicate}
 use Rattle.std.proofs.lemmas.List.Sums.{suffix_len_is}
 use Rattle.std.proofs.lemmas.Str.Parse.{tells_all_ascii_digits}
-use Rattle.decimals.specs.Decimals.{trailing_zeros}
+use Rattle.decimals.specs.Words.{trailing_zeros}
 use Rattle.decimals.proofs.ReadsBack.{Writes, decimal_writes}
 use Rattle.excel_dates.proofs.SerialSteps.{by_true, by_false, is_less, not_less}
 use Rattle.format_codes.specs.declared.piece.CodePiece.{CodePiece}
 use Rattle.format_codes.specs.declared.piece.CodePiece.TheVariants as piece
 use Rattle.format_codes.specs.declared.piece.Filler.TheVariants.{Zero}
-use Rattle.format_codes.specs.Pieces.{is_digit, is_zero}
-use Rattle.shown_text.specs.Digits.{behind_text, digit_at, digits_above_0, fraction_piece}
-use Rattle.shown_text.specs.Digits.{fraction_places}
-use Rattle.shown_text.specs.Digits.{hidden_places, place_character, place_count, with_digits}
+use Rattle.format_codes.specs.Words.{is_digit, is_zero_place}
+use Rattle.shown_text.specs.Words.{behind_text, digit_at, digits_above_0, fraction_piece}
+use Rattle.shown_text.specs.Words.{fraction_places, hidden_places, place_character, place_count}
+use Rattle.shown_text.specs.Words.{with_digits}
 use Rattle.shown_text_laws.proofs.ManyPlaces.{places}
 use Rattle.shown_text_laws.proofs.OnePlace.{in_one_place}
 
@@ -66,9 +66,9 @@ none_behind test holds (suc f) =
 
 -- no place is hidden
 pub none_hidden : (ds : List ℕ) (f : ℕ) → hidden_places ds (places f) ≡ 0
-none_hidden [] f = ap place_count (none_behind is_zero refl f)
+none_hidden [] f = ap place_count (none_behind is_zero_place refl f)
 none_hidden (d ∷ ds) f =
-    ap (λ ps. min (trailing_zeros (d ∷ ds)) (place_count ps)) (none_behind is_zero refl f)
+    ap (λ ps. min (trailing_zeros (d ∷ ds)) (place_count ps)) (none_behind is_zero_place refl f)
     ∙ omega arith
 
 in_all_places : (ds : List ℕ) (f : ℕ) → fraction_places ds 0 f (places f) ≡ last_digits ds f

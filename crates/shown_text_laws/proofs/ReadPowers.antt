@@ -1,8 +1,7 @@
 -- How the powers of ten of texts are read.
 use Rattle.std.proofs.Common.{◌≡◌, ◌∙◌, ◌++◌, ◌+◌, ◌-◌, ◌*◌, ◌^◌, ◌<◌, ◌≤◌, ◌==◌, ℕ, zero, suc, ℤ}
-use Rattle.std.proofs.Common.{pos, ◌+ℤ◌, ◌-ℤ◌, Bool, true, false, List, [], ◌∷◌}
-use Rattle.std.proofs.Common.{Some, length, take, replicate, refl, ap, sym}
-use Rattle.std.proofs.Common.{subst, arith, length-append, length-take}
+use Rattle.std.proofs.Common.{pos, ◌+ℤ◌, ◌-ℤ◌, Bool, true, false, List, [], ◌∷◌, Some, length, take}
+use Rattle.std.proofs.Common.{replicate, refl, ap, sym, subst, arith, length-append, length-take}
 use Rattle.std.specs.Prelude.{nat_abs}
 use Rattle.std.specs.Fmt.{decimal, sign_text}
 use Rattle.std.specs.Char.{digit_value}
@@ -12,15 +11,15 @@ use Rattle.std.proofs.lemmas.Grind.{pow_more}
 use Rattle.std.proofs.lemmas.Int.{ints}
 use Rattle.std.proofs.lemmas.List.Sums.{suffix_len-le-length}
 use Rattle.std.proofs.lemmas.Str.Parse.{tells_all_ascii_digits}
-use Rattle.decimals.specs.Decimals.{decimal_of, fitting, number_of_digits, power_of}
-use Rattle.decimals.specs.Decimals.{trailing_zeros, without_trailing_zeros}
+use Rattle.decimals.specs.Words.{decimal_of, fitting, number_of_digits, power_of, trailing_zeros}
+use Rattle.decimals.specs.Words.{without_trailing_zeros}
 use Rattle.decimals.proofs.Nearest.{factors, some, times}
 use Rattle.decimals.proofs.OneForm.{value_kept}
 use Rattle.decimals.proofs.ReadsBack.{Writes, decimal_writes}
-use Rattle.excel_dates.specs.IsoText.{padded}
+use Rattle.excel_dates.specs.Words.{padded}
 use Rattle.format_codes.specs.declared.piece.Filler.TheVariants.{Zero}
-use Rattle.shown_text.specs.Digits.{digit_at, in_places, place_character, placed_text, surplus}
-use Rattle.shown_text.specs.GeneralText.{behind_point, exponent_sign, with_power}
+use Rattle.shown_text.specs.Words.{digit_at, in_places, place_character, placed_text, surplus}
+use Rattle.shown_text.specs.Words.{behind_point, exponent_sign, with_power}
 use Rattle.shown_text_laws.proofs.ManyPlaces.{places}
 use Rattle.shown_text_laws.proofs.OnePlace.{decimal_some, digit_of, in_one_place}
 use Rattle.shown_text_laws.proofs.Places.{place_taken}

@@ -1,8 +1,7 @@
 -- How a text of digits with a point among them is read.
-use Rattle.std.proofs.Common.{◌≡◌, ◌∙◌, ◌++◌, ◌+◌, ◌<◌, ◌≤◌, ◌==◌, ℕ}
-use Rattle.std.proofs.Common.{ℤ, pos, ◌-ℤ◌, Bool, true, false, cond, List, [], ◌∷◌}
-use Rattle.std.proofs.Common.{Option, None, length, take, drop, refl, ap, sym}
-use Rattle.std.proofs.Common.{arith, length-append, Some, suc, negsuc}
+use Rattle.std.proofs.Common.{◌≡◌, ◌∙◌, ◌++◌, ◌+◌, ◌<◌, ◌≤◌, ◌==◌, ℕ, ℤ, pos, ◌-ℤ◌, Bool, true}
+use Rattle.std.proofs.Common.{false, cond, List, [], ◌∷◌, Option, None, length, take, drop, refl}
+use Rattle.std.proofs.Common.{ap, sym, arith, length-append, Some, suc, negsuc}
 use Rattle.std.specs.Prelude.{nat_abs, nat_lt, neg_ℤ, ◌&&◌}
 use Rattle.std.specs.Char.{is_ascii_digit}
 use Rattle.std.specs.Fmt.{sign_text}
@@ -14,13 +13,14 @@ use Rattle.std.proofs.Math.Seq.{take-append_seam, drop-append_seam}
 use Rattle.std.proofs.lemmas.Bool.Decides.{nat_tests}
 use Rattle.std.proofs.lemmas.List.{append-nil, drop_all}
 use Rattle.std.proofs.lemmas.Str.Parse.{tells_all_ascii_digits}
-use Rattle.decimals.specs.Decimals.{behind_fraction, fraction_digits, signed_number}
-use Rattle.decimals.specs.Decimals.{decimal_of, digits_in_front, behind_digits, fitting}
-use Rattle.decimals.specs.Decimals.{number_of_digits, power_of, unsigned_decimal}
+use Rattle.decimals.specs.Words.{behind_fraction, fraction_digits, signed_number, digits_in_front}
+use Rattle.decimals.specs.Words.{behind_digits, fitting, number_of_digits, power_of}
+use Rattle.decimals.specs.Words.{unsigned_decimal}
+use Rattle.decimals.specs.Decimals.{decimal_of}
 use Rattle.decimals.proofs.ReadsBack.{Writes}
 use Rattle.decimals.proofs.Rounded.{not_negative}
 use Rattle.decimals.proofs.Significands.{take_whole}
-use Rattle.shown_text.specs.GeneralText.{exponent_sign}
+use Rattle.shown_text.specs.Words.{exponent_sign}
 use Rattle.shown_text_laws.proofs.Tests.{both_hold}
 use Rattle.excel_dates.proofs.SerialSteps.{by_true, by_false, is_less}
 

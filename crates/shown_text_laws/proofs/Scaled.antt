@@ -1,20 +1,19 @@
 -- Numbers under `%`, and in thousands.
 use Rattle.std.proofs.Common.{◌≡◌, ◌∙◌, ◌++◌, ◌&&◌, ◌-◌, ℕ, ℤ, Bool, true, false, List, [], ◌∷◌}
-use Rattle.std.proofs.Common.{codes}
-use Rattle.std.proofs.Common.{pos, refl, ap, sym, length, take, append_assoc, append-nil, arith}
+use Rattle.std.proofs.Common.{codes, pos, refl, ap, sym, length, take, append_assoc, append-nil}
+use Rattle.std.proofs.Common.{arith}
 use Rattle.std.specs.Prelude.{◌+ℤ◌, ◌-ℤ◌, nat_abs, option_to_list}
 use Rattle.std.specs.Fmt.{sign_text}
 use Rattle.std.specs.Int.{is_negative}
 use Rattle.std.proofs.lemmas.Int.{ints}
-use Rattle.cell_data.specs.CellValue.{number}
-use Rattle.decimals.specs.Rounding.{digits_behind}
+use Rattle.cell_data.specs.Words.{number}
+use Rattle.decimals.specs.Words.{digits_behind}
 use Rattle.format_codes.specs.declared.piece.CodePiece.TheVariants as piece
 use Rattle.format_codes.specs.declared.piece.Filler.TheVariants.{Zero}
-use Rattle.shown_text.specs.Digits.{laid_out, nearest_digits, behind_text, whole_text}
-use Rattle.shown_text.specs.Digits.{fraction_character, hidden_places}
-use Rattle.shown_text.specs.GeneralText.{shown_digits}
-use Rattle.shown_text.specs.NumberTexts.{number_text, number_power}
-use Rattle.shown_text.specs.ShownText.{shown_text}
+use Rattle.shown_text.specs.Words.{laid_out, nearest_digits, behind_text, whole_text}
+use Rattle.shown_text.specs.Words.{fraction_character, hidden_places, shown_digits, number_power}
+use Rattle.shown_text.specs.Words.{shown_text}
+use Rattle.shown_text.specs.NumberTexts.{size_shown}
 use Rattle.shown_text_laws.specs.NumberCodes.{IsShownBySection}
 use Rattle.shown_text_laws.proofs.Literals.{one_place, one_place_percent, one_place_thousands}
 use Rattle.shown_text_laws.proofs.Literals.{under_percent, under_thousands, under_one_place}
@@ -52,16 +51,16 @@ laid_thousands digits =
 
 at_percent : (n : ℕ) (power other : ℤ)
     → number_power one_place_percent power ≡ number_power one_place other
-    → number_text one_place_percent n power ≡ number_text one_place n other ++ 37 ∷ []
-unfolding number_text
+    → size_shown one_place_percent n power ≡ size_shown one_place n other ++ 37 ∷ []
+unfolding size_shown
 at_percent n power other same =
     ap (λ k. laid_out false (nearest_digits n k) one_place_percent) same
     ∙ laid_percent (nearest_digits n (number_power one_place other))
 
 at_thousands : (n : ℕ) (power other : ℤ)
     → number_power one_place_thousands power ≡ number_power one_place other
-    → number_text one_place_thousands n power ≡ number_text one_place n other
-unfolding number_text
+    → size_shown one_place_thousands n power ≡ size_shown one_place n other
+unfolding size_shown
 at_thousands n power other same =
     ap (λ k. laid_out false (nearest_digits n k) one_place_thousands) same
     ∙ laid_thousands (nearest_digits n (number_power one_place other))
@@ -77,11 +76,11 @@ thousandth power k = omega (arith, ints)
 -- a number under `0.0`
 plain : (is_1904 : Bool) (m power other : ℤ) → IsShownBySection (m, other)
     → sign_text (is_negative m && true)
-    ++ number_text one_place (nat_abs (shown_digits (m, power)).0) (shown_digits (m, other)).1
+    ++ size_shown one_place (nat_abs (shown_digits (m, power)).0) (shown_digits (m, other)).1
     ≡ shown_text is_1904 (codes "0.0") (number (m, other))
 plain is_1904 m power other sized =
     ap (λ n. sign_text (is_negative m && true)
-    ++ number_text one_place n (shown_digits (m, other)).1)
+    ++ size_shown one_place n (shown_digits (m, other)).1)
     (same_size m power other)
     ∙ sym (under_one_place is_1904 (m, other) ∙ by_section one_place (m, other) refl sized)
 
@@ -99,7 +98,7 @@ percents is_1904 m power sized other =
     (at_percent n (shown_digits (m, power)).1 (shown_digits (m, more)).1
     (ap (number_power one_place_percent) (power_of m power) ∙ hundredfold power behind
     ∙ ap (number_power one_place) (sym (power_of m more))))
-    ∙ sym (append_assoc sign (number_text one_place n (shown_digits (m, more)).1) (37 ∷ []))
+    ∙ sym (append_assoc sign (size_shown one_place n (shown_digits (m, more)).1) (37 ∷ []))
     ∙ ap (λ text. text ++ 37 ∷ []) (plain is_1904 m power more other)
 
 pub thousands : (is_1904 : Bool) (m power : ℤ) → IsShownBySection (m, power)

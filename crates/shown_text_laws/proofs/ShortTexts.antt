@@ -1,11 +1,9 @@
 -- How long the texts of General are.
 use Rattle.shown_text_laws.proofs.Tests.{less_told}
 use Rattle.std.proofs.Common.{◌≡◌, ◌∙◌, ◌++◌, ◌+◌, ◌-◌, ◌*◌, ◌/◌, ◌%◌, ◌^◌, ◌<◌, ◌≤◌, ◌==◌, ℕ, zero}
-use Rattle.std.proofs.Common.{suc}
-use Rattle.std.proofs.Common.{ℤ, pos, negsuc, ◌+ℤ◌, ◌≤ℤ◌, Bool, true, false, cond, List, [], ◌∷◌}
-use Rattle.std.proofs.Common.{Option, Some, None, length, take, drop, replicate, refl, ap, sym}
-use Rattle.std.proofs.Common.{subst}
-use Rattle.std.proofs.Common.{arith, ◌⊎◌, inl, inr, length-append, length-take, length-drop}
+use Rattle.std.proofs.Common.{suc, ℤ, pos, negsuc, ◌+ℤ◌, ◌≤ℤ◌, Bool, true, false, cond, List, []}
+use Rattle.std.proofs.Common.{◌∷◌, Option, Some, None, length, take, drop, replicate, refl, ap, sym}
+use Rattle.std.proofs.Common.{subst, arith, ◌⊎◌, inl, inr, length-append, length-take, length-drop}
 use Rattle.std.specs.Prelude.{nat_lt, nat_abs}
 use Rattle.std.specs.Fmt.{decimal, digits, sign_text}
 use Rattle.std.specs.Int.{is_negative}
@@ -16,19 +14,18 @@ use Rattle.std.proofs.lemmas.Bool.Decides.{nat_tests}
 use Rattle.std.proofs.lemmas.Fmt.{length-decimal-le_wide}
 use Rattle.std.proofs.lemmas.Int.{ints}
 use Rattle.std.proofs.lemmas.List.{length-replicate}
-use Rattle.decimals.specs.Decimals.{without_trailing_zeros, trailing_zeros}
-use Rattle.decimals.specs.Rounding.{digit_count, nearest}
+use Rattle.decimals.specs.Words.{without_trailing_zeros, trailing_zeros, digit_count, nearest}
 use Rattle.decimals.proofs.Nearest.{factors, near_up, some, times}
 use Rattle.decimals.proofs.RoundedLaws.{has_digits}
 use Rattle.excel_dates.proofs.SerialSteps.{by_false}
-use Rattle.excel_dates.specs.IsoText.{padded}
-use Rattle.excel_dates.specs.Serials.{nearest_at}
+use Rattle.excel_dates.specs.Words.{padded, nearest_at}
 use Rattle.shown_text.proofs.Zeros.{zero_cut}
 use Rattle.shown_text_laws.proofs.NearPlaces.{at_most_fifteen}
 use Rattle.shown_text_laws.proofs.SixDigits.{six_left}
-use Rattle.shown_text.specs.GeneralText.{behind_point, exponent_text, with_power}
-use Rattle.shown_text.specs.GeneralText.{scientific, with_places, general_places, text_in_places}
-use Rattle.shown_text.specs.GeneralText.{general_size, general_text, shown_digits, first_power}
+use Rattle.shown_text.specs.Words.{behind_point, exponent_text, with_power, scientific, with_places}
+use Rattle.shown_text.specs.Words.{general_places, text_in_places, general_size, shown_digits}
+use Rattle.shown_text.specs.Words.{first_power}
+use Rattle.shown_text.specs.GeneralText.{general_text}
 
 cut_len : (ds : List ℕ) → length (without_trailing_zeros ds) ≤ length ds
 cut_len ds = omega (arith, length-take (length ds - trailing_zeros ds) ds)

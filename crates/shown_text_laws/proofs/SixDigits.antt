@@ -1,8 +1,7 @@
 -- Numbers of six digits that are read of two texts are one.
 use Rattle.std.proofs.Common.{◌≡◌, ◌∙◌, ◌++◌, ◌+◌, ◌-◌, ◌*◌, ◌^◌, ◌<◌, ◌≤◌, ◌==◌, ℕ, zero, suc, ℤ}
-use Rattle.std.proofs.Common.{pos, negsuc, ◌+ℤ◌, ◌-ℤ◌, Bool, true, false, List, [], length}
-use Rattle.std.proofs.Common.{refl, ap, sym, subst, arith, inl, inr, replicate, cond}
-use Rattle.std.proofs.Common.{length-append}
+use Rattle.std.proofs.Common.{pos, negsuc, ◌+ℤ◌, ◌-ℤ◌, Bool, true, false, List, [], length, refl}
+use Rattle.std.proofs.Common.{ap, sym, subst, arith, inl, inr, replicate, cond, length-append}
 use Rattle.std.specs.Prelude.{nat_abs, nat_lt, neg_ℤ, ◌/◌}
 use Rattle.std.specs.Fmt.{decimal}
 use Rattle.std.specs.Int.{is_negative}
@@ -11,16 +10,17 @@ use Rattle.std.proofs.lemmas.Bool.Decides.{nat_tests}
 use Rattle.std.proofs.lemmas.Int.{ints}
 use Rattle.std.proofs.lemmas.List.{length-replicate}
 use Rattle.std.proofs.lemmas.Nat.{le-div}
-use Rattle.decimals.specs.Decimals.{decimal_from, fitting, number_of_digits, with_sign}
-use Rattle.decimals.specs.Rounding.{digit_count, digits_behind, nearest, rounded_number}
+use Rattle.decimals.specs.Words.{fitting, number_of_digits, with_sign, digit_count, digits_behind}
+use Rattle.decimals.specs.Words.{nearest}
+use Rattle.decimals.specs.Decimals.{decimal_from}
+use Rattle.decimals.specs.Rounding.{rounded_number}
 use Rattle.decimals.proofs.Nearest.{factors, low, nearest_most, some}
 use Rattle.decimals.proofs.ReadsBack.{Writes, number_form}
 use Rattle.decimals.proofs.Rounded.{count_is, few_digits, not_negative, size_signed}
 use Rattle.decimals.proofs.RoundedLaws.{has_digits}
 use Rattle.excel_dates.proofs.SerialSteps.{by_false}
-use Rattle.shown_text.specs.Digits.{digits_above_0, nearest_digits}
-use Rattle.shown_text.specs.GeneralText.{first_power}
-use Rattle.shown_text.specs.NumberTexts.{power_over, shown_power, whole_steps}
+use Rattle.shown_text.specs.Words.{digits_above_0, nearest_digits, first_power, power_over}
+use Rattle.shown_text.specs.Words.{shown_power, whole_steps}
 use Rattle.shown_text_laws.proofs.ManyPlaces.{pointed}
 use Rattle.shown_text_laws.proofs.NearPlaces.{cut}
 use Rattle.shown_text_laws.proofs.ReadPlaces.{above_0_writes}

@@ -1,8 +1,8 @@
 -- Codes with `;` between them.
-use Rattle.std.specs.Prelude.{ℕ, zero, suc, ◌==◌, ◌&&◌, ◌||◌, not, Bool, true, false}
-use Rattle.std.specs.Prelude.{if◌then◌else◌, List, [], ◌∷◌, length}
+use Rattle.std.specs.Prelude.{ℕ, zero, suc, ◌==◌, ◌&&◌, ◌||◌, not, Bool, true, false, if◌then◌else◌}
+use Rattle.std.specs.Prelude.{List, [], ◌∷◌, length}
 use Rattle.std.specs.List.{list_any}
-use Rattle.format_codes.specs.Sections.{pieces_in_front}
+use Rattle.format_codes.specs.Words.{pieces_in_front}
 
 -- What a byte begins doesn't end in the text behind it: a quote or a bracket isn't closed there, or
 -- no character stands behind `\`, `_` or `*`.

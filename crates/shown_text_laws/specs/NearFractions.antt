@@ -1,7 +1,7 @@
 -- Fractions that are near to a number.
 use Rattle.std.specs.Prelude.{ℕ, ◌≡◌, ◌+◌, ◌*◌, ◌<◌, ◌≤◌, List, ◌∷◌, ◌++◌}
 use Rattle.std.specs.Fmt.{decimal}
-use Rattle.shown_text.specs.FractionArithmetic.{distance}
+use Rattle.shown_text.specs.Words.{distance}
 use Rattle.shown_text.specs.declared.fractions.Fraction.{Fraction}
 
 -- A fraction has a denominator up to `most`, and none of such a denominator is nearer to n / unit.

@@ -1,11 +1,9 @@
 -- Numbers that are read of the texts that show them.
 use Rattle.std.specs.Prelude.{ℕ, ◌≡◌, ◌*◌, ◌^◌, ◌<◌, ◌≤◌, Bool, List, Some, ℤ, pos, neg_ℤ, ◌-ℤ◌}
 use Rattle.std.specs.Prelude.{◌*ℤ◌, nat_abs}
-use Rattle.cell_data.specs.CellValue.{number}
-use Rattle.decimals.specs.Decimals.{decimal_from, decimal_of}
-use Rattle.decimals.specs.Rounding.{rounded_number}
-use Rattle.shown_text.specs.GeneralText.{shown_digits}
-use Rattle.shown_text.specs.ShownText.{shown_text}
+use Rattle.cell_data.specs.Words.{number}
+use Rattle.decimals.specs.Words.{decimal_from, decimal_of, rounded_number}
+use Rattle.shown_text.specs.Words.{shown_digits, shown_text}
 use Rattle.shown_text_laws.specs.NumberCodes.{IsShownBySection}
 
 -- Two numbers differ by half a unit of so many places behind the point at most. They are told over

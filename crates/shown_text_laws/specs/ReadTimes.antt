@@ -1,7 +1,7 @@
 -- How a time that has passed is read.
 use Rattle.std.specs.Prelude.{ℕ, ◌≡◌, ◌+◌, ◌*◌, ◌<◌, List, ◌∷◌, ◌++◌}
 use Rattle.std.specs.Fmt.{decimal}
-use Rattle.excel_dates.specs.IsoText.{padded}
+use Rattle.excel_dates.specs.Words.{padded}
 
 -- a text as `36:30:05.250` is a time of so many milliseconds
 pub record IsTimeOf (milliseconds : ℕ) (text : List ℕ) : Type 0 where

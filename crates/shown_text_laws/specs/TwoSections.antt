@@ -1,9 +1,7 @@
 -- Codes of two sections.
 use Rattle.std.specs.Prelude.{ℕ, ◌≡◌, true, List, [], ◌∷◌, None}
 use Rattle.format_codes.specs.declared.piece.CodePiece.{CodePiece}
-use Rattle.format_codes.specs.Choosing.{is_supported, number_sections}
-use Rattle.format_codes.specs.Conditions.{condition_in}
-use Rattle.format_codes.specs.Sections.{shown_sections}
+use Rattle.format_codes.specs.Words.{is_supported, number_sections, condition_in, shown_sections}
 
 -- a code is supported, and these two are its sections of numbers, which have no condition
 pub record HasTwoSections (code : List ℕ) (first second : List CodePiece) : Type 0 where

@@ -1,7 +1,6 @@
 -- The cells of a row between columns, and rows between numbers, found by halving.
-use Rattle.std.proofs.Common.{◌≡◌, ℕ, ◌+◌, ◌≤◌, Bool, true, false}
-use Rattle.std.proofs.Common.{List, [], ◌∷◌, ◌++◌, length, map, take, drop, get_or}
-use Rattle.std.proofs.Common.{refl, sym, ap, ◌∙◌, subst, arith}
+use Rattle.std.proofs.Common.{◌≡◌, ℕ, ◌+◌, ◌≤◌, Bool, true, false, List, [], ◌∷◌, ◌++◌, length, map}
+use Rattle.std.proofs.Common.{take, drop, get_or, refl, sym, ap, ◌∙◌, subst, arith}
 use Rattle.std.specs.Prelude.{◌&&◌, nat_le, nat_lt}
 use Rattle.std.specs.FinMap.{is_sorted}
 use Rattle.std.specs.FinMap.Entries.{is_sorted-where_key}
@@ -10,7 +9,7 @@ use Rattle.std.specs.List.Sorted.{IsPartitionedBy, IsPartitionPoint}
 use Rattle.std.specs.Ordering.{nat_cmp}
 use Rattle.std.proofs.lemmas.List.{map-append, take-append-drop}
 use Rattle.std.proofs.lemmas.List.Elements.{filter-append}
-use Rattle.cell_refs.specs.Positions.{position_cmp, is_rising}
+use Rattle.cell_refs.specs.Words.{position_cmp, is_rising}
 use Rattle.cell_refs.proofs.PositionOrder.{to_T, from_T}
 use Rattle.sorted_cells.specs.declared.row.Row.{Row}
 use Rattle.sorted_cells.specs.declared.row.ColumnCell.{ColumnCell}
@@ -19,8 +18,8 @@ use Rattle.sorted_cells.specs.Cut.{AreLeft}
 use Rattle.sorted_cells.specs.Rows.{row_entry, row_size, cells_by, are_rows, first_of_rows}
 use Rattle.sorted_cells.specs.Rows.{column_entry, columns_rise}
 use Rattle.sorted_cells.specs.Thinned.{is_between, cells_between}
-use Rattle.sorted_cells.proofs.Cutting.{parted_behind, parted_before, placed_first}
-use Rattle.sorted_cells.proofs.Cutting.{le_fails, le_passes}
+use Rattle.sorted_cells.proofs.Cutting.{parted_behind, parted_before, placed_first, le_fails}
+use Rattle.sorted_cells.proofs.Cutting.{le_passes}
 use Rattle.sorted_cells.proofs.Filters.{filter_both, filter_front, filter_back}
 use Rattle.sorted_cells.proofs.Orders.{sorted_parts}
 use Rattle.sorted_cells.proofs.Parts.{rises_by_column}

@@ -1,10 +1,9 @@
 -- The cells of an area.
-use Rattle.std.proofs.Common.{◌≡◌, ℕ, true, List, refl, sym, ap}
-use Rattle.std.proofs.Common.{◌∙◌, subst}
+use Rattle.std.proofs.Common.{◌≡◌, ℕ, true, List, refl, sym, ap, ◌∙◌, subst}
 use Rattle.std.specs.Prelude.{nat_le, length}
 use Rattle.std.specs.FinMap.Entries.{is_sorted-where_key}
 use Rattle.std.specs.List.{filter}
-use Rattle.cell_refs.specs.Positions.{position_cmp, is_rising, is_in_area}
+use Rattle.cell_refs.specs.Words.{position_cmp, is_rising, is_in_area}
 use Rattle.cell_refs.specs.declared.dimensions.Dimensions.{Dimensions}
 use Rattle.sorted_cells.specs.declared.row.Row.{Row}
 use Rattle.sorted_cells.specs.declared.row.ColumnCell.{ColumnCell}

@@ -1,7 +1,7 @@
 -- Cells that are handed out row by row.
 use Rattle.std.proofs.Common.{◌≡◌, ℕ, zero, suc, ◌+◌, ◌-◌, ◌<◌, ◌≤◌, true, List, ◌∷◌, ◌++◌, length}
-use Rattle.std.proofs.Common.{map, take, drop, reverse, [], Option, Some, None, option_to_list, refl}
-use Rattle.std.proofs.Common.{IsSome, IsNone, ◌↔◌, sym, ap, ◌∙◌, subst, arith}
+use Rattle.std.proofs.Common.{map, take, drop, reverse, [], Option, Some, None, option_to_list}
+use Rattle.std.proofs.Common.{refl, IsSome, IsNone, ◌↔◌, sym, ap, ◌∙◌, subst, arith}
 use Rattle.std.proofs.lemmas.List.{drop-drop, length-drop, reverse-append, append-nil}
 use Rattle.std.proofs.lemmas.List.{length-reverse}
 use Rattle.equalities.proofs.Equality.{unequal}

@@ -1,7 +1,7 @@
 -- A cell that is put behind the others.
-use Rattle.std.proofs.Common.{◌≡◌, ℕ, ◌+◌, ◌-◌, ◌≤◌, ◌<◌, Bool, true, false, cond}
-use Rattle.std.proofs.Common.{List, [], ◌∷◌, ◌++◌, length, map, take, drop, Some, None, Option}
-use Rattle.std.proofs.Common.{refl, sym, ◌∙◌, ap, subst, arith}
+use Rattle.std.proofs.Common.{◌≡◌, ℕ, ◌+◌, ◌-◌, ◌≤◌, ◌<◌, Bool, true, false, cond, List, [], ◌∷◌}
+use Rattle.std.proofs.Common.{◌++◌, length, map, take, drop, Some, None, Option, refl, sym, ◌∙◌, ap}
+use Rattle.std.proofs.Common.{subst, arith}
 use Rattle.std.specs.Prelude.{◌&&◌, ◌==◌, nat_le, nat_lt}
 use Rattle.std.specs.declared.cmp.Ordering.{Ordering}
 use Rattle.std.specs.declared.cmp.Ordering.TheVariants.{Less, Equal, Greater}
@@ -13,7 +13,7 @@ use Rattle.std.proofs.lemmas.Cmp.{nat_cmp_total}
 use Rattle.std.proofs.lemmas.List.{map-append, take-append-le, drop-append-le, append_assoc}
 use Rattle.std.proofs.lemmas.List.{length-drop, length-map, length-append, length-take-le}
 use Rattle.std.proofs.lemmas.List.{append-nil, length_push, take_at, drop_at}
-use Rattle.cell_refs.specs.Positions.{position_cmp, is_rising}
+use Rattle.cell_refs.specs.Words.{position_cmp, is_rising}
 use Rattle.sorted_cells.specs.declared.row.Row.{Row}
 use Rattle.sorted_cells.specs.declared.row.ColumnCell.{ColumnCell}
 use Rattle.sorted_cells.specs.Last.{last_key, comes_after}

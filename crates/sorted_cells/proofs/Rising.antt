@@ -1,6 +1,6 @@
 -- What is known of all sorted cells.
 use Rattle.std.proofs.Common.{◌≡◌, true}
-use Rattle.cell_refs.specs.Positions.{is_rising}
+use Rattle.cell_refs.specs.Words.{is_rising}
 use Rattle.sorted_cells.specs.Kept.{kept_cells}
 use Rattle.sorted_cells.specs.declared.sorted.SortedCells.{SortedCells}
 

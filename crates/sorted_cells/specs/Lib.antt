@@ -6,3 +6,4 @@ pub mod Owned
 pub mod Placed
 pub mod Rows
 pub mod Thinned
+pub mod Words

@@ -2,7 +2,7 @@
 use Rattle.std.specs.Prelude.{ℕ, List, [], ◌∷◌, ◌++◌, map, Option, Some, None, ◌==◌, if◌then◌else◌}
 use Rattle.std.specs.Borrow.{Bor}
 use Rattle.std.specs.Ordering.{eq_by_cmp}
-use Rattle.cell_refs.specs.Positions.{position_cmp}
+use Rattle.cell_refs.specs.Words.{position_cmp}
 use Rattle.sorted_cells.specs.declared.placed_cells.PlacedCells.{PlacedCells}
 use Rattle.sorted_cells.specs.Rows.{row_entry, cells_by}
 

@@ -24,7 +24,7 @@ cells_by (own ∷ rows) cells =
     let size = row_size own.first rows (length cells) in
     map (row_entry own.number) (take size cells) ++ cells_by rows (drop size cells)
 
--- these rows share so many cells, from this place on, and each has a cell
+-- rows share so many cells, from a place on, and each of them has a cell
 abbrev pub are_rows : ℕ → List Row → ℕ → Bool
 are_rows place [] left = left == 0
 are_rows place (own ∷ rows) left =
@@ -71,7 +71,7 @@ is_last number [] = false
 is_last number (own ∷ []) = own.number == number
 is_last number (own ∷ next ∷ rows) = is_last number (next ∷ rows)
 
--- these rows, and behind them the one with this number, unless it is the last of them
+-- rows, and behind them the one with this number, unless it is the last of them
 abbrev pub with_row : ℕ → ℕ → List Row → List Row
 with_row number first rows =
     if is_last number rows then rows else rows ++ record { number = number; first = first } ∷ []

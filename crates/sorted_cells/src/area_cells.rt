@@ -1,6 +1,6 @@
 ghost use Rattle.std.specs.Prelude.{IsTrue, length};
 ghost use Rattle.sorted_cells.specs.Rows.{are_rows, first_of_rows, cells_by};
-ghost use Rattle.cell_refs.specs.Positions.{is_rising};
+ghost use Rattle.cell_refs.specs.Words.{is_rising};
 
 use crate::row::{ColumnCell, Row, columns_between, row_size};
 
@@ -21,7 +21,7 @@ impl<'a, T> AreaCells<'a, T> {
     ghost use Rattle.std.specs.Prelude.{◌≡◌, [], true, length};
     ghost use Rattle.sorted_cells.specs.Rows.{are_rows, first_of_rows, cells_by};
     ghost use Rattle.sorted_cells.specs.Area.{area_left, entries_between};
-    ghost use Rattle.cell_refs.specs.Positions.{is_rising};
+    ghost use Rattle.cell_refs.specs.Words.{is_rising};
 
     /// The cells of these rows whose columns lie between these, of which none was taken yet.
     pub(crate) fn new(

@@ -17,8 +17,8 @@ impl<'a, T> PlacedCells<'a, T> {
     ghost use Rattle.std.specs.Prelude.{◌≡◌, [], true, length};
     ghost use Rattle.std.specs.Option.{option_copied};
     ghost use Rattle.sorted_cells.specs.Rows.{are_rows, cells_by};
-    ghost use Rattle.sorted_cells.specs.Placed.{placed_left};
-    ghost use Rattle.sorted_cells.specs.Placed.{first_position, value_first, left_behind, past_row};
+    ghost use Rattle.sorted_cells.specs.Placed.{placed_left, first_position, value_first};
+    ghost use Rattle.sorted_cells.specs.Placed.{left_behind, past_row};
 
     /// The cells of these rows, of which none was taken yet.
     pub(crate) fn new(rows: &'a [Row], cells: &'a [ColumnCell<T>]) -> PlacedCells<'a, T>

@@ -3,8 +3,8 @@ ghost use Rattle.std.specs.Prelude.{◌≡◌, ◌∷◌, true, map, drop, OnOk,
 ghost use Rattle.std.specs.FinMap.{find};
 ghost use Rattle.std.specs.Option.{option_copied};
 ghost use Rattle.std.specs.Ordering.{nat_cmp};
-ghost use Rattle.sorted_cells.specs.Rows.{is_last, with_row, column_entry, columns_rise};
-ghost use Rattle.sorted_cells.specs.Rows.{are_rows, row_size, rows_end};
+ghost use Rattle.sorted_cells.specs.Rows.{is_last, with_row, column_entry, columns_rise, are_rows};
+ghost use Rattle.sorted_cells.specs.Rows.{row_size, rows_end};
 ghost use Rattle.sorted_cells.specs.Thinned.{cells_between};
 
 use std::alloc::AllocError;

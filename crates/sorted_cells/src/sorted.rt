@@ -1,6 +1,6 @@
 ghost use Rattle.std.specs.Prelude.{IsTrue, length};
 ghost use Rattle.sorted_cells.specs.Rows.{are_rows, numbers_rise, cells_by};
-ghost use Rattle.cell_refs.specs.Positions.{is_rising};
+ghost use Rattle.cell_refs.specs.Words.{is_rising};
 
 use crate::area_cells::AreaCells;
 use crate::keeping::{cut_before, cut_behind, is_between, keep_columns, rows_between};
@@ -24,13 +24,12 @@ pub struct SortedCells<T> {
 }
 
 impl<T> SortedCells<T> {
-    ghost use Rattle.std.specs.Prelude.{◌≡◌, ◌++◌, ◌∷◌, [], ◌==◌, length, true, OnOk, OnErr};
-    ghost use Rattle.std.specs.Prelude.{IfOk};
+    ghost use Rattle.std.specs.Prelude.{◌≡◌, ◌++◌, ◌∷◌, [], ◌==◌, length, true, OnOk, OnErr, IfOk};
     ghost use Rattle.std.specs.Prelude.{◌+◌, ◌<◌, ◌^◌, drop};
     ghost use Rattle.std.specs.FinMap.{find};
     ghost use Rattle.std.specs.List.{filter};
     ghost use Rattle.std.specs.Option.{option_copied};
-    ghost use Rattle.cell_refs.specs.Positions.{position_cmp, is_in_area};
+    ghost use Rattle.cell_refs.specs.Words.{position_cmp, is_in_area};
     ghost use Rattle.sorted_cells.specs.Rows.{cells_of_row, rows_end};
     ghost use Rattle.sorted_cells.specs.Area.{area_left};
     ghost use Rattle.sorted_cells.specs.Kept.{kept_cells};

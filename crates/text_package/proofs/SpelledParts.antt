@@ -1,7 +1,6 @@
 -- Markup that is written is the text of a part.
 use Rattle.std.proofs.Common.{◌≡◌, ℕ, zero, suc, ◌≤◌, List, [], ◌∷◌, ◌++◌, true, false, Option}
-use Rattle.std.proofs.Common.{Some, None}
-use Rattle.std.proofs.Common.{length, refl, sym, ap, ◌∙◌, subst, arith}
+use Rattle.std.proofs.Common.{Some, None, length, refl, sym, ap, ◌∙◌, subst, arith}
 use Rattle.std.specs.Prelude.{◌==◌, ◌||◌, codes, nat_lt}
 use Rattle.std.specs.List.{list_any, list_all, All, flat_map}
 use Rattle.std.specs.Str.{IsAscii}
@@ -11,18 +10,15 @@ use Rattle.std.proofs.lemmas.Bool.{cond-false, and_left, both_ways, eq-eqb, ltb-
 use Rattle.std.proofs.lemmas.List.Folds.{list_any-append, list_any_at}
 use Rattle.std.proofs.lemmas.List.{append_assoc}
 use Rattle.memchr.specs.Find.{IsFirstByte, is_byte}
-use Rattle.markup.specs.Marks.{begins_with, begins_no_name}
+use Rattle.markup.specs.Words.{begins_with, begins_no_name, Piece, one, empty, events_of_piece}
+use Rattle.markup.specs.Words.{spelled, spelled_leaf, spelled_piece, are_spellable, is_tag_name}
 use Rattle.std.proofs.lemmas.Str.{IsUtf8-append, IsUtf8-from_ascii, IsUtf8-nil}
-use Rattle.part_events.specs.Event.{Tag, Leaf, start, end, leaf, text, char_data}
-use Rattle.part_events.specs.Event.{entity_ref, flaw, other}
-use Rattle.markup.specs.Front.{Piece, one, empty}
-use Rattle.markup.specs.Markup.{events_of_piece}
-use Rattle.markup.specs.Spelled.{spelled, spelled_leaf, spelled_piece, are_spellable, is_tag_name}
+use Rattle.part_events.specs.Words.{Tag, Leaf, start, end, leaf, text, char_data, entity_ref, flaw}
+use Rattle.part_events.specs.Words.{other}
 use Rattle.markup.proofs.CutBack.{cut_back}
 use Rattle.markup.proofs.Fronts.{bounded}
 use Rattle.text_package.specs.PartText.{text_in, events_in, part_markup, without_mark}
-use Rattle.text_package.specs.PartText.{declares_other}
-use Rattle.text_package.specs.PartText.{names_other}
+use Rattle.text_package.specs.PartText.{declares_other, names_other}
 use Rattle.text_package.specs.PartSpelling.{IsPartText, HasTagTexts, HasLeafText, HasTexts}
 use Rattle.text_package.specs.PartSpelling.{begin_with_tag}
 use Rattle.text_package.proofs.Texts.{is_text, text_within, some_byte}

@@ -1,19 +1,18 @@
 -- Reading a part from one event to the next.
-use Rattle.std.proofs.Common.{◌≡◌, ℕ, ◌+◌, ◌-◌, ◌<◌, List, [], ◌∷◌, Bool, true, false, Option}
-use Rattle.std.proofs.Common.{Some, None, length, drop, get_or, refl, sym, ap, ◌∙◌, subst, arith}
-use Rattle.std.proofs.Common.{inl, inr}
+use Rattle.std.proofs.Common.{◌≡◌, ℕ, ◌+◌, ◌-◌, ◌<◌, List, [], ◌∷◌, Bool, true, false, Option, Some}
+use Rattle.std.proofs.Common.{None, length, drop, get_or, refl, sym, ap, ◌∙◌, subst, arith, inl}
+use Rattle.std.proofs.Common.{inr}
 use Rattle.std.specs.Prelude.{◌==◌}
 use Rattle.std.specs.Str.{IsUtf8}
 use Rattle.std.proofs.lemmas.Bool.{cond-true, cond-false, cases_lt, eq-eqb, ne_eqb, false≢true}
 use Rattle.std.proofs.lemmas.List.{drop_all, drop_more}
-use Rattle.part_events.specs.Event.{Event, leaf, other, flaw}
+use Rattle.part_events.specs.Words.{Event, leaf, other, flaw}
 use Rattle.part_events.specs.declared.flaw.Flaw.TheVariants.{NotText}
-use Rattle.markup.specs.Cutting.{IsCutting, Takes, events_left, has_event}
-use Rattle.markup.specs.Markup.{markup_events}
+use Rattle.markup.specs.Words.{IsCutting, Takes, events_left, has_cut_event, markup_events}
 use Rattle.markup.specs.declared.cutter.Cutter.{Cutter}
 use Rattle.markup.proofs.Fronts.{bounded}
 use Rattle.text_package.specs.PartText.{text_in, events_in}
-use Rattle.text_package.specs.Reading.{rest_in, event_in, taken_in, CutsIn, HoldsIn, IsReading}
+use Rattle.text_package.specs.Reading.{rest_in, event_in, taken_in, CutsIn, HoldsIn, IsReadingPart}
 use Rattle.text_package.specs.Reading.{StepsIn}
 use Rattle.text_package.specs.declared.reading.Reading.{Reading}
 use Rattle.text_package.proofs.Texts.{text_is_utf8, text_within, some_byte}
@@ -26,7 +25,7 @@ first_reading size cutter = record { cutter = cutter; left = size; has_event = f
 begins_as : (bytes : List ℕ) (cutter : Cutter) (text : Option (List ℕ)) → text_in bytes ≡ text
     → ((own : List ℕ) → IsUtf8 own → IsCutting own cutter)
     → ((own : List ℕ) → events_left own cutter ≡ markup_events own)
-    → IsReading text (length bytes) (first_reading (length bytes) cutter)
+    → IsReadingPart text (length bytes) (first_reading (length bytes) cutter)
 begins_as bytes cutter None is cuts left =
     let size = length bytes in
     let some = some_byte bytes is in
@@ -52,7 +51,7 @@ begins_as bytes cutter (Some text) is cuts left =
 pub begins : (bytes : List ℕ) (cutter : Cutter)
     → ((own : List ℕ) → IsUtf8 own → IsCutting own cutter)
     → ((own : List ℕ) → events_left own cutter ≡ markup_events own)
-    → IsReading (text_in bytes) (length bytes) (first_reading (length bytes) cutter)
+    → IsReadingPart (text_in bytes) (length bytes) (first_reading (length bytes) cutter)
 begins bytes cutter cuts left = begins_as bytes cutter (text_in bytes) refl cuts left
 
 -- ---- a step
@@ -74,9 +73,9 @@ next_is events n first rest is = elim (cases_lt n (length events)) [
       record { within = inside; is = cc; behind = cc }
 ]
 
-pub stepped : (text : Option (List ℕ)) (size : ℕ) (old new : Reading) → IsReading text size old
+pub stepped : (text : Option (List ℕ)) (size : ℕ) (old new : Reading) → IsReadingPart text size old
     → StepsIn true text size old new → CutsIn text new → HoldsIn text new
-    → new.left ≡ old.left - 1 → IsReading text size new
+    → new.left ≡ old.left - 1 → IsReadingPart text size new
 stepped text size old new been steps cuts holds left =
     let events = events_in text in
     let n : ℕ = taken_in size old in
@@ -106,22 +105,22 @@ counted reading more = record {
 }
 
 pub after_text : (found : Option (List ℕ)) (text : List ℕ) (size : ℕ) (old made : Reading)
-    (cutter : Cutter) (more result : Bool) → Some text ≡ found → IsReading found size old
+    (cutter : Cutter) (more result : Bool) → Some text ≡ found → IsReadingPart found size old
     → IsCutting text cutter → Takes result text old.cutter cutter
-    → result ≡ has_event cutter.held → more ≡ result → more ≡ true
+    → result ≡ has_cut_event cutter.held → more ≡ result → more ≡ true
     → made ≡ record { cutter = cutter; left = old.left; has_event = old.has_event }
-    → IsReading found size (counted made more)
+    → IsReadingPart found size (counted made more)
 after_text found text size old made cutter more result is been cuts takes has same goes_on made_is =
     let here : result ≡ true = sym same ∙ goes_on in
     let own : Reading = record { cutter = cutter; left = old.left; has_event = old.has_event } in
-    subst (λ (reading : Reading). IsReading found size (counted reading more)) (sym made_is)
-    (subst (λ (f : Option (List ℕ)). IsReading f size (counted own more)) is
+    subst (λ (reading : Reading). IsReadingPart found size (counted reading more)) (sym made_is)
+    (subst (λ (f : Option (List ℕ)). IsReadingPart f size (counted own more)) is
     (stepped (Some text) size old (counted own more)
-    (subst (λ (f : Option (List ℕ)). IsReading f size old) (sym is) been)
+    (subst (λ (f : Option (List ℕ)). IsReadingPart f size old) (sym is) been)
     (subst (λ (b : Bool). Takes b text old.cutter cutter) here takes) cuts (sym has ∙ here) refl))
 
 -- the only step in a part that is no text
-flaw_taken : (size : ℕ) (old : Reading) (more : Bool) → IsReading None size old
+flaw_taken : (size : ℕ) (old : Reading) (more : Bool) → IsReadingPart None size old
     → (old.left == size) ≡ true → StepsIn true None size old (counted old more)
 flaw_taken size old more been first =
     let own : rest_in None size old ≡ leaf (flaw NotText) ∷ [] = cond-true _ _ _ first in
@@ -131,13 +130,13 @@ flaw_taken size old more been first =
     own ∙ ap (λ (rest : List Event). leaf (flaw NotText) ∷ rest) (sym (cond-false _ _ _ other))
 
 pub after_flaw : (found : Option (List ℕ)) (size own : ℕ) (old made : Reading) (more : Bool)
-    → None ≡ found → IsReading found size old → own ≡ size → more ≡ (old.left == own)
-    → more ≡ true → made ≡ old → IsReading found size (counted made more)
+    → None ≡ found → IsReadingPart found size old → own ≡ size → more ≡ (old.left == own)
+    → more ≡ true → made ≡ old → IsReadingPart found size (counted made more)
 after_flaw found size own old made more is been size_is same goes_on made_is =
-    let before = subst (λ (f : Option (List ℕ)). IsReading f size old) (sym is) been in
+    let before = subst (λ (f : Option (List ℕ)). IsReadingPart f size old) (sym is) been in
     let first : (old.left == size) ≡ true =
     ap (λ n. old.left == n) (sym size_is) ∙ sym same ∙ goes_on in
-    subst (λ (reading : Reading). IsReading found size (counted reading more)) (sym made_is)
-    (subst (λ (f : Option (List ℕ)). IsReading f size (counted old more)) is
+    subst (λ (reading : Reading). IsReadingPart found size (counted reading more)) (sym made_is)
+    (subst (λ (f : Option (List ℕ)). IsReadingPart f size (counted old more)) is
     (stepped None size old (counted old more) before (flaw_taken size old more before first) tt tt
     refl))

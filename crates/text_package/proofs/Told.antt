@@ -3,39 +3,36 @@ use Rattle.std.proofs.Common.{◌≡◌, ℕ, ◌<◌, List, [], ◌∷◌, ◌+
 use Rattle.std.proofs.Common.{refl, sym, ap, ◌∙◌, subst, arith}
 use Rattle.std.specs.Prelude.{IfSome, slice_index_or}
 use Rattle.std.proofs.lemmas.List.{length-map, get_or-map, get_or_default}
-use Rattle.part_events.specs.Event.{Event}
-use Rattle.part_events.specs.Package.{Part, folded, part_of}
-use Rattle.part_events.specs.PartNames.{place_of, FindsParts}
-use Rattle.part_events.specs.Memory.{part_at}
+use Rattle.part_events.specs.Words.{Event, Part, folded, part_of, place_of, FindsParts, part_at}
 use Rattle.part_events.specs.declared.part_names.PartNames.{PartNames}
 use Rattle.part_events.proofs.NamesFound.{place_within, opens_found, place_of_more}
 use Rattle.text_package.specs.PartText.{part_markup}
-use Rattle.text_package.specs.TextParts.{TextOfPart, part_told, bytes_at}
+use Rattle.text_package.specs.TextParts.{TextOfPart, part_seen, bytes_at}
 
 told_within : (parts : List TextOfPart) (found : Option ℕ)
-    → IfSome found (λ at. at < length (map part_told parts))
+    → IfSome found (λ at. at < length (map part_seen parts))
     → IfSome found (λ at. at < length parts)
 told_within parts None is = tt
-told_within parts (Some place) is = omega (arith, is, length-map parts part_told)
+told_within parts (Some place) is = omega (arith, is, length-map parts part_seen)
 
 pub found_within : (parts : List TextOfPart) (key : List ℕ) (place : ℕ)
-    → Some place ≡ place_of (map part_told parts) key → place < length parts
+    → Some place ≡ place_of (map part_seen parts) key → place < length parts
 found_within parts key place is =
     subst (λ (found : Option ℕ). IfSome found (λ at. at < length parts)) (sym is)
-    (told_within parts (place_of (map part_told parts) key)
-    (place_within (map part_told parts) key))
+    (told_within parts (place_of (map part_seen parts) key)
+    (place_within (map part_seen parts) key))
 
 -- the events of the part at a place
 pub told_at : (parts : List TextOfPart) (place : ℕ) → place < length parts
-    → (part_at (map part_told parts) place).events ≡ part_markup (bytes_at parts place)
+    → (part_at (map part_seen parts) place).events ≡ part_markup (bytes_at parts place)
 told_at parts place within =
     ap (λ (part : Part). part.events)
-    (get_or-map part_told parts place ([], []) (record { name = []; events = [] }) within)
+    (get_or-map part_seen parts place ([], []) (record { name = []; events = [] }) within)
 
 pub opens_told : (parts : List TextOfPart) (name : List ℕ) (place : ℕ)
-    → Some place ≡ place_of (map part_told parts) (folded name)
-    → part_of (map part_told parts) name ≡ Some (part_at (map part_told parts) place).events
-opens_told parts name place is = opens_found (map part_told parts) name place is
+    → Some place ≡ place_of (map part_seen parts) (folded name)
+    → part_of (map part_seen parts) name ≡ Some (part_at (map part_seen parts) place).events
+opens_told parts name place is = opens_found (map part_seen parts) name place is
 
 -- ---- a part more
 
@@ -48,22 +45,22 @@ same_place parts name events key =
     ∙ sym (place_of_more parts (record { name = name; events = events }) key)
 
 told_more : (parts : List TextOfPart) (part : TextOfPart)
-    → map part_told parts ++ part_told part ∷ [] ≡ map part_told (parts ++ part ∷ [])
+    → map part_seen parts ++ part_seen part ∷ [] ≡ map part_seen (parts ++ part ∷ [])
 told_more [] part = refl
 told_more (first ∷ parts) part =
-    ap (λ (rest : List Part). part_told first ∷ rest) (told_more parts part)
+    ap (λ (rest : List Part). part_seen first ∷ rest) (told_more parts part)
 
 pub finds_more : (names : PartNames) (parts more : List TextOfPart) (name bytes : List ℕ)
-    → FindsParts names (map part_told parts ++ record { name = name; events = [] } ∷ [])
-    → more ≡ parts ++ (name, bytes) ∷ [] → FindsParts names (map part_told more)
+    → FindsParts names (map part_seen parts ++ record { name = name; events = [] } ∷ [])
+    → more ≡ parts ++ (name, bytes) ∷ [] → FindsParts names (map part_seen more)
 finds_more names parts more name bytes been is =
-    let told = map part_told parts in
+    let told = map part_seen parts in
     let events = part_markup bytes in
     let own : FindsParts names (told ++ record { name = name; events = events } ∷ []) = record {
       kept = λ key. been.kept key ∙ same_place told name events key;
       fits = λ key longer. sym (same_place told name events key) ∙ been.fits key longer;
     } in
-    subst (λ (all : List TextOfPart). FindsParts names (map part_told all)) (sym is)
+    subst (λ (all : List TextOfPart). FindsParts names (map part_seen all)) (sym is)
     (subst (λ (all : List Part). FindsParts names all) (told_more parts (name, bytes)) own)
 
 -- what is read at a place is the part there

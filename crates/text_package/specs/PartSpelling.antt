@@ -2,20 +2,20 @@
 use Rattle.std.specs.Prelude.{◌≡◌, ⊤, ℕ, Bool, true, false, ◌==◌, List, [], ◌∷◌}
 use Rattle.std.specs.List.{list_any}
 use Rattle.std.specs.Str.{IsUtf8}
-use Rattle.part_events.specs.Event.{Tag, Leaf, start, end, leaf, text, char_data}
-use Rattle.part_events.specs.Event.{entity_ref, flaw, other}
-use Rattle.markup.specs.Front.{Piece, one, empty}
+use Rattle.part_events.specs.Words.{Tag, Leaf, start, end, leaf, text, char_data, entity_ref, flaw}
+use Rattle.part_events.specs.Words.{other}
+use Rattle.markup.specs.Words.{Piece, one, empty}
 
 -- the text is UTF-8 and has no character 0
 pub record IsPartText (bytes : List ℕ) : Type 0 where
   pub utf8 : IsUtf8 bytes
   pub no_zero : list_any (λ b. b == 0) bytes ≡ false
 
--- both texts of a tag are ones
+-- the name and the attribute text of a tag are UTF-8 and have no character 0
 abbrev pub HasTagTexts : Tag → Type 0
 HasTagTexts tag = IsPartText tag.name × IsPartText tag.attributes
 
--- the text of a leaf is one
+-- the text of a leaf is UTF-8 and has no character 0
 abbrev pub HasLeafText : Leaf → Type 0
 HasLeafText (text content) = IsPartText content
 HasLeafText (char_data content) = IsPartText content
@@ -23,7 +23,7 @@ HasLeafText (entity_ref name) = IsPartText name
 HasLeafText (flaw why) = ⊤
 HasLeafText other = ⊤
 
--- each text of a piece is one
+-- each text of a piece of markup is UTF-8 and has no character 0
 abbrev pub HasTexts : Piece → Type 0
 HasTexts (one (start tag)) = HasTagTexts tag
 HasTexts (one (end name)) = IsPartText name

@@ -1,9 +1,9 @@
 -- Where reading stands in a part.
 use Rattle.std.specs.Prelude.{◌≡◌, ⊤, ℕ, ◌-◌, ◌<◌, ◌≤◌, List, [], ◌∷◌, length, drop, Bool, true}
 use Rattle.std.specs.Prelude.{false, ◌==◌, if◌then◌else◌, Option, Some, None, slice_index_or}
-use Rattle.part_events.specs.Event.{Event, leaf, other, flaw}
+use Rattle.part_events.specs.Words.{Event, leaf, other, flaw}
 use Rattle.part_events.specs.declared.flaw.Flaw.TheVariants.{NotText}
-use Rattle.markup.specs.Cutting.{events_left, held_event, has_event, IsCutting}
+use Rattle.markup.specs.Words.{events_left, held_event, has_cut_event, IsCutting}
 use Rattle.text_package.specs.PartText.{events_in}
 use Rattle.text_package.specs.declared.reading.Reading.{Reading}
 
@@ -13,7 +13,7 @@ abbrev pub rest_in : Option (List ℕ) → ℕ → Reading → List Event
 rest_in None size reading = if reading.left == size then leaf (flaw NotText) ∷ [] else []
 rest_in (Some text) size reading = events_left text reading.cutter
 
--- the event at hand
+-- the event at hand of the text that a part is; of one that is no text it is the flaw
 abbrev pub event_in : Option (List ℕ) → Reading → Event
 event_in None reading = leaf (flaw NotText)
 event_in (Some text) reading = held_event text reading.cutter.held
@@ -30,7 +30,7 @@ CutsIn (Some text) reading = IsCutting text reading.cutter
 -- the cutter has an event at hand
 abbrev pub HoldsIn : Option (List ℕ) → Reading → Type 0
 HoldsIn None reading = ⊤
-HoldsIn (Some text) reading = has_event reading.cutter.held ≡ true
+HoldsIn (Some text) reading = has_cut_event reading.cutter.held ≡ true
 
 -- an event is at hand: the last one that was taken
 pub record IsAtHand (text : Option (List ℕ)) (size : ℕ) (reading : Reading) : Type 0 where
@@ -40,7 +40,7 @@ pub record IsAtHand (text : Option (List ℕ)) (size : ℕ) (reading : Reading) 
       ≡ slice_index_or (events_in text) (taken_in size reading - 1) (leaf other)
 
 -- reading stands in a part of so many bytes, which are this text, if they are one
-pub record IsReading (text : Option (List ℕ)) (size : ℕ) (reading : Reading) : Type 0 where
+pub record IsReadingPart (text : Option (List ℕ)) (size : ℕ) (reading : Reading) : Type 0 where
   pub left : reading.left ≤ size
   pub rest : rest_in text size reading ≡ drop (taken_in size reading) (events_in text)
   pub room : length (rest_in text size reading) ≤ reading.left

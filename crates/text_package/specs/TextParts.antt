@@ -1,15 +1,12 @@
 -- Parts that are held as text, and a package of them.
-use Rattle.std.specs.Prelude.{◌≡◌, ⊤, ℕ, ◌+◌, ◌-◌, ◌<◌, List, [], map, drop, length}
-use Rattle.std.specs.Prelude.{Option, Some, None, slice_index_or, string_bytes}
-use Rattle.std.specs.Prelude.{option_map, option_and_then}
+use Rattle.std.specs.Prelude.{◌≡◌, ⊤, ℕ, ◌+◌, ◌-◌, ◌<◌, List, [], map, drop, length, Option, Some}
+use Rattle.std.specs.Prelude.{None, slice_index_or, string_bytes, option_map, option_and_then}
 use Rattle.std.specs.Str.{IsCharBoundary}
-use Rattle.part_events.specs.Package.{Part, PackageState, folded}
-use Rattle.part_events.specs.PartNames.{place_of}
-use Rattle.markup.specs.Markup.{flaw_place}
-use Rattle.part_events.specs.Memory.{state_of, taken_of}
+use Rattle.part_events.specs.Words.{Part, PackageState, folded, place_of, state_of, taken_of}
+use Rattle.markup.specs.Words.{flaw_place}
 use Rattle.part_events.specs.declared.memory.Place.{Place}
 use Rattle.text_package.specs.PartText.{text_in, part_markup}
-use Rattle.text_package.specs.Reading.{IsReading, taken_in}
+use Rattle.text_package.specs.Reading.{IsReadingPart, taken_in}
 use Rattle.text_package.specs.declared.part.PartBytes.{PartBytes}
 use Rattle.text_package.specs.declared.part.PartBytes.TheVariants.{Text, NoText}
 use Rattle.text_package.specs.declared.package.TextPlace.{TextPlace}
@@ -18,7 +15,7 @@ use Rattle.text_package.specs.declared.package.TextPlace.{TextPlace}
 abbrev pub TextOfPart : Type 0
 TextOfPart = List ℕ × List ℕ
 
--- the bytes that are held
+-- the bytes of a part as they are held, as text or not
 abbrev pub bytes_of : PartBytes → List ℕ
 bytes_of (Text text mark) = string_bytes text
 bytes_of (NoText bytes) = bytes.items
@@ -34,8 +31,8 @@ IsKept (Text text mark) = IsMark (string_bytes text) mark
 IsKept (NoText bytes) = text_in bytes.items ≡ None
 
 -- a part as its reader sees it
-abbrev pub part_told : TextOfPart → Part
-part_told part = record { name = part.0; events = part_markup part.1 }
+abbrev pub part_seen : TextOfPart → Part
+part_seen part = record { name = part.0; events = part_markup part.1 }
 
 -- what a package holds: its parts, where reading stands, and how many events were taken of any part
 pub record TextContents : Type 0 where
@@ -57,7 +54,7 @@ open_bytes parts (Some place) = bytes_at parts place.part
 abbrev pub texts_state : TextContents → PackageState
 texts_state held =
     let told = state_of (record {
-      parts = map part_told held.parts;
+      parts = map part_seen held.parts;
       place = held.place;
       taken = held.taken;
     }) in
@@ -79,19 +76,19 @@ place_seen parts place = record {
 abbrev pub IsTextPlace : List TextOfPart → Option TextPlace → Type 0
 IsTextPlace parts None = ⊤
 IsTextPlace parts (Some place) = (place.part < length parts)
-    × IsReading (text_in (bytes_at parts place.part)) (length (bytes_at parts place.part))
+    × IsReadingPart (text_in (bytes_at parts place.part)) (length (bytes_at parts place.part))
     place.reading
 
 -- ---- flaws
 
--- where the flaw stands in the bytes of a part, if they have one: at the first of them where they
--- are no text
+-- where the flaw stands in the bytes of a part, by the text that they are, if they have one: at the
+-- first of them where they are no text
 abbrev pub flaw_in : List ℕ → Option (List ℕ) → Option ℕ
 flaw_in bytes None = Some 0
 flaw_in bytes (Some text) =
     option_map (λ place. (length bytes - length text) + place) (flaw_place text)
 
--- the same of what the text of the bytes is
+-- where the flaw stands in the bytes of a part, if they have one
 abbrev pub part_flaw : List ℕ → Option ℕ
 part_flaw bytes = flaw_in bytes (text_in bytes)
 
@@ -99,4 +96,4 @@ part_flaw bytes = flaw_in bytes (text_in bytes)
 abbrev pub named_flaw : List TextOfPart → List ℕ → Option ℕ
 named_flaw parts name =
     option_and_then (λ place. part_flaw (bytes_at parts place))
-    (place_of (map part_told parts) (folded name))
+    (place_of (map part_seen parts) (folded name))

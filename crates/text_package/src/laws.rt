@@ -3,9 +3,7 @@
 ghost use Rattle.std.specs.Prelude.{◌≡◌, ◌≤◌, ℕ, List, length, true};
 ghost use Rattle.std.specs.List.{flat_map, All};
 ghost use Rattle.equalities.specs.Equality.{CopiesItself};
-ghost use Rattle.markup.specs.Front.{Piece};
-ghost use Rattle.markup.specs.Markup.{events_of_piece};
-ghost use Rattle.markup.specs.Spelled.{spelled, are_spellable};
+ghost use Rattle.markup.specs.Words.{Piece, events_of_piece, spelled, are_spellable};
 ghost use Rattle.text_package.specs.PartText.{part_markup};
 ghost use Rattle.text_package.specs.PartSpelling.{HasTexts, begin_with_tag};
 

@@ -1,7 +1,6 @@
 //! A package whose parts are held as text.
-ghost use Rattle.std.specs.Prelude.{◌≡◌, ◌++◌, ◌∷◌, [], OnOk, OnErr};
-ghost use Rattle.std.specs.Prelude.{IfOk, IsOk, true};
-ghost use Rattle.part_events.specs.Package.{SameParts, Opens, OpenCounts, Advances, AdvanceCounts};
+ghost use Rattle.std.specs.Prelude.{◌≡◌, ◌++◌, ◌∷◌, [], OnOk, OnErr, IfOk, IsOk, true};
+ghost use Rattle.part_events.specs.Words.{SameParts, Opens, OpenCounts, Advances, AdvanceCounts};
 ghost use Rattle.text_package.specs.TextParts.{closed_texts, texts_state, named_flaw};
 
 use crate::part::TextPart;
@@ -31,9 +30,9 @@ pub struct TextPackage {
 
 impl Model for TextPackage {
     ghost use Rattle.std.specs.Prelude.{map, option_map};
-    ghost use Rattle.part_events.specs.PartNames.{FindsParts};
+    ghost use Rattle.part_events.specs.Words.{FindsParts};
     ghost use Rattle.text_package.specs.TextParts.{TextContents, place_seen, IsTextPlace};
-    ghost use Rattle.text_package.specs.TextParts.{part_told};
+    ghost use Rattle.text_package.specs.TextParts.{part_seen};
 
     ghost Value = { TextContents };
 
@@ -44,7 +43,7 @@ impl Model for TextPackage {
     } };
 
     ghost invariant = { λ a. IsTextPlace a.parts.items a.place
-        × FindsParts a.names (map part_told a.parts.items) };
+        × FindsParts a.names (map part_seen a.parts.items) };
 }
 
 impl TextPackage {
@@ -101,7 +100,7 @@ impl Package for TextPackage {
         ensures keeps { SameParts (texts_state self.old) (texts_state self.new) }
         ensures counts { IfOk result (λ found. OpenCounts found (texts_state self.old)
             (texts_state self.new)) }
-        ensures opens { (texts_state self.old).is_told ≡ true
+        ensures opens { (texts_state self.old).is_visible ≡ true
             → IfOk result (λ found. Opens name.now found (texts_state self.old)
             (texts_state self.new)) }
         ensures never { IsOk result }
@@ -123,7 +122,7 @@ impl Package for TextPackage {
         ensures keeps { SameParts (texts_state self.old) (texts_state self.new) }
         ensures counts { IfOk result (λ more. AdvanceCounts more (texts_state self.old)
             (texts_state self.new)) }
-        ensures events { (texts_state self.old).is_told ≡ true
+        ensures events { (texts_state self.old).is_visible ≡ true
             → IfOk result (λ more. Advances more (texts_state self.old)
             (texts_state self.new)) }
         ensures never { IsOk result }

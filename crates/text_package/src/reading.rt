@@ -1,8 +1,8 @@
 //! Where reading stands in a part.
 ghost use Rattle.std.specs.Prelude.{◌≡◌, ◌+◌, length, true, false, if◌then◌else◌};
-ghost use Rattle.part_events.specs.Event.{event_of};
+ghost use Rattle.part_events.specs.Words.{event_of};
 ghost use Rattle.text_package.specs.PartText.{text_in};
-ghost use Rattle.text_package.specs.Reading.{IsReading, StepsIn, event_in};
+ghost use Rattle.text_package.specs.Reading.{IsReadingPart, StepsIn, event_in};
 
 use crate::part::TextPart;
 use markup::Cutter;
@@ -21,7 +21,7 @@ pub struct Reading {
 impl Reading {
     /// Before the first event of a part.
     pub fn new(part: &TextPart) -> Reading
-        ensures stands { IsReading (text_in part.now.1) (length part.now.1) result }
+        ensures stands { IsReadingPart (text_in part.now.1) (length part.now.1) result }
         ensures left { result.left ≡ length part.now.1 }
         ensures has { result.has_event ≡ false }
     {
@@ -41,8 +41,8 @@ impl Reading {
 
     /// Takes the next event of the part. Answers false at its end.
     pub fn advance(&mut self, part: &TextPart) -> bool
-        requires { IsReading (text_in part.now.1) (length part.now.1) self.old }
-        ensures stands { IsReading (text_in part.now.1) (length part.now.1) self.new }
+        requires { IsReadingPart (text_in part.now.1) (length part.now.1) self.old }
+        ensures stands { IsReadingPart (text_in part.now.1) (length part.now.1) self.new }
         ensures steps { StepsIn result (text_in part.now.1) (length part.now.1) self.old self.new }
         ensures left { self.old.left ≡ (if result then self.new.left + 1 else self.new.left) }
         ensures has { self.new.has_event ≡ result }
@@ -60,7 +60,7 @@ impl Reading {
 
     /// The event of the part that the last call took.
     pub fn event<'a>(&self, part: &'a TextPart) -> PartEvent<'a>
-        requires stands { IsReading (text_in part.now.1) (length part.now.1) self.now }
+        requires stands { IsReadingPart (text_in part.now.1) (length part.now.1) self.now }
         requires has { self.now.has_event ≡ true }
         ensures { event_of result ≡ event_in (text_in part.now.1) self.now }
     {

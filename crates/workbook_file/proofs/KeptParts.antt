@@ -1,15 +1,11 @@
 -- Parts that are unpacked into a package in memory, event by event and part by part.
-use Rattle.std.proofs.Common.{◌≡◌, ℕ, ◌+◌, ◌-◌, ◌<◌, ◌≤◌, List, [], ◌∷◌, ◌++◌, length, take}
-use Rattle.std.proofs.Common.{None, Some, Option, refl, sym, ap, ◌∙◌, arith, get_or, append_assoc}
+use Rattle.std.proofs.Common.{◌≡◌, ℕ, ◌+◌, ◌-◌, ◌<◌, ◌≤◌, List, [], ◌∷◌, ◌++◌, length, take, None}
+use Rattle.std.proofs.Common.{Some, Option, refl, sym, ap, ◌∙◌, arith, get_or, append_assoc}
 use Rattle.std.specs.Option.{option_map_or}
 use Rattle.std.proofs.lemmas.List.{drop_more, get_or-map, length-map, take_all, take_more}
-use Rattle.part_events.specs.Event.{Event, leaf, other}
-use Rattle.part_events.specs.Memory.{with_event}
-use Rattle.part_events.specs.Package.{Part}
-use Rattle.zip_archive.specs.Entries.{Entry}
-use Rattle.zip_archive.specs.Kept.{ArchiveFile}
-use Rattle.zip_archive.specs.Members.{member_names, no_entry}
-use Rattle.zip_archive.specs.Names.{last_entry, members}
+use Rattle.part_events.specs.Words.{Event, leaf, other, with_event, Part}
+use Rattle.zip_archive.specs.Words.{Entry, ArchiveFile, member_names, no_entry, last_entry}
+use Rattle.zip_archive.specs.Words.{part_entries}
 use Rattle.workbook_file.specs.Contents.{just_opened}
 use Rattle.workbook_file.specs.FileParts.{entry_events, file_parts, held_by, part_named}
 use Rattle.workbook_file.specs.OpenEvents.{OpenEvents, last_taken, next_taken, rest_of}
@@ -52,7 +48,7 @@ split_more done old new event all within is own split =
 pub parts_more : (held : ArchiveFile) (place entry : ℕ) (name : List ℕ) (part : OpenEvents) →
     let entries : List Entry = held.archive.entries in
     place < length (member_names entries) → name ≡ get_or (member_names entries) place []
-    → last_entry None (members entries) (get_or (member_names entries) place [])
+    → last_entry None (part_entries entries) (get_or (member_names entries) place [])
     ≡ Some (get_or entries entry no_entry)
     → part ≡ just_opened (held_by held (get_or entries entry no_entry))
     → take place (file_parts held) ++ record { name = name; events = rest_of part } ∷ []

@@ -5,11 +5,10 @@ use Rattle.std.specs.Prelude.{if◌then◌else◌}
 use Rattle.std.specs.Option.{option_map, option_and_then, option_map_or}
 use Rattle.std.specs.Str.{bytes_eq}
 use Rattle.std.proofs.lemmas.Slice.Eq.{bytes_eq-Decides}
-use Rattle.part_events.specs.Event.{Event}
-use Rattle.part_events.specs.Package.{folded, part_of}
-use Rattle.zip_archive.specs.Entries.{Entry}
-use Rattle.zip_archive.specs.Kept.{ArchiveFile}
-use Rattle.zip_archive.specs.Names.{Member, first_text, last_entry, members, part_entry}
+use Rattle.part_events.specs.Words.{Event, folded, part_of}
+use Rattle.zip_archive.specs.Words.{Entry, ArchiveFile, Member, first_same_name, last_entry}
+use Rattle.zip_archive.specs.Words.{part_entries}
+use Rattle.zip_archive.specs.Names.{part_entry}
 use Rattle.workbook_file.specs.FileParts.{entry_events, file_parts, held_by, part_named}
 
 -- ---- the first member of a name has a last one
@@ -31,8 +30,8 @@ found_stays (m ∷ ms) text found =
     stays_by (bytes_eq m.text text) m.entry found ms text (λ entry. found_stays ms text entry)
 
 first_by : (is : Bool) (m : Member) (ms : List Member) (found : Option Entry)
-    (name text : List ℕ) → (if is then Some m.text else first_text ms name) ≡ Some text
-    → ((before : Option Entry) → first_text ms name ≡ Some text → HasLast before ms text)
+    (name text : List ℕ) → (if is then Some m.text else first_same_name ms name) ≡ Some text
+    → ((before : Option Entry) → first_same_name ms name ≡ Some text → HasLast before ms text)
     → HasLast found (m ∷ ms) text
 first_by true m ms found name text is more =
     let same : m.text ≡ text = cc in
@@ -47,7 +46,7 @@ first_by false m ms found name text is more =
 
 -- the first name that is the asked one has an entry
 first_has_last : (ms : List Member) (found : Option Entry) (name text : List ℕ)
-    → first_text ms name ≡ Some text → HasLast found ms text
+    → first_same_name ms name ≡ Some text → HasLast found ms text
 first_has_last [] found name text is = absurd cc
 first_has_last (m ∷ ms) found name text is =
     first_by (bytes_eq (folded m.text) (folded name)) m ms found name text is
@@ -68,10 +67,10 @@ step_by false held own first events is = is
 
 by_first : (held : ArchiveFile) (ms : List Member) (name : List ℕ)
     → part_of (map (part_named held) (map (λ (m : Member). m.text) ms)) name
-    ≡ option_map (events_named held) (first_text ms name)
+    ≡ option_map (events_named held) (first_same_name ms name)
 by_first held [] name = refl
 by_first held (m ∷ ms) name =
-    step_by (bytes_eq (folded m.text) (folded name)) held m.text (first_text ms name)
+    step_by (bytes_eq (folded m.text) (folded name)) held m.text (first_same_name ms name)
     (part_of (map (part_named held) (map (λ (m : Member). m.text) ms)) name)
     (by_first held ms name)
 
@@ -80,13 +79,13 @@ abbrev events_held : ArchiveFile → Entry → List Event
 events_held held entry = entry_events (held_by held entry)
 
 by_last : (held : ArchiveFile) (name : List ℕ) (first : Option (List ℕ))
-    → first_text (members held.archive.entries) name ≡ first
+    → first_same_name (part_entries held.archive.entries) name ≡ first
     → option_map (events_named held) first
     ≡ option_map (events_held held)
-    (option_and_then (λ text. last_entry None (members held.archive.entries) text) first)
+    (option_and_then (λ text. last_entry None (part_entries held.archive.entries) text) first)
 by_last held name None is = refl
 by_last held name (Some text) is =
-    let last = first_has_last (members held.archive.entries) None name text is in
+    let last = first_has_last (part_entries held.archive.entries) None name text is in
     ap (λ (found : Option Entry). Some (option_map_or (events_held held) found [])) last.1
     ∙ sym (ap (option_map (events_held held)) last.1)
 
@@ -95,5 +94,5 @@ pub by_name : (held : ArchiveFile) (name : List ℕ) → part_of (file_parts hel
     (part_entry held.archive.entries name)
 unfolding file_parts part_entry
 by_name held name =
-    by_first held (members held.archive.entries) name
-    ∙ by_last held name (first_text (members held.archive.entries) name) refl
+    by_first held (part_entries held.archive.entries) name
+    ∙ by_last held name (first_same_name (part_entries held.archive.entries) name) refl

@@ -1,16 +1,11 @@
 -- What a part is just behind its opening.
-use Rattle.std.proofs.Common.{◌≡◌, ℕ, ◌<◌, List, [], length, false, Some, None}
-use Rattle.std.proofs.Common.{Result, Ok, Err, refl, sym, ap, ◌∙◌, slice_get, get_or}
+use Rattle.std.proofs.Common.{◌≡◌, ℕ, ◌<◌, List, [], length, false, Some, None, Result, Ok, Err}
+use Rattle.std.proofs.Common.{refl, sym, ap, ◌∙◌, slice_get, get_or}
 use Rattle.std.specs.Option.{option_map, option_and_then}
 use Rattle.std.proofs.lemmas.List.{length-map, get_or-map}
 use Rattle.std.proofs.lemmas.Option.{slice_get-get_or}
-use Rattle.part_events.specs.Event.{Event}
-use Rattle.part_events.specs.Memory.{part_at}
-use Rattle.part_events.specs.Package.{Part, part_of}
-use Rattle.zip_archive.specs.Entries.{Entry}
-use Rattle.zip_archive.specs.Kept.{ArchiveFile}
-use Rattle.zip_archive.specs.Members.{member_names, no_entry}
-use Rattle.zip_archive.specs.Names.{part_entry}
+use Rattle.part_events.specs.Words.{Event, part_at, Part, part_of}
+use Rattle.zip_archive.specs.Words.{Entry, ArchiveFile, member_names, no_entry, part_entry}
 use Rattle.zip_archive.specs.declared.fault.EntryFault.{EntryFault}
 use Rattle.workbook_file.specs.Contents.{just_opened, past_of}
 use Rattle.workbook_file.specs.FileParts.{entry_events, file_parts, held_by, part_named}

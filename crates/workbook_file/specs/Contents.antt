@@ -1,11 +1,9 @@
 -- A workbook file as a package of parts.
-use Rattle.std.specs.Prelude.{◌≡◌, ℕ, List, [], take, reverse, Bool, true, false, Option}
-use Rattle.std.specs.Prelude.{Some, None, Result, Ok, Err, length}
-use Rattle.part_events.specs.Event.{Event, leaf, other}
-use Rattle.part_events.specs.Package.{PackageState}
+use Rattle.std.specs.Prelude.{◌≡◌, ℕ, List, [], take, reverse, Bool, true, false, Option, Some}
+use Rattle.std.specs.Prelude.{None, Result, Ok, Err, length}
+use Rattle.part_events.specs.Words.{Event, leaf, other, PackageState}
 use Rattle.text_package.specs.PartText.{part_markup}
-use Rattle.zip_archive.specs.Entries.{archive_of}
-use Rattle.zip_archive.specs.Kept.{ArchiveFile}
+use Rattle.zip_archive.specs.Words.{archive_of, ArchiveFile}
 use Rattle.zip_archive.specs.declared.fault.EntryFault.{EntryFault}
 use Rattle.workbook_file.specs.FileParts.{file_parts, flaw_alone, flaw_of}
 use Rattle.workbook_file.specs.OpenEvents.{OpenEvents, not_begun, rest_of, last_taken}
@@ -27,7 +25,7 @@ abbrev pub ahead_of : Option OpenEvents → List Event
 ahead_of None = []
 ahead_of (Some part) = rest_of part
 
--- the event at hand
+-- the event of the open part that is at hand
 abbrev pub current_of : Option OpenEvents → Event
 current_of None = leaf other
 current_of (Some part) = last_taken part
@@ -38,20 +36,21 @@ has_current_of None = false
 has_current_of (Some part) = part.has_event
 
 -- how many events the open part still gives, at most
-abbrev pub left_of : Option OpenEvents → ℕ
-left_of None = 0
-left_of (Some part) = part.left
+abbrev pub left_at_most : Option OpenEvents → ℕ
+left_at_most None = 0
+left_at_most (Some part) = part.left
 
--- what it is to its reader; no call of it fails but for want of memory
+-- the state of the package of a workbook file, as its reader knows it; no call of it fails but for
+-- want of memory
 abbrev pub file_state : FileContents → PackageState
 file_state held = record {
-  is_told = true;
+  is_visible = true;
   parts = file_parts held.archive;
   past = past_of held.part;
   rest = ahead_of held.part;
   current = current_of held.part;
   has_current = has_current_of held.part;
-  left = left_of held.part;
+  left = left_at_most held.part;
   taken = held.taken;
   faults = 0;
   takes_memory = true;

@@ -1,16 +1,12 @@
 -- The parts of a workbook file: what its archive's entries hold, as events.
 use Rattle.std.specs.Prelude.{ℕ, List, [], ◌∷◌, map, None, Result, Ok, Err}
 use Rattle.std.specs.Option.{option_map_or}
-use Rattle.part_events.specs.Event.{Event, leaf, flaw}
-use Rattle.part_events.specs.Package.{Part}
+use Rattle.part_events.specs.Words.{Event, leaf, flaw, Part}
 use Rattle.part_events.specs.declared.flaw.Flaw.{Flaw}
 use Rattle.part_events.specs.declared.flaw.Flaw.TheVariants as flaws
 use Rattle.text_package.specs.PartText.{part_markup}
-use Rattle.zip_archive.specs.Entries.{Entry}
-use Rattle.zip_archive.specs.Kept.{ArchiveFile}
-use Rattle.zip_archive.specs.Members.{member_names}
-use Rattle.zip_archive.specs.Names.{members, last_entry}
-use Rattle.zip_archive.specs.Opened.{opened}
+use Rattle.zip_archive.specs.Words.{Entry, ArchiveFile, member_names, part_entries, last_entry}
+use Rattle.zip_archive.specs.Words.{opened}
 use Rattle.zip_archive.specs.declared.fault.EntryFault.{EntryFault}
 use Rattle.zip_archive.specs.declared.fault.EntryFault.TheVariants.{Checksum, Contents, Encrypted}
 use Rattle.zip_archive.specs.declared.fault.EntryFault.TheVariants.{Header, Large, Method, Overlap}
@@ -31,7 +27,7 @@ flaw_of (Contents fault) = flaws.Damaged
 flaw_of Size = flaws.WrongSize
 flaw_of Checksum = flaws.WrongChecksum
 
--- a flaw alone
+-- the events of a part of which nothing can be read: a flaw alone
 abbrev pub flaw_alone : Flaw → List Event
 flaw_alone why = leaf (flaw why) ∷ []
 
@@ -49,7 +45,7 @@ abbrev pub part_named : ArchiveFile → List ℕ → Part
 part_named held name = record {
   name = name;
   events = option_map_or (λ entry. entry_events (held_by held entry))
-      (last_entry None (members held.archive.entries) name) [];
+      (last_entry None (part_entries held.archive.entries) name) [];
 }
 
 -- the parts of a file, in the order of its directory: of each entry that can be one the part of

@@ -1,9 +1,9 @@
 -- The events of an open part, and where reading stands in them.
 use Rattle.std.specs.Prelude.{◌≡◌, ⊤, ℕ, ◌+◌, ◌-◌, ◌<◌, List, [], length, drop, Bool, true, false}
 use Rattle.std.specs.Prelude.{slice_index_or}
-use Rattle.part_events.specs.Event.{Event, leaf, other}
+use Rattle.part_events.specs.Words.{Event, leaf, other}
 use Rattle.text_package.specs.PartText.{text_in, part_markup}
-use Rattle.text_package.specs.Reading.{IsReading, taken_in}
+use Rattle.text_package.specs.Reading.{IsReadingPart, taken_in}
 use Rattle.workbook_file.specs.FileParts.{flaw_alone}
 use Rattle.workbook_file.specs.declared.open_part.FlawPlace.{FlawPlace}
 use Rattle.workbook_file.specs.declared.open_part.FlawPlace.TheVariants.{Ahead, AtHand, Behind}
@@ -23,7 +23,7 @@ abbrev pub not_begun : List Event → ℕ → OpenEvents
 not_begun events left =
     record { events = events; taken = 0; left = left; has_event = false }
 
--- the events to come
+-- the events of an open part to come
 abbrev pub rest_of : OpenEvents → List Event
 rest_of part = drop part.taken part.events
 
@@ -31,15 +31,16 @@ rest_of part = drop part.taken part.events
 abbrev pub last_taken : OpenEvents → Event
 last_taken part = slice_index_or part.events (part.taken - 1) (leaf other)
 
--- the part behind its next event
+-- an open part, with its next event taken
 abbrev pub next_taken : OpenEvents → OpenEvents
 next_taken part =
     record part { taken = part.taken + 1; left = part.left - 1; has_event = true }
 
 -- a step: it takes the next event, or stays at the end
-abbrev pub TakesNext : Bool → OpenEvents → OpenEvents → Type 0
-TakesNext true old new = (old.taken < length old.events) × (0 < old.left) × (new ≡ next_taken old)
-TakesNext false old new = (rest_of old ≡ []) × (new ≡ record old { has_event = false })
+abbrev pub TakesNextEvent : Bool → OpenEvents → OpenEvents → Type 0
+TakesNextEvent true old new = (old.taken < length old.events) × (0 < old.left)
+    × (new ≡ next_taken old)
+TakesNextEvent false old new = (rest_of old ≡ []) × (new ≡ record old { has_event = false })
 
 -- ---- what is held of a part
 
@@ -73,5 +74,5 @@ held_events (Flaw why place) = record {
 
 -- reading stands in the bytes that are held
 abbrev pub IsHeld : Held → Type 0
-IsHeld (Text part reading) = IsReading (text_in part.1) (length part.1) reading
+IsHeld (Text part reading) = IsReadingPart (text_in part.1) (length part.1) reading
 IsHeld (Flaw why place) = ⊤

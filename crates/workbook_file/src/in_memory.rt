@@ -1,7 +1,6 @@
 //! Parts that are unpacked into a package in memory.
 ghost use Rattle.std.specs.Prelude.{◌≡◌, ◌++◌, ◌∷◌, [], OnOk};
-ghost use Rattle.part_events.specs.Memory.{closed};
-ghost use Rattle.part_events.specs.Package.{Part};
+ghost use Rattle.part_events.specs.Words.{closed, Part};
 ghost use Rattle.workbook_file.specs.OpenEvents.{rest_of};
 
 use crate::open_part::OpenPart;

@@ -1,8 +1,7 @@
 //! A law: which entry a part of a file is.
 ghost use Rattle.std.specs.Prelude.{◌≡◌, ℕ, List, option_map};
-ghost use Rattle.part_events.specs.Package.{part_of};
-ghost use Rattle.zip_archive.specs.Kept.{ArchiveFile};
-ghost use Rattle.zip_archive.specs.Names.{part_entry};
+ghost use Rattle.part_events.specs.Words.{part_of};
+ghost use Rattle.zip_archive.specs.Words.{ArchiveFile, part_entry};
 ghost use Rattle.workbook_file.specs.FileParts.{entry_events, file_parts, held_by};
 
 /// The part of a name has the events of what the entry of that name holds, and is absent where

@@ -1,9 +1,9 @@
 //! A part that is open: its bytes, or why there are none.
 ghost use Rattle.std.specs.Prelude.{◌≡◌, ◌≤◌, length, IfOk, true};
-ghost use Rattle.part_events.specs.Event.{event_of};
+ghost use Rattle.part_events.specs.Words.{event_of};
 ghost use Rattle.text_package.specs.PartText.{part_markup};
 ghost use Rattle.workbook_file.specs.FileParts.{flaw_alone};
-ghost use Rattle.workbook_file.specs.OpenEvents.{IsHeld, TakesNext, held_events, last_taken};
+ghost use Rattle.workbook_file.specs.OpenEvents.{IsHeld, TakesNextEvent, held_events, last_taken};
 ghost use Rattle.workbook_file.specs.OpenEvents.{not_begun, rest_of};
 
 use part_events::{Flaw, PartEvent};
@@ -50,7 +50,7 @@ impl Held {
     fn advance(&mut self) -> bool
         requires { IsHeld self.old }
         ensures stands { IsHeld self.new }
-        ensures takes { TakesNext result (held_events self.old) (held_events self.new) }
+        ensures takes { TakesNextEvent result (held_events self.old) (held_events self.new) }
     {
         match self {
             Held::Text(part, reading) => reading.advance(part),
@@ -116,7 +116,7 @@ impl OpenPart {
 
     /// Takes its next event. Answers false at its end.
     pub fn advance(&mut self) -> bool
-        ensures { TakesNext result self.old self.new }
+        ensures { TakesNextEvent result self.old self.new }
     {
         self.held.advance()
     }

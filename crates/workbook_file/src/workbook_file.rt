@@ -1,14 +1,10 @@
 //! A workbook file as a package.
-ghost use Rattle.std.specs.Prelude.{◌≡◌, ◌<◌, ◌^◌, length, IfOk, IfErr, IsOk, MatchResult};
-ghost use Rattle.std.specs.Prelude.{true};
+ghost use Rattle.std.specs.Prelude.{◌≡◌, ◌<◌, ◌^◌, length, IfOk, IfErr, IsOk, MatchResult, true};
 ghost use Rattle.std.specs.Prelude.{slice_index_or};
-ghost use Rattle.part_events.specs.Memory.{closed, part_at};
-ghost use Rattle.part_events.specs.Package.{SameParts, Opens, OpenCounts, Advances, AdvanceCounts};
-ghost use Rattle.part_events.specs.Package.{Refuses};
+ghost use Rattle.part_events.specs.Words.{closed, part_at, SameParts, Opens, OpenCounts, Advances};
+ghost use Rattle.part_events.specs.Words.{AdvanceCounts, Refuses};
 ghost use Rattle.part_events.specs.declared.package.PackageError.TheVariants.{OutOfMemory};
-ghost use Rattle.zip_archive.specs.Entries.{archive_of};
-ghost use Rattle.zip_archive.specs.Kept.{IsWhyNot};
-ghost use Rattle.zip_archive.specs.Members.{no_entry};
+ghost use Rattle.zip_archive.specs.Words.{archive_of, IsWhyNot, no_entry};
 ghost use Rattle.workbook_file.specs.Contents.{IsFresh, file_state, just_opened};
 ghost use Rattle.workbook_file.specs.FileParts.{file_parts, flaw_of, held_by};
 
@@ -146,7 +142,7 @@ impl Package for WorkbookFile {
         ensures keeps { SameParts (file_state self.old) (file_state self.new) }
         ensures counts { IfOk result (λ found. OpenCounts found (file_state self.old)
             (file_state self.new)) }
-        ensures opens { (file_state self.old).is_told ≡ true
+        ensures opens { (file_state self.old).is_visible ≡ true
             → IfOk result (λ found. Opens name.now found (file_state self.old)
             (file_state self.new)) }
         ensures err { IfErr result (Refuses (file_state self.old) (file_state self.new)) }
@@ -166,7 +162,7 @@ impl Package for WorkbookFile {
         ensures keeps { SameParts (file_state self.old) (file_state self.new) }
         ensures counts { IfOk result (λ more. AdvanceCounts more (file_state self.old)
             (file_state self.new)) }
-        ensures events { (file_state self.old).is_told ≡ true
+        ensures events { (file_state self.old).is_visible ≡ true
             → IfOk result (λ more. Advances more (file_state self.old)
             (file_state self.new)) }
         ensures never { IsOk result }

@@ -2,9 +2,7 @@
 use Rattle.std.proofs.Common.{◌≡◌, ◌∙◌, ℕ, suc, ◌+◌, ◌<◌, List, [], ◌∷◌, ◌++◌, length, map, drop}
 use Rattle.std.proofs.Common.{get_or, refl, ap, sym, append_assoc}
 use Rattle.std.proofs.lemmas.List.{append-nil, drop_more}
-use Rattle.part_events.specs.Event.{Event, start, end, event_of}
-use Rattle.part_events.specs.Package.{Part}
-use Rattle.part_events.specs.Memory.{Contents, closed, with_event}
+use Rattle.part_events.specs.Words.{Event, start, end, event_of, Part, Contents, closed, with_event}
 use Rattle.part_events.specs.declared.event.PartEvent.{PartEvent}
 use Rattle.written_markup.specs.Markup.{element, with_events, opened_part}
 
@@ -32,7 +30,7 @@ events_joined held [] behind = refl
 events_joined held (event ∷ front) behind =
     events_joined (closed (with_event held.parts event) held.taken) front behind
 
--- the same by the steps of a draft
+-- the same by the steps of a builder
 pub joined_step : (old mid new : Contents) (front behind : List Event)
     → mid ≡ with_events old front → new ≡ with_events mid behind
     → new ≡ with_events old (front ++ behind)

@@ -7,10 +7,10 @@ use Rattle.std.specs.Option.{option_map_or}
 use Rattle.std.proofs.lemmas.List.Folds.{list_any-append}
 use lib.Utf8.{encode}
 use Rattle.attr_text.specs.Text.{entity_character}
-use Rattle.part_events.specs.Event.{Event, leaf, entity_ref}
-use Rattle.part_events.specs.JoinedText.{joined_text, unknown_entity, character_text}
-use Rattle.written_markup.specs.WrittenText.{has_byte, run_events, events_behind, text_events}
-use Rattle.written_markup.specs.WrittenText.{reference_of, is_referenced}
+use Rattle.part_events.specs.Words.{Event, leaf, entity_ref, joined_text, unknown_entity}
+use Rattle.part_events.specs.Words.{character_text}
+use Rattle.written_markup.specs.WrittenText.{has_byte, run_events, events_behind_run, text_events}
+use Rattle.written_markup.specs.WrittenText.{reference_name, is_referenced}
 use Rattle.written_markup.proofs.TextsReadBack.{line_ends_without_return, neither}
 
 -- ---- references
@@ -44,7 +44,7 @@ one_says b c word name others true same is says more =
 one_says b c word name others false same is says more = more is
 
 -- a reference says the byte that is written as it
-pub reference_says : (b : ℕ) (name : List ℕ) → reference_of b ≡ Some name
+pub reference_says : (b : ℕ) (name : List ℕ) → reference_name b ≡ Some name
     → character_text (entity_character name) ≡ b ∷ []
 reference_says b name is =
     one_says b 13 (codes "#13") name _ (b == 13) refl is return_says
@@ -94,46 +94,47 @@ longer_run run b none other =
 -- what goes on behind a run: one byte more, or a reference
 abbrev goes_on : List ℕ → ℕ → List ℕ → Option (List ℕ) → List Event
 goes_on run b bytes found =
-    option_map_or (λ name. run_events run ++ (leaf (entity_ref name) ∷ events_behind [] bytes))
-    found (events_behind (run ++ b ∷ []) bytes)
+    option_map_or (λ name. run_events run ++ (leaf (entity_ref name) ∷ events_behind_run [] bytes))
+    found (events_behind_run (run ++ b ∷ []) bytes)
 
 text_behind : (run : List ℕ) (b : ℕ) (bytes : List ℕ) (found : Option (List ℕ))
-    → reference_of b ≡ found → has_byte 13 run ≡ false
+    → reference_name b ≡ found → has_byte 13 run ≡ false
     → ((own : List ℕ) → has_byte 13 own ≡ false
-    → joined_text false (events_behind own bytes) ≡ own ++ bytes)
+    → joined_text false (events_behind_run own bytes) ≡ own ++ bytes)
     → joined_text false (goes_on run b bytes found) ≡ run ++ b ∷ bytes
 text_behind run b bytes None is none rest =
     rest (run ++ b ∷ []) (longer_run run b none (no_return b _ (b == 13) refl is))
     ∙ append_assoc run (b ∷ []) bytes
 text_behind run b bytes (Some name) is none rest =
-    run_text run (leaf (entity_ref name) ∷ events_behind [] bytes) none
+    run_text run (leaf (entity_ref name) ∷ events_behind_run [] bytes) none
     ∙ ap (λ (more : List ℕ). run ++ more)
-    (ap (λ (own : List ℕ). own ++ joined_text false (events_behind [] bytes))
+    (ap (λ (own : List ℕ). own ++ joined_text false (events_behind_run [] bytes))
     (reference_says b name is)
     ∙ ap (λ (more : List ℕ). b ∷ more) (rest [] refl))
 
 text_joined : (bytes run : List ℕ) → has_byte 13 run ≡ false
-    → joined_text false (events_behind run bytes) ≡ run ++ bytes
+    → joined_text false (events_behind_run run bytes) ≡ run ++ bytes
 text_joined [] run none =
     ap (joined_text false) (sym (append-nil (run_events run))) ∙ run_text run [] none
 text_joined (b ∷ bytes) run none =
-    text_behind run b bytes (reference_of b) refl none (text_joined bytes)
+    text_behind run b bytes (reference_name b) refl none (text_joined bytes)
 
 -- the joined text of a text's events is the text
 pub joined_text_events : (bytes : List ℕ) → joined_text false (text_events bytes) ≡ bytes
 joined_text_events bytes = text_joined bytes [] refl
 
 known_behind : (run : List ℕ) (b : ℕ) (bytes : List ℕ) (found : Option (List ℕ))
-    → reference_of b ≡ found → ((own : List ℕ) → unknown_entity (events_behind own bytes) ≡ None)
+    → reference_name b ≡ found
+    → ((own : List ℕ) → unknown_entity (events_behind_run own bytes) ≡ None)
     → unknown_entity (goes_on run b bytes found) ≡ None
 known_behind run b bytes None is rest = rest (run ++ b ∷ [])
 known_behind run b bytes (Some name) is rest =
-    run_is_known run (leaf (entity_ref name) ∷ events_behind [] bytes)
+    run_is_known run (leaf (entity_ref name) ∷ events_behind_run [] bytes)
     ∙ (rw (has_character (entity_character name) b (reference_says b name is)) (rest []))
 
-all_known : (bytes run : List ℕ) → unknown_entity (events_behind run bytes) ≡ None
+all_known : (bytes run : List ℕ) → unknown_entity (events_behind_run run bytes) ≡ None
 all_known [] run = ap unknown_entity (sym (append-nil (run_events run))) ∙ run_is_known run []
-all_known (b ∷ bytes) run = known_behind run b bytes (reference_of b) refl (all_known bytes)
+all_known (b ∷ bytes) run = known_behind run b bytes (reference_name b) refl (all_known bytes)
 
 -- none of its references is without a character
 pub text_events_are_known : (bytes : List ℕ) → unknown_entity (text_events bytes) ≡ None
@@ -142,11 +143,11 @@ text_events_are_known bytes = all_known bytes []
 -- ---- texts without references
 
 plain_behind : (bytes run : List ℕ) → list_any is_referenced bytes ≡ false
-    → events_behind run bytes ≡ run_events (run ++ bytes)
+    → events_behind_run run bytes ≡ run_events (run ++ bytes)
 plain_behind [] run none = ap run_events (sym (append-nil run))
 plain_behind (b ∷ bytes) run none =
     let both = neither (is_referenced b) (list_any is_referenced bytes) none in
-    ap (goes_on run b bytes) (none_there (reference_of b) both.0)
+    ap (goes_on run b bytes) (none_there (reference_name b) both.0)
     ∙ plain_behind bytes (run ++ b ∷ []) both.1
     ∙ ap run_events (append_assoc run (b ∷ []) bytes)
 
@@ -156,8 +157,8 @@ pub one_run : (bytes : List ℕ) → list_any is_referenced bytes ≡ false
 one_run bytes none = plain_behind bytes [] none
 
 reference_behind : (front run : List ℕ) (b : ℕ) (name behind : List ℕ)
-    → list_any is_referenced front ≡ false → reference_of b ≡ Some name
-    → events_behind run (front ++ b ∷ behind)
+    → list_any is_referenced front ≡ false → reference_name b ≡ Some name
+    → events_behind_run run (front ++ b ∷ behind)
     ≡ run_events (run ++ front) ++ (leaf (entity_ref name) ∷ text_events behind)
 reference_behind [] run b name behind none is =
     ap (goes_on run b behind) is
@@ -165,14 +166,14 @@ reference_behind [] run b name behind none is =
     (sym (append-nil run))
 reference_behind (c ∷ front) run b name behind none is =
     let both = neither (is_referenced c) (list_any is_referenced front) none in
-    ap (goes_on run c (front ++ b ∷ behind)) (none_there (reference_of c) both.0)
+    ap (goes_on run c (front ++ b ∷ behind)) (none_there (reference_name c) both.0)
     ∙ reference_behind front (run ++ c ∷ []) b name behind both.1 is
     ∙ ap (λ (own : List ℕ). run_events own ++ (leaf (entity_ref name) ∷ text_events behind))
     (append_assoc run (c ∷ []) front)
 
 -- a run, a byte that is written as a reference, and what stands behind it
 pub run_and_reference : (run : List ℕ) (b : ℕ) (name behind : List ℕ)
-    → list_any is_referenced run ≡ false → reference_of b ≡ Some name
+    → list_any is_referenced run ≡ false → reference_name b ≡ Some name
     → text_events (run ++ b ∷ behind)
     ≡ run_events run ++ (leaf (entity_ref name) ∷ text_events behind)
 run_and_reference run b name behind none is = reference_behind run [] b name behind none is

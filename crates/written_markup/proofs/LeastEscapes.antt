@@ -1,7 +1,6 @@
 -- Texts with no more escapes than they need say what was written.
-use Rattle.std.proofs.Common.{◌≡◌, ℕ, zero, suc, ◌<◌, Bool, true, false, List, [], ◌∷◌}
-use Rattle.std.proofs.Common.{◌++◌, length, Some, None, refl, sym, ap, ◌∙◌, arith}
-use Rattle.std.proofs.Common.{eqb-true}
+use Rattle.std.proofs.Common.{◌≡◌, ℕ, zero, suc, ◌<◌, Bool, true, false, List, [], ◌∷◌, ◌++◌}
+use Rattle.std.proofs.Common.{length, Some, None, refl, sym, ap, ◌∙◌, arith, eqb-true}
 use Rattle.std.specs.Prelude.{◌==◌, ◌&&◌, ◌||◌, ◌/◌, ◌%◌, nat_lt, nat_le, codes, encode_utf8}
 use Rattle.std.specs.Prelude.{if◌then◌else◌}
 use Rattle.std.specs.Char.{digit_value}
@@ -11,7 +10,7 @@ use Rattle.std.proofs.lemmas.Bool.{and_parts, and_from, or_left, or_right, le-le
 use Rattle.std.proofs.lemmas.Bool.{agree_below_at, false_from_ne_true, and_left, cond-false}
 use Rattle.std.proofs.lemmas.Bool.{cond-true, lt-ltb}
 use lib.Utf8.{scalar, encode}
-use Rattle.attr_text.specs.Text.{begins_with_escape, all_digits, escaped_character, unescaped}
+use Rattle.attr_text.specs.Words.{begins_with_escape, all_digits, escaped_character, unescaped}
 use Rattle.attr_text.proofs.EscapesLemmas.{unescaped-nil, unescaped-seven, unescaped-byte}
 use Rattle.written_markup.specs.WrittenText.{is_control, control_escape, digits_then_mark}
 use Rattle.written_markup.specs.WrittenText.{makes_escape, least_escaped}

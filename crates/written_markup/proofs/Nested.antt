@@ -7,15 +7,14 @@ use Rattle.std.specs.Option.{option_map_or}
 use Rattle.std.specs.Str.{bytes_eq}
 use Rattle.std.proofs.lemmas.Slice.Eq.{bytes_eq-Decides}
 use Rattle.std.proofs.lemmas.List.{reverse-append}
-use Rattle.part_events.specs.Event.{Tag, Event, Leaf, start, end, leaf, text, entity_ref}
-use Rattle.part_events.specs.Event.{is_flaw}
-use Rattle.part_events.specs.Nesting.{OpenStart, open_start, closes, whole_rest}
-use Rattle.part_events.specs.Section.{content, is_closed, behind, outermost_from, outermost}
-use Rattle.part_events.specs.Section.{Element, element_of}
+use Rattle.part_events.specs.Words.{Tag, Event, Leaf, start, end, leaf, text, entity_ref, is_flaw}
+use Rattle.part_events.specs.Words.{OpenStart, open_start, closes, whole_rest, content, is_closed}
+use Rattle.part_events.specs.Words.{behind, outermost_from, outermost, Element, element_of}
 use Rattle.part_events.proofs.Nested.{reverse_on}
 use Rattle.part_events.proofs.Outermost.{outermost-wanted}
 use Rattle.written_markup.specs.Markup.{element}
-use Rattle.written_markup.specs.WrittenText.{run_events, events_behind, reference_of, text_events}
+use Rattle.written_markup.specs.WrittenText.{run_events, events_behind_run, reference_name}
+use Rattle.written_markup.specs.WrittenText.{text_events}
 use Rattle.written_markup.specs.Nests.{IsNested, none, leaf_then, element_then, NestsItself}
 
 -- What holds of no events, goes on behind a leaf and behind an element of such events, holds of
@@ -58,18 +57,18 @@ run_nested [] = none
 run_nested (b ∷ bs) = leaf_then (text (b ∷ bs)) refl none
 
 nested_behind : (run : List ℕ) (b : ℕ) (bytes : List ℕ) (found : Option (List ℕ))
-    → ((own : List ℕ) → IsNested (events_behind own bytes))
+    → ((own : List ℕ) → IsNested (events_behind_run own bytes))
     → IsNested (option_map_or (λ name. run_events run
-    ++ (leaf (entity_ref name) ∷ events_behind [] bytes)) found
-    (events_behind (run ++ b ∷ []) bytes))
+    ++ (leaf (entity_ref name) ∷ events_behind_run [] bytes)) found
+    (events_behind_run (run ++ b ∷ []) bytes))
 nested_behind run b bytes None rest = rest (run ++ b ∷ [])
 nested_behind run b bytes (Some name) rest =
-    nested_in_row (run_events run) (leaf (entity_ref name) ∷ events_behind [] bytes)
+    nested_in_row (run_events run) (leaf (entity_ref name) ∷ events_behind_run [] bytes)
     (run_nested run) (leaf_then (entity_ref name) refl (rest []))
 
-all_nested : (bytes run : List ℕ) → IsNested (events_behind run bytes)
+all_nested : (bytes run : List ℕ) → IsNested (events_behind_run run bytes)
 all_nested [] run = run_nested run
-all_nested (b ∷ bytes) run = nested_behind run b bytes (reference_of b) (all_nested bytes)
+all_nested (b ∷ bytes) run = nested_behind run b bytes (reference_name b) (all_nested bytes)
 
 -- the events of a text
 pub text_events_nested : (bytes : List ℕ) → IsNested (text_events bytes)

@@ -11,11 +11,11 @@ use Rattle.std.proofs.Math.Seq.{take-append_seam, drop-append-add}
 use Rattle.std.proofs.lemmas.Bool.{lt-ltb}
 use Rattle.std.proofs.lemmas.List.{length-append, take_all}
 use Rattle.std.proofs.lemmas.List.Sums.{suffix_len_is}
-use Rattle.attr_text.specs.Attributes.{Item, attribute as found, without_leading_space}
-use Rattle.attr_text.specs.Attributes.{without_trailing_space, is_equals_sign, front_with_key}
-use Rattle.attr_text.specs.Attributes.{front_behind_space, front_of, items_left, items, lookup}
-use Rattle.attr_text.specs.Attributes.{value_of, value_of_local, first_value, first_values}
-use Rattle.attr_text.specs.Attributes.{ending_fault, has_local_name}
+use Rattle.attr_text.specs.Words.{Item, attribute as found, without_leading_space}
+use Rattle.attr_text.specs.Words.{without_trailing_space, is_equals_sign, front_with_key}
+use Rattle.attr_text.specs.Words.{front_behind_space, front_of, items_left, first_value}
+use Rattle.attr_text.specs.Words.{first_values, ending_fault, has_local_name}
+use Rattle.attr_text.specs.Attributes.{items, lookup, value_of, value_of_local}
 use Rattle.attr_text.proofs.ItemsLemmas.{items_left-attribute, items_left-nil}
 use Rattle.written_markup.specs.Markup.{attribute}
 use Rattle.written_markup.specs.WrittenText.{has_byte, attributes_of, IsWritablePair}

@@ -1,13 +1,13 @@
 -- Texts as they are written say what was written: references, escapes and line ends.
 use Rattle.std.proofs.Common.{◌≡◌, ℕ, zero, suc, All, ◌<◌, Bool, true, false, List, [], ◌∷◌, ◌++◌}
-use Rattle.std.proofs.Common.{length, Some, None, Ok, refl, ap, ◌∙◌, inl, inr}
-use Rattle.std.proofs.Common.{arith, ◌&&◌}
+use Rattle.std.proofs.Common.{length, Some, None, Ok, refl, ap, ◌∙◌, inl, inr, arith, ◌&&◌}
 use Rattle.std.specs.Prelude.{◌==◌, ◌≢◌, ◌||◌, nat_le, codes}
 use Rattle.std.specs.List.{position_or_len}
 use Rattle.std.proofs.lemmas.Bool.{eq-eqb, ne_eqb, cases_eq, le-leb}
 use lib.Utf8.{encode}
-use Rattle.attr_text.specs.Text.{entity_character, is_semicolon, decoded}
-use Rattle.attr_text.specs.Text.{onto_decoded, escaped_character, unescaped, line_ends}
+use Rattle.attr_text.specs.Words.{is_semicolon, decoded, onto_decoded, escaped_character, unescaped}
+use Rattle.attr_text.specs.Words.{line_ends}
+use Rattle.attr_text.specs.Text.{entity_character}
 use Rattle.attr_text.proofs.DecodedLemmas.{decoded-nil, decoded-character, decoded-other}
 use Rattle.attr_text.proofs.DecodedLemmas.{character_behind-name}
 use Rattle.attr_text.proofs.EscapesLemmas.{unescaped-nil, unescaped-seven, unescaped-byte}

@@ -1,3 +1,4 @@
 pub mod Markup
+pub mod Words
 pub mod WrittenText
 pub mod Nests

@@ -1,15 +1,14 @@
 -- Markup as events, and events put behind those of a package in memory.
 use Rattle.std.specs.Prelude.{ℕ, List, [], ◌∷◌, ◌++◌, codes}
-use Rattle.part_events.specs.Event.{Event, start, end, leaf, text}
-use Rattle.part_events.specs.Package.{Part}
-use Rattle.part_events.specs.Memory.{Contents, closed, with_event}
+use Rattle.part_events.specs.Words.{Event, start, end, leaf, text, Part, Contents, closed}
+use Rattle.part_events.specs.Words.{with_event}
 
 -- an element: its start with the text of its attributes, what stands in it, and its end
 abbrev pub element : List ℕ → List ℕ → List Event → List Event
 element name attributes inside =
     start (record { name = name; attributes = attributes }) ∷ (inside ++ end name ∷ [])
 
--- an attribute, behind a space
+-- an attribute as it is written, behind a space: its name, `=`, and its value in quotes
 abbrev pub attribute : List ℕ → List ℕ → List ℕ
 attribute name value = codes " " ++ (name ++ (codes "=\"" ++ (value ++ codes "\"")))
 

@@ -1,8 +1,7 @@
 -- Events that nest in themselves: each end among them closes a start among them.
 use Rattle.std.specs.Prelude.{◌≡◌, ℕ, suc, List, [], ◌∷◌, ◌++◌, reverse, Bool, false}
-use Rattle.part_events.specs.Event.{Tag, Event, Leaf, leaf, is_flaw}
-use Rattle.part_events.specs.Nesting.{open_start, whole_rest}
-use Rattle.part_events.specs.Section.{content, is_closed, behind, outermost_from}
+use Rattle.part_events.specs.Words.{Tag, Event, Leaf, leaf, is_flaw, open_start, whole_rest}
+use Rattle.part_events.specs.Words.{content, is_closed, behind, outermost_from}
 use Rattle.written_markup.specs.Markup.{element}
 
 -- leaves that are no flaws, and elements of such events, in a row

@@ -1,13 +1,13 @@
 -- Texts and attributes as they are written, so that they read back.
-use Rattle.std.specs.Prelude.{◌≡◌, ⊤, ℕ, zero, suc, ◌==◌, ◌||◌, ◌&&◌, ◌/◌, ◌%◌, not, nat_lt}
-use Rattle.std.specs.Prelude.{Bool, true, false, if◌then◌else◌, List, [], ◌∷◌}
-use Rattle.std.specs.Prelude.{◌++◌, codes, Option, Some, None, is_some}
+use Rattle.std.specs.Prelude.{◌≡◌, ⊤, ℕ, zero, suc, ◌==◌, ◌||◌, ◌&&◌, ◌/◌, ◌%◌, not, nat_lt, Bool}
+use Rattle.std.specs.Prelude.{true, false, if◌then◌else◌, List, [], ◌∷◌, ◌++◌, codes, Option, Some}
+use Rattle.std.specs.Prelude.{None, is_some}
 use Rattle.std.specs.Char.{is_ascii_whitespace, digit_value}
 use Rattle.std.specs.Fmt.{digit_glyph}
 use Rattle.std.specs.List.{flat_map, list_any}
 use Rattle.std.specs.Option.{option_map_or}
-use Rattle.attr_text.specs.Attributes.{is_equals_sign}
-use Rattle.part_events.specs.Event.{Event, leaf, text, entity_ref}
+use Rattle.attr_text.specs.Words.{is_equals_sign}
+use Rattle.part_events.specs.Words.{Event, leaf, text, entity_ref}
 use Rattle.written_markup.specs.Markup.{attribute}
 
 -- a byte stands in the text
@@ -58,18 +58,18 @@ abbrev pub encoded : List ℕ → List ℕ
 encoded bytes = flat_map encoded_byte bytes
 
 -- `_` as its escape, and each other byte as it is
-abbrev pub escaped_byte : ℕ → List ℕ
-escaped_byte b = if b == 95 then codes "_x005F_" else b ∷ []
+abbrev pub escaped_underscore : ℕ → List ℕ
+escaped_underscore b = if b == 95 then codes "_x005F_" else b ∷ []
 
 -- a text as it stands where `_xHHHH_` counts
 abbrev pub underscores_escaped : List ℕ → List ℕ
-underscores_escaped bytes = flat_map escaped_byte bytes
+underscores_escaped bytes = flat_map escaped_underscore bytes
 
 -- a byte that no text of XML has: below 32, and neither tab, LF nor CR (XML 1.0, 2.2)
 abbrev pub is_control : ℕ → Bool
 is_control b = nat_lt b 32 && not (b == 9 || (b == 10 || b == 13))
 
--- such a byte as its escape
+-- the escape `_x00HH_` of a byte that no text of XML has, with two hexadecimal digits
 abbrev pub control_escape : ℕ → List ℕ
 control_escape b =
     codes "_x00" ++ (digit_glyph true (b / 16) ∷ digit_glyph true (b % 16) ∷ codes "_")
@@ -101,8 +101,8 @@ least_escaped (b ∷ bytes) = least_escaped_byte b bytes ++ least_escaped bytes
 
 -- The name of the reference that a byte is written as in a text, where it is one: CR, which would
 -- be read as LF, `&` and `<`, which begin markup, and `>`, since no text has `]]>` (XML 1.0, 2.4).
-abbrev pub reference_of : ℕ → Option (List ℕ)
-reference_of b =
+abbrev pub reference_name : ℕ → Option (List ℕ)
+reference_name b =
     if b == 13 then Some (codes "#13")
     else (if b == 38 then Some (codes "amp")
     else (if b == 60 then Some (codes "lt")
@@ -110,7 +110,7 @@ reference_of b =
 
 -- a byte is written as a reference
 abbrev pub is_referenced : ℕ → Bool
-is_referenced b = is_some (reference_of b)
+is_referenced b = is_some (reference_name b)
 
 -- the event of a run of a text; of an empty one there is none
 abbrev pub run_events : List ℕ → List Event
@@ -118,12 +118,12 @@ run_events [] = []
 run_events (b ∷ bs) = leaf (text (b ∷ bs)) ∷ []
 
 -- the events of a text behind a run of it that is written as it is
-abbrev pub events_behind : List ℕ → List ℕ → List Event
-events_behind run [] = run_events run
-events_behind run (b ∷ bytes) =
-    option_map_or (λ name. run_events run ++ (leaf (entity_ref name) ∷ events_behind [] bytes))
-    (reference_of b) (events_behind (run ++ b ∷ []) bytes)
+abbrev pub events_behind_run : List ℕ → List ℕ → List Event
+events_behind_run run [] = run_events run
+events_behind_run run (b ∷ bytes) =
+    option_map_or (λ name. run_events run ++ (leaf (entity_ref name) ∷ events_behind_run [] bytes))
+    (reference_name b) (events_behind_run (run ++ b ∷ []) bytes)
 
 -- the events of a text: references, and the runs between them
 abbrev pub text_events : List ℕ → List Event
-text_events bytes = events_behind [] bytes
+text_events bytes = events_behind_run [] bytes

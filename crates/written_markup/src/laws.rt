@@ -1,10 +1,8 @@
 //! Laws: what is written reads back.
 
 ghost use Rattle.std.specs.Prelude.{◌≡◌, ℕ, List, Ok, map, true, false, None};
-ghost use Rattle.attr_text.specs.Attributes.{items};
-ghost use Rattle.attr_text.specs.Text.{decoded, unescaped, line_ends};
-ghost use Rattle.part_events.specs.Event.{Event};
-ghost use Rattle.part_events.specs.JoinedText.{joined_text, unknown_entity};
+ghost use Rattle.attr_text.specs.Words.{items, decoded, unescaped, line_ends};
+ghost use Rattle.part_events.specs.Words.{Event, joined_text, unknown_entity};
 ghost use Rattle.written_markup.specs.Nests.{IsNested, NestsItself};
 ghost use Rattle.written_markup.specs.WrittenText.{has_byte, attributes_of, AreWritablePairs};
 ghost use Rattle.written_markup.specs.WrittenText.{encoded, underscores_escaped, text_events};

@@ -1,15 +1,13 @@
 -- The links of a sheet's part, read behind the relationships beside it.
-use Rattle.std.proofs.Common.{◌≡◌, ℕ, List, Option, Some, None}
-use Rattle.std.proofs.Common.{inr, subst}
+use Rattle.std.proofs.Common.{◌≡◌, ℕ, List, Option, Some, None, inr, subst}
 use Rattle.std.specs.BTreeMap.{BTreeMap}
 use Rattle.std.specs.Prelude.{option_and_then, IsSomeAnd, String, MatchOption, Vec, map}
 use Rattle.std.specs.declared.alloc.Global.{Global}
-use Rattle.part_events.specs.Event.{Event}
-use Rattle.part_events.specs.Package.{Part}
+use Rattle.part_events.specs.Words.{Event, Part}
 use Rattle.xlsx_error.specs.declared.error.XlsxError.{XlsxError}
-use Rattle.xlsx_parts.specs.WholePart.{IfThere}
-use Rattle.xlsx_relationships.specs.LinkTargets.{LinkTarget, link_targets}
-use Rattle.xlsx_relationships.specs.LinkTargets.{target_in, target_held, HoldsTargets}
+use Rattle.xlsx_parts.specs.Words.{IfThere}
+use Rattle.xlsx_relationships.specs.Words.{LinkTarget, link_targets, target_in, target_held}
+use Rattle.xlsx_relationships.specs.Words.{HoldsTargets}
 use Rattle.xlsx_areas.specs.Hyperlinks.{Link, link_said, links_of}
 use Rattle.xlsx_areas.specs.LinkErrors.{LinksCause, SheetLinksCause}
 use Rattle.xlsx_areas.specs.declared.hyperlink.Hyperlink.{Hyperlink}

@@ -4,8 +4,8 @@ use Rattle.std.specs.Prelude.{IfOk, MatchResult}
 use Rattle.part_events.specs.declared.fault.XmlFault.TheVariants.{Break, Entity}
 use Rattle.xlsx_error.specs.declared.error.XlsxError.{XlsxError}
 use Rattle.xlsx_error.specs.declared.error.XlsxError.TheVariants.{OutOfMemory, Io, Xml}
-use Rattle.xlsx_sections.specs.Refusal.{IsDecodeError}
-use Rattle.xlsx_parts.specs.WholePart.{IsBreakError}
+use Rattle.xlsx_sections.specs.Words.{IsDecodeError}
+use Rattle.xlsx_parts.specs.Words.{IsBreakError}
 use Rattle.xlsx_areas.specs.LinkErrors.{IsLinksError}
 
 pub link_decoding : (error : XlsxError) → IsDecodeError error → IsLinksError error

@@ -2,16 +2,13 @@
 use Rattle.std.proofs.Common.{◌≡◌, true, List, [], Option, Some, None, codes, refl}
 use Rattle.std.specs.Prelude.{IsSome}
 use Rattle.cell_refs.specs.declared.dimensions.Dimensions.{Dimensions}
-use Rattle.part_events.specs.Event.{Event}
-use Rattle.part_events.specs.Package.{PackageState}
+use Rattle.part_events.specs.Words.{Event, PackageState}
 use Rattle.part_events.specs.declared.fault.XmlFault.TheVariants.{Break}
 use Rattle.xlsx_error.specs.declared.error.XlsxError.{XlsxError}
 use Rattle.xlsx_error.specs.declared.error.XlsxError.TheVariants.{OutOfMemory, Io, Xml, XmlEof}
-use Rattle.xlsx_sections.specs.Elements.{IsInsideRefused}
-use Rattle.xlsx_sections.specs.Failing.{FailsBy}
-use Rattle.xlsx_sections.specs.PartSection.{PartSection, SectionCause, always}
-use Rattle.xlsx_sections.specs.PartSection.{section_in}
-use Rattle.xlsx_parts.specs.WholePart.{IsBreakError}
+use Rattle.xlsx_sections.specs.Words.{IsInsideRefused, FailsBy, PartSection, SectionCause, always}
+use Rattle.xlsx_sections.specs.Words.{section_in}
+use Rattle.xlsx_parts.specs.Words.{IsBreakError}
 use Rattle.xlsx_parts.proofs.SoundParts.{no_lacking_cause}
 use Rattle.xlsx_areas.specs.MergeErrors.{IsRegionsError, IsMergesError, MergesCause}
 use Rattle.xlsx_areas.specs.MergedCells.{merges_in, merges_of}
@@ -42,7 +39,7 @@ no_merges_cause events (Some areas) error is there cause =
 -- a refusal that is no fault of the package, nor want of memory, has its cause
 caused : (cause : XlsxError → Type 0) (old new : PackageState) (error : XlsxError)
     → (error ≡ Io → ⊥) → (error ≡ OutOfMemory → ⊥) → FailsBy cause old new error
-    → old.is_told ≡ true → cause error
+    → old.is_visible ≡ true → cause error
 caused cause old new Io other more fails told = absurd (other refl)
 caused cause old new OutOfMemory other more fails told = absurd (more refl)
 caused cause old new error other more fails told = fails told
@@ -52,7 +49,7 @@ pub never_refused : (events : List Event) (s : PartSection) (old new : PackageSt
     (error : XlsxError) → section_in (codes "mergeCells") events ≡ Some s
     → IsSome (merges_of events) → (error ≡ Io → ⊥) → (error ≡ OutOfMemory → ⊥)
     → FailsBy (SectionCause (always []) (IsInsideRefused merges_in) s) old new error
-    → old.is_told ≡ true → ⊥
+    → old.is_visible ≡ true → ⊥
 never_refused events s old new error found there other more fails told =
     let cause = caused (SectionCause (always []) (IsInsideRefused merges_in) s) old new error other
     more fails told in

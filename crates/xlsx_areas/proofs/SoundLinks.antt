@@ -1,15 +1,13 @@
 -- A sheet whose links can be taken has no cause of a refusal.
 use Rattle.std.proofs.Common.{◌≡◌, ℕ, List, [], Option, Some, None, codes, inl, inr, refl}
 use Rattle.std.specs.Prelude.{option_and_then, IsSomeAnd}
-use Rattle.part_events.specs.Event.{Event}
-use Rattle.part_events.specs.Package.{Part, part_of}
+use Rattle.part_events.specs.Words.{Event, Part, part_of}
 use Rattle.xlsx_error.specs.declared.error.XlsxError.{XlsxError}
-use Rattle.xlsx_sections.specs.PartSection.{always}
-use Rattle.xlsx_parts.specs.WholePart.{IfThere}
+use Rattle.xlsx_sections.specs.Words.{always}
+use Rattle.xlsx_parts.specs.Words.{IfThere}
 use Rattle.xlsx_parts.proofs.SoundParts.{no_lacking_cause, no_said_cause}
-use Rattle.xlsx_relationships.specs.LinkTargets.{LinkTarget, link_targets, link_targets_in}
-use Rattle.xlsx_relationships.specs.LinkTargets.{target_in}
-use Rattle.xlsx_relationships.specs.Paths.{relationships_beside}
+use Rattle.xlsx_relationships.specs.Words.{LinkTarget, link_targets, link_targets_in, target_in}
+use Rattle.xlsx_relationships.specs.Words.{relationships_beside}
 use Rattle.xlsx_areas.specs.Hyperlinks.{Link, links_in, links_of, links_at}
 use Rattle.xlsx_areas.specs.LinkErrors.{LinksCause, SheetLinksCause}
 

@@ -2,19 +2,16 @@
 use Rattle.std.proofs.Common.{◌≡◌, List, [], Option, Some, None}
 use Rattle.std.specs.Prelude.{option_and_then, map}
 use Rattle.cell_refs.specs.declared.dimensions.Dimensions.{Dimensions}
-use Rattle.part_events.specs.Event.{Event}
-use Rattle.part_events.specs.Package.{Part, part_of}
+use Rattle.part_events.specs.Words.{Event, Part, part_of}
 use Rattle.xlsx_error.specs.declared.error.XlsxError.{XlsxError}
-use Rattle.xlsx_parts.specs.PartSaid.{unless_absent}
-use Rattle.xlsx_parts.specs.SheetPaths.{SheetPath}
-use Rattle.xlsx_parts.specs.WholePart.{IfThere}
+use Rattle.xlsx_parts.specs.Words.{unless_absent, SheetPath, IfThere}
 use Rattle.xlsx_parts.proofs.ManySaid.{no_some_cause}
 use Rattle.xlsx_parts.proofs.SaidFrom.{mapped_from}
 use Rattle.xlsx_parts.proofs.SoundParts.{no_whole_cause}
 use Rattle.xlsx_areas.specs.MergeErrors.{RegionsCause}
 use Rattle.xlsx_areas.specs.MergedCells.{merges_in, regions_of, regions_at}
-use Rattle.xlsx_areas.specs.Regions.{Region, region_in, regions_on, all_regions}
-use Rattle.xlsx_areas.specs.Regions.{SheetRegionsCause, AllRegionsCause}
+use Rattle.xlsx_areas.specs.Regions.{Region, region_in, regions_on, all_regions, SheetRegionsCause}
+use Rattle.xlsx_areas.specs.Regions.{AllRegionsCause}
 
 no_cause_there : (part : Option (List Event)) (areas : List Dimensions) (error : XlsxError)
     → unless_absent [] part (option_and_then regions_of part) ≡ Some areas

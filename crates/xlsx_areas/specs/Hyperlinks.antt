@@ -2,21 +2,17 @@
 use Rattle.std.specs.Prelude.{ℕ, ◌+◌, List, [], ◌∷◌, Bool, codes, Option, Some, None, option_map}
 use Rattle.std.specs.Prelude.{option_and_then, Result, Ok, Err, string_bytes}
 use Rattle.std.specs.Option.{option_map_or}
-use Rattle.attr_text.specs.Attributes.{lookup, value_of_local}
+use Rattle.attr_text.specs.Words.{lookup, value_of_local}
 use Rattle.attr_text.specs.declared.fault.AttrFault.{AttrFault}
-use Rattle.cell_refs.specs.A1.{area}
+use Rattle.cell_refs.specs.Words.{area}
 use Rattle.cell_refs.specs.declared.dimensions.Dimensions.{Dimensions}
-use Rattle.part_events.specs.Event.{Tag, Event}
-use Rattle.part_events.specs.Package.{Part, part_of, event_count}
-use Rattle.part_events.specs.Section.{PlacedTag, starts_by, is_named}
-use Rattle.xlsx_sections.specs.Answers.{some_answers}
-use Rattle.xlsx_sections.specs.Names.{some_text}
-use Rattle.xlsx_sections.specs.Placed.{placed}
-use Rattle.xlsx_sections.specs.Refusal.{Refusal, plain, lookup_fault}
-use Rattle.xlsx_sections.specs.SectionEvents.{section_events, section_events_of}
-use Rattle.xlsx_parts.specs.PartSaid.{section_said_or}
-use Rattle.xlsx_relationships.specs.LinkTargets.{LinkTarget, link_text, link_targets, target_in}
-use Rattle.xlsx_relationships.specs.Paths.{relationships_beside}
+use Rattle.part_events.specs.Words.{Tag, Event, Part, part_of, event_count, PlacedTag, starts_by}
+use Rattle.part_events.specs.Words.{is_named}
+use Rattle.xlsx_sections.specs.Words.{some_answers, some_text, placed, Refusal, plain, lookup_fault}
+use Rattle.xlsx_sections.specs.Words.{section_events, section_events_of}
+use Rattle.xlsx_parts.specs.Words.{section_said_or}
+use Rattle.xlsx_relationships.specs.Words.{LinkTarget, link_text, link_targets, target_in}
+use Rattle.xlsx_relationships.specs.Words.{relationships_beside}
 use Rattle.xlsx_areas.specs.declared.hyperlink.Hyperlink.{Hyperlink}
 
 -- a link: its cells, where it leads outside the workbook and inside, what is shown, and its tip
@@ -68,7 +64,8 @@ link_with behind target (Some written) location shown tip =
     some_link (linked target (placed (area written)) (optional_text behind location)
     (optional_text behind shown) (optional_text behind tip))
 
--- the four values of a lookup
+-- the link of a start by where its id leads, and by the four values of a lookup: its cells, its
+-- place in the workbook, what is shown, and its tip
 abbrev pub link_from :
     ℕ → Option (List ℕ) → List (Option (List ℕ)) → Result (Option Link) Refusal
 link_from behind target [] = Ok None
@@ -102,7 +99,7 @@ link_of targets start =
     (lookup (codes "ref" ∷ codes "location" ∷ codes "display" ∷ codes "tooltip" ∷ [])
     start.tag.attributes)
 
--- a start is a link
+-- a start of the element `hyperlink`
 abbrev pub is_link : Tag → Bool
 is_link tag = is_named (codes "hyperlink" ∷ []) tag
 
@@ -110,11 +107,11 @@ is_link tag = is_named (codes "hyperlink" ∷ []) tag
 abbrev pub links_in : (List ℕ → Option (List ℕ)) → List Event → Result (List Link) Refusal
 links_in targets events = some_answers (link_of targets) (starts_by is_link events)
 
--- those of the first `hyperlinks` of a part, and none of a part without one
+-- the links of the first `hyperlinks` of a part, and none of a part without one
 abbrev pub links_of : (List ℕ → Option (List ℕ)) → List Event → Option (List Link)
 links_of targets events = section_said_or [] (codes "hyperlinks") (links_in targets) events
 
--- those of the part at a path, by the relationships beside it
+-- the links of the sheet's part at a path, by the relationships beside it
 abbrev pub links_at : List Part → List ℕ → Option (List Link)
 links_at parts path =
     option_and_then (λ (targets : List LinkTarget).
@@ -126,11 +123,12 @@ link_said own =
     link_to (option_map string_bytes own.target) own.range (option_map string_bytes own.location)
     (option_map string_bytes own.displayed_text) (option_map string_bytes own.tooltip)
 
--- how many events the two parts have
+-- how many events the part of a sheet and the relationships beside it have
 abbrev pub link_events : List Part → List ℕ → ℕ
 link_events parts path = event_count parts (relationships_beside path) + event_count parts path
 
--- and how many are taken, each up to the end of its section; none where the sheet's part is absent
+-- how many events are taken for the links of a sheet: of both parts those up to the end of their
+-- section; none where the sheet's part is absent
 abbrev pub link_sections : List Part → List ℕ → ℕ
 link_sections parts path =
     option_map_or (λ (events : List Event).

@@ -1,15 +1,12 @@
 -- Which refusals hyperlinks have, and when.
 use Rattle.std.specs.Prelude.{◌≡◌, ◌⊎◌, ⊤, codes, List, ℕ, Option, IsSomeAnd}
-use Rattle.part_events.specs.Event.{Event}
-use Rattle.part_events.specs.Package.{Part, PackageState, part_of}
+use Rattle.part_events.specs.Words.{Event, Part, PackageState, part_of}
 use Rattle.part_events.specs.declared.fault.XmlFault.TheVariants.{Entity}
 use Rattle.xlsx_error.specs.declared.error.XlsxError.{XlsxError}
 use Rattle.xlsx_error.specs.declared.error.XlsxError.TheVariants.{Xml, XmlEof}
-use Rattle.xlsx_sections.specs.Elements.{IsInsideRefused}
-use Rattle.xlsx_sections.specs.Failing.{FailsBy}
-use Rattle.xlsx_sections.specs.PartSection.{always}
-use Rattle.xlsx_parts.specs.WholePart.{IfThere, LackingCause}
-use Rattle.xlsx_relationships.specs.LinkTargets.{link_targets, target_in, LinkTargetsCause}
+use Rattle.xlsx_sections.specs.Words.{IsInsideRefused, FailsBy, always}
+use Rattle.xlsx_parts.specs.Words.{IfThere, LackingCause}
+use Rattle.xlsx_relationships.specs.Words.{link_targets, target_in, LinkTargetsCause}
 use Rattle.xlsx_areas.specs.Hyperlinks.{links_in}
 use Rattle.xlsx_areas.specs.MergeErrors.{IsRegionsError}
 
@@ -25,7 +22,7 @@ abbrev pub LinksFail :
 LinksFail targets path old new error =
     FailsBy (IfThere (LinksCause targets) (part_of old.parts path)) old new error
 
--- why those of a part that is there can't, with the relationships beside it
+-- why the links of a sheet's part that is there can't be taken, with the relationships beside it
 abbrev pub SheetLinksCause : List Part → List ℕ → List Event → XlsxError → Type 0
 SheetLinksCause parts path events error =
     LinkTargetsCause parts path error
@@ -42,7 +39,7 @@ IsLinksError (Xml (Entity at)) = ⊤
 IsLinksError (XmlEof element) = element.now ≡ codes "hyperlinks"
 IsLinksError error = IsRegionsError error
 
--- and those that they can have with the relationships beside their part
+-- the refusals that the links of a sheet can have with the relationships beside its part
 abbrev pub IsSheetLinksError : XlsxError → Type 0
 IsSheetLinksError (XmlEof element) =
     (element.now ≡ codes "hyperlinks") ⊎ (element.now ≡ codes "Relationships")

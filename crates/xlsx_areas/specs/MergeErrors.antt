@@ -1,21 +1,18 @@
 -- Which refusals merged cells have, and when.
 use Rattle.std.specs.Prelude.{◌≡◌, ⊤, [], codes, List, ℕ, None, Result, OnOk, IfErr}
-use Rattle.part_events.specs.Event.{Event}
-use Rattle.part_events.specs.Package.{PackageState, KeepsFaults, part_of}
+use Rattle.part_events.specs.Words.{Event, PackageState, KeepsFaults, part_of}
 use Rattle.part_events.specs.declared.fault.XmlFault.TheVariants.{Break}
 use Rattle.xlsx_error.specs.declared.error.XlsxError.{XlsxError}
-use Rattle.xlsx_error.specs.declared.error.XlsxError.TheVariants.{OutOfMemory, Io, Xml}
-use Rattle.xlsx_error.specs.declared.error.XlsxError.TheVariants.{XmlAttr, XmlEof}
-use Rattle.xlsx_error.specs.declared.error.XlsxError.TheVariants.{Alphanumeric, DimensionCount}
+use Rattle.xlsx_error.specs.declared.error.XlsxError.TheVariants.{OutOfMemory, Io, Xml, XmlAttr}
+use Rattle.xlsx_error.specs.declared.error.XlsxError.TheVariants.{XmlEof, Alphanumeric}
+use Rattle.xlsx_error.specs.declared.error.XlsxError.TheVariants.{DimensionCount}
 use Rattle.xlsx_error.specs.declared.error.XlsxError.TheVariants.{RangeWithoutRowComponent}
 use Rattle.xlsx_error.specs.declared.error.XlsxError.TheVariants.{RangeWithoutColumnComponent}
 use Rattle.xlsx_error.specs.declared.error.XlsxError.TheVariants.{ColumnNumberOverflow}
 use Rattle.xlsx_error.specs.declared.error.XlsxError.TheVariants.{RowNumberOverflow}
-use Rattle.xlsx_sections.specs.Elements.{IsInsideRefused}
-use Rattle.xlsx_sections.specs.Failing.{FailsBy}
-use Rattle.xlsx_sections.specs.PartSection.{always, section_in}
-use Rattle.xlsx_parts.specs.WholePart.{IfThere, IsBroken, IsMeaningRefused, LackingCause}
-use Rattle.xlsx_parts.specs.WholePart.{WholePartCause}
+use Rattle.xlsx_sections.specs.Words.{IsInsideRefused, FailsBy, always, section_in}
+use Rattle.xlsx_parts.specs.Words.{IfThere, IsBroken, IsMeaningRefused, LackingCause}
+use Rattle.xlsx_parts.specs.Words.{WholePartCause}
 use Rattle.xlsx_areas.specs.MergedCells.{merges_in}
 
 -- why the merged cells of a part can't be taken
@@ -28,7 +25,7 @@ abbrev pub MergesFail : List ℕ → PackageState → PackageState → XlsxError
 MergesFail path old new error =
     FailsBy (IfThere MergesCause (part_of old.parts path)) old new error
 
--- why those of a whole part can't
+-- why the merged cells of a whole part can't be taken
 abbrev pub RegionsCause : List Event → XlsxError → Type 0
 RegionsCause events error = WholePartCause (IsMeaningRefused merges_in) events error
 
@@ -61,7 +58,7 @@ IsRegionsError RowNumberOverflow = ⊤
 IsRegionsError (DimensionCount count) = ⊤
 IsRegionsError _ = ⊥
 
--- and those of a section, which may meet the end of its part
+-- the refusals that the merged cells of a section can have, which may meet the end of its part
 abbrev pub IsMergesError : XlsxError → Type 0
 IsMergesError (XmlEof element) = element.now ≡ []
 IsMergesError error = IsRegionsError error

@@ -1,20 +1,15 @@
 -- The merged cells of a sheet (ECMA-376 part 1, section 18.3.1.55).
 use Rattle.std.specs.Prelude.{ℕ, List, [], ◌∷◌, Bool, if◌then◌else◌, codes, Option, Some, None}
-use Rattle.std.specs.Prelude.{Result}
-use Rattle.std.specs.Prelude.{Ok, Err, option_and_then}
-use Rattle.attr_text.specs.Attributes.{value_of}
-use Rattle.cell_refs.specs.A1.{area}
+use Rattle.std.specs.Prelude.{Result, Ok, Err, option_and_then}
+use Rattle.attr_text.specs.Words.{value_of}
+use Rattle.cell_refs.specs.Words.{area}
 use Rattle.cell_refs.specs.declared.dimensions.Dimensions.{Dimensions}
-use Rattle.part_events.specs.Event.{Tag, Event}
-use Rattle.part_events.specs.Package.{Part, part_of}
-use Rattle.part_events.specs.Section.{PlacedTag, starts_by, is_named}
-use Rattle.xlsx_sections.specs.Answers.{some_answers}
-use Rattle.xlsx_sections.specs.PartSection.{PartSection, section_in, inside_of, has_end}
-use Rattle.xlsx_sections.specs.Placed.{named_by}
-use Rattle.xlsx_sections.specs.Refusal.{Refusal}
-use Rattle.xlsx_parts.specs.PartSaid.{section_said_or, whole_said}
+use Rattle.part_events.specs.Words.{Tag, Event, Part, part_of, PlacedTag, starts_by, is_named}
+use Rattle.xlsx_sections.specs.Words.{some_answers, PartSection, section_in, inside_of, has_end}
+use Rattle.xlsx_sections.specs.Words.{named_by, Refusal}
+use Rattle.xlsx_parts.specs.Words.{section_said_or, whole_said}
 
--- a start is an area of merged cells
+-- a start of the element `mergeCell`, an area of merged cells
 abbrev pub is_merge : Tag → Bool
 is_merge tag = is_named (codes "mergeCell" ∷ []) tag
 
@@ -26,15 +21,15 @@ merge_of start = named_by area (value_of (codes "ref") start.tag.attributes)
 abbrev pub merges_in : List Event → Result (List Dimensions) Refusal
 merges_in events = some_answers merge_of (starts_by is_merge events)
 
--- those of the first `mergeCells` of a part, and none of a part without one
+-- the areas of the first `mergeCells` of a part, and none of a part without one
 abbrev pub merges_of : List Event → Option (List Dimensions)
 merges_of events = section_said_or [] (codes "mergeCells") merges_in events
 
--- those of the part at a path
+-- the areas of the first `mergeCells` of the part at a path
 abbrev pub merges_at : List Part → List ℕ → Option (List Dimensions)
 merges_at parts path = option_and_then merges_of (part_of parts path)
 
--- those of a whole part, wherever they stand in it
+-- the areas of merged cells of a whole part, wherever they stand in it
 abbrev pub regions_of : List Event → Option (List Dimensions)
 regions_of events = whole_said merges_in events
 
@@ -57,7 +52,8 @@ abbrev pub of_section : Option PartSection → Option (List Dimensions) → Opti
 of_section None whole = whole
 of_section (Some s) whole = Some (merges_or_none s)
 
--- what that call answers of a part: none where its nesting breaks before the first section
+-- the merged cells of a part for the call that takes a faulty section for none; no answer where its
+-- nesting breaks before the first section
 abbrev pub merges_or_none_of : List Event → Option (List Dimensions)
 merges_or_none_of events =
     of_section (section_in (codes "mergeCells") events) (section_said_or [] (codes "mergeCells")

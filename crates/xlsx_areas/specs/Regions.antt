@@ -3,13 +3,11 @@ use Rattle.std.specs.Prelude.{ℕ, List, [], map, Bool, Option, option_map, stri
 use Rattle.std.specs.List.{filter}
 use Rattle.std.specs.Str.{bytes_eq}
 use Rattle.cell_refs.specs.declared.dimensions.Dimensions.{Dimensions}
-use Rattle.part_events.specs.Package.{Part, part_of, event_count}
+use Rattle.part_events.specs.Words.{Part, part_of, event_count}
 use Rattle.xlsx_error.specs.declared.error.XlsxError.{XlsxError}
-use Rattle.xlsx_sections.specs.Asking.{Ask}
-use Rattle.xlsx_parts.specs.ManyAsked.{each}
-use Rattle.xlsx_parts.specs.PartSaid.{unless_absent, all_said}
-use Rattle.xlsx_parts.specs.SheetPaths.{SheetPath, sheet_at}
-use Rattle.xlsx_parts.specs.WholePart.{IfThere, SomeCause}
+use Rattle.xlsx_sections.specs.Words.{Ask}
+use Rattle.xlsx_parts.specs.Words.{each, unless_absent, all_said, SheetPath, sheet_at, IfThere}
+use Rattle.xlsx_parts.specs.Words.{SomeCause}
 use Rattle.xlsx_areas.specs.MergeErrors.{RegionsCause, IsRegionsError}
 use Rattle.xlsx_areas.specs.MergedCells.{regions_at}
 use Rattle.xlsx_areas.specs.declared.regions.MergedRegion.{MergedRegion}
@@ -24,21 +22,21 @@ pub record Region : Type 0 where
 abbrev pub region_in : SheetPath → Dimensions → Region
 region_in sheet area = record { sheet = sheet; area = area }
 
--- those of a sheet, and none where its part is absent
+-- the merged cells of a sheet, and none where its part is absent
 abbrev pub regions_on : List Part → SheetPath → Option (List Region)
 regions_on parts sheet =
     option_map (map (region_in sheet))
     (unless_absent [] (part_of parts sheet.path) (regions_at parts sheet.path))
 
--- those of many sheets, one after the other
+-- the merged cells of many sheets, one sheet after the other
 abbrev pub all_regions : List Part → List SheetPath → Option (List Region)
 all_regions parts sheets = all_said (regions_on parts) sheets
 
--- why those of a sheet can't be taken
+-- why the merged cells of a sheet can't be taken
 abbrev pub SheetRegionsCause : List Part → SheetPath → XlsxError → Type 0
 SheetRegionsCause parts sheet error = IfThere RegionsCause (part_of parts sheet.path) error
 
--- why those of many sheets can't
+-- why the merged cells of many sheets can't be taken
 abbrev pub AllRegionsCause : List Part → List SheetPath → XlsxError → Type 0
 AllRegionsCause parts sheets error = SomeCause (SheetRegionsCause parts) sheets error
 
@@ -49,7 +47,7 @@ region_of kept = record {
   area = kept.dimensions;
 }
 
--- it is of a sheet of this name
+-- a region that is kept is of a sheet of this name
 abbrev pub is_of_sheet : List ℕ → MergedRegion → Bool
 is_of_sheet name kept = bytes_eq (string_bytes kept.sheet) name
 
@@ -57,7 +55,7 @@ is_of_sheet name kept = bytes_eq (string_bytes kept.sheet) name
 abbrev pub regions_left : MergedRegions → List MergedRegion
 regions_left it = filter (is_of_sheet it.name.now) it.left.now
 
--- what is asked for those of a sheet, whose part is read to its end
+-- what is asked for the merged cells of a sheet, whose part is read to its end
 abbrev pub regions_ask : SheetPath → Ask (List Region)
 regions_ask sheet = record {
   most = λ parts. event_count parts sheet.path;
@@ -67,6 +65,6 @@ regions_ask sheet = record {
   kind = IsRegionsError;
 }
 
--- and for those of many sheets
+-- what is asked for the merged cells of many sheets
 abbrev pub all_regions_ask : List SheetPath → Ask (List Region)
 all_regions_ask sheets = each IsRegionsError regions_ask sheets

@@ -1,5 +1,5 @@
 ghost use Rattle.std.specs.Prelude.{◌≡◌, ◌↔◌, IsTrue, IfOk, option_map, string_bytes};
-ghost use Rattle.cell_refs.specs.Dimensions.{IsInArea};
+ghost use Rattle.cell_refs.specs.Words.{IsInArea};
 ghost use Rattle.xlsx_areas.specs.Hyperlinks.{link_said};
 
 use cell_refs::Dimensions;

@@ -1,21 +1,16 @@
 ghost use Rattle.std.proofs.Common.{rules};
-ghost use Rattle.std.specs.Prelude.{◌≡◌, ℕ, map, true, Ok};
-ghost use Rattle.std.specs.Prelude.{option_map, option_and_then, IfOk, IfErr, codes};
-ghost use Rattle.std.specs.Prelude.{string_bytes};
+ghost use Rattle.std.specs.Prelude.{◌≡◌, ℕ, map, true, Ok, option_map, option_and_then, IfOk};
+ghost use Rattle.std.specs.Prelude.{IfErr, codes, string_bytes};
 ghost use Rattle.std.specs.Option.{option_copied};
 ghost use Rattle.std.specs.Result.{is_err};
-ghost use Rattle.cell_refs.specs.A1.{area};
-ghost use Rattle.part_events.specs.Event.{tag_of};
-ghost use Rattle.part_events.specs.Reading.{IsReadingElement, ReadsElement, ahead};
-ghost use Rattle.part_events.specs.Section.{content};
+ghost use Rattle.cell_refs.specs.Words.{area};
+ghost use Rattle.part_events.specs.Words.{tag_of, IsReadingElement, ReadsElement, ahead, content};
 ghost use Rattle.xlsx_error.specs.declared.error.XlsxError.TheVariants.{Io};
-ghost use Rattle.xlsx_sections.specs.Elements.{ElementReadFails};
-ghost use Rattle.xlsx_sections.specs.PartSection.{always};
-ghost use Rattle.xlsx_sections.specs.Placed.{placed};
-ghost use Rattle.xlsx_sections.specs.Refusal.{ElementFails, IsDecodeError, placed_at};
-ghost use Rattle.xlsx_relationships.specs.LinkTargets.{target_held};
-ghost use Rattle.xlsx_areas.specs.Hyperlinks.{Link, optional_text, linked, link_of};
-ghost use Rattle.xlsx_areas.specs.Hyperlinks.{links_in, link_said};
+ghost use Rattle.xlsx_sections.specs.Words.{ElementReadFails, always, placed, ElementFails};
+ghost use Rattle.xlsx_sections.specs.Words.{IsDecodeError, placed_at};
+ghost use Rattle.xlsx_relationships.specs.Words.{target_held};
+ghost use Rattle.xlsx_areas.specs.Hyperlinks.{Link, optional_text, linked, link_of, links_in};
+ghost use Rattle.xlsx_areas.specs.Hyperlinks.{link_said};
 ghost use Rattle.xlsx_areas.specs.LinkErrors.{IsLinksError};
 
 use crate::hyperlink::Hyperlink;
@@ -174,7 +169,7 @@ pub fn read_hyperlinks<P: Package>(
     requires element { IsReadingElement xml.old }
     ensures reads { ReadsElement Io result xml.old xml.new }
     ensures links { let by = target_held rels.now in
-        xml.old.source.is_told ≡ true → IfOk result (λ links.
+        xml.old.source.is_visible ≡ true → IfOk result (λ links.
         links_in by (content 0 (ahead xml.old)) ≡ Ok (map link_said links.items)) }
     ensures failed { xml.new.is_failed ≡ is_err result }
     ensures err { let meaning = links_in (target_held rels.now) in

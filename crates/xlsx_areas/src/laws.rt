@@ -2,13 +2,11 @@
 
 ghost use Rattle.std.specs.Prelude.{◌≡◌, ℕ, List, Some};
 ghost use Rattle.cell_refs.specs.declared.dimensions.Dimensions.{Dimensions};
-ghost use Rattle.part_events.specs.Event.{Event};
-ghost use Rattle.part_events.specs.Package.{Part, part_of};
+ghost use Rattle.part_events.specs.Words.{Event, Part, part_of};
 ghost use Rattle.xlsx_error.specs.declared.error.XlsxError.{XlsxError};
-ghost use Rattle.xlsx_parts.specs.SheetPaths.{SheetPath};
-ghost use Rattle.xlsx_parts.specs.WholePart.{IfThere};
-ghost use Rattle.xlsx_relationships.specs.LinkTargets.{LinkTarget, link_targets, LinkTargetsCause};
-ghost use Rattle.xlsx_relationships.specs.RelatedParts.{related_parts, RelatedCause};
+ghost use Rattle.xlsx_parts.specs.Words.{SheetPath, IfThere};
+ghost use Rattle.xlsx_relationships.specs.Words.{LinkTarget, link_targets, LinkTargetsCause};
+ghost use Rattle.xlsx_relationships.specs.Words.{related_parts, RelatedCause};
 ghost use Rattle.xlsx_areas.specs.Hyperlinks.{Link, links_at};
 ghost use Rattle.xlsx_areas.specs.LinkErrors.{SheetLinksCause};
 ghost use Rattle.xlsx_areas.specs.MergeErrors.{MergesCause, RegionsCause};

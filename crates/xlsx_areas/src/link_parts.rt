@@ -1,17 +1,15 @@
-ghost use Rattle.std.specs.Prelude.{◌≡◌, map, codes, true, None, Some, is_some};
-ghost use Rattle.std.specs.Prelude.{option_and_then};
+ghost use Rattle.std.specs.Prelude.{◌≡◌, map, codes, true, None, Some, is_some, option_and_then};
 ghost use Rattle.std.specs.Prelude.{IfOk, OnOk, IfErr, MatchOption};
-ghost use Rattle.part_events.specs.Package.{Uses, CountsUp, part_of, event_count};
-ghost use Rattle.part_events.specs.Reading.{IsReading, ReadsPart, events_of};
+ghost use Rattle.part_events.specs.Words.{Uses, CountsUp, part_of, event_count, IsReading};
+ghost use Rattle.part_events.specs.Words.{ReadsPart, events_of};
 ghost use Rattle.xlsx_error.specs.declared.error.XlsxError.TheVariants.{Io};
-ghost use Rattle.xlsx_parts.specs.WholePart.{IsOpenError};
-ghost use Rattle.xlsx_sections.specs.Failing.{FailsBy, SoundFails};
-ghost use Rattle.xlsx_sections.specs.SectionEvents.{ReadsToEnd, section_events};
-ghost use Rattle.xlsx_relationships.specs.LinkTargets.{target_held};
+ghost use Rattle.xlsx_parts.specs.Words.{IsOpenError};
+ghost use Rattle.xlsx_sections.specs.Words.{FailsBy, SoundFails, ReadsToEnd, section_events};
+ghost use Rattle.xlsx_relationships.specs.Words.{target_held};
 ghost use Rattle.xlsx_areas.specs.Hyperlinks.{links_of, links_at, link_said, link_events};
 ghost use Rattle.xlsx_areas.specs.Hyperlinks.{link_sections};
-ghost use Rattle.xlsx_areas.specs.LinkErrors.{LinksCause, LinksFail, SheetLinksFail};
-ghost use Rattle.xlsx_areas.specs.LinkErrors.{IsLinksError, IsSheetLinksError};
+ghost use Rattle.xlsx_areas.specs.LinkErrors.{LinksCause, LinksFail, SheetLinksFail, IsLinksError};
+ghost use Rattle.xlsx_areas.specs.LinkErrors.{IsSheetLinksError};
 
 use crate::hyperlink::Hyperlink;
 use crate::hyperlinks::read_hyperlinks;
@@ -31,9 +29,9 @@ fn links_of<P: Package>(
     requires first { xml.old.at ≡ 0 }
     ensures reads { ReadsPart Io result xml.old xml.new }
     ensures ends { let count = section_events (codes "hyperlinks") (events_of xml.old) in
-        xml.old.source.is_told ≡ true → OnOk result (xml.new.at ≡ count) }
+        xml.old.source.is_visible ≡ true → OnOk result (xml.new.at ≡ count) }
     ensures links { let by = target_held targets.now in
-        xml.old.source.is_told ≡ true →
+        xml.old.source.is_visible ≡ true →
         IfOk result (λ links. links_of by (events_of xml.old) ≡ Some (map link_said links.items)) }
     ensures err { let by = target_held targets.now in
         IfErr result (FailsBy (LinksCause by (events_of xml.old)) xml.old.source xml.new.source) }
@@ -58,7 +56,7 @@ fn read_links<P: Package>(
     ensures to_end { ReadsToEnd (codes "hyperlinks") path.now result xml.old.source xml.new.source }
     ensures links { let old = xml.old.source in
         let by = target_held targets.now in
-        old.is_told ≡ true → IfOk result (λ found. MatchOption found
+        old.is_visible ≡ true → IfOk result (λ found. MatchOption found
         (part_of old.parts path.now ≡ None)
         (λ links. option_and_then (links_of by) (part_of old.parts path.now)
         ≡ Some (map link_said links.items))) }
@@ -75,7 +73,7 @@ fn read_links<P: Package>(
 /// Whether there is a part at this path. Its refusals are `Io` and `OutOfMemory`.
 fn has_part<P: Package>(xml: &mut XlReader<P>, path: &str) -> Result<bool, XlsxError>
     ensures uses { Uses 0 Io result xml.old.source xml.new.source }
-    ensures there { xml.old.source.is_told ≡ true →
+    ensures there { xml.old.source.is_visible ≡ true →
         IfOk result (λ found. found ≡ is_some (part_of xml.old.source.parts path.now)) }
     ensures begins { OnOk result (xml.new.source.taken ≡ xml.old.source.taken) }
     ensures err { IfErr result (SoundFails xml.old.source xml.new.source) }
@@ -98,10 +96,10 @@ pub fn read_sheet_links<P: Package>(
     ensures uses { Uses (link_events xml.old.source.parts path.now) Io result
         xml.old.source xml.new.source }
     ensures to_end { let old = xml.old.source in
-        old.is_told ≡ true →
+        old.is_visible ≡ true →
         OnOk result (CountsUp (link_sections old.parts path.now) old.taken xml.new.source.taken) }
     ensures links { let old = xml.old.source in
-        old.is_told ≡ true → IfOk result (λ found. MatchOption found
+        old.is_visible ≡ true → IfOk result (λ found. MatchOption found
         (part_of old.parts path.now ≡ None)
         (λ links. links_at old.parts path.now ≡ Some (map link_said links.items))) }
     ensures err { IfErr result (SheetLinksFail path.now xml.old.source xml.new.source) }

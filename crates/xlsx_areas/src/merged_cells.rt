@@ -1,18 +1,13 @@
 ghost use Rattle.std.proofs.Common.{rules};
-ghost use Rattle.std.specs.Prelude.{◌≡◌, ℕ, [], length, true, Some, Ok};
-ghost use Rattle.std.specs.Prelude.{IfOk, OnOk, IfErr};
+ghost use Rattle.std.specs.Prelude.{◌≡◌, ℕ, [], length, true, Some, Ok, IfOk, OnOk, IfErr};
 ghost use Rattle.std.specs.Result.{is_err};
 ghost use Rattle.cell_refs.specs.declared.dimensions.Dimensions.{Dimensions};
-ghost use Rattle.part_events.specs.Event.{tag_of};
-ghost use Rattle.part_events.specs.Reading.{IsReading, ReadsPart, events_of};
-ghost use Rattle.part_events.specs.Reading.{IsReadingElement, ReadsElement, ahead};
-ghost use Rattle.part_events.specs.Section.{content};
+ghost use Rattle.part_events.specs.Words.{tag_of, IsReading, ReadsPart, events_of};
+ghost use Rattle.part_events.specs.Words.{IsReadingElement, ReadsElement, ahead, content};
 ghost use Rattle.xlsx_error.specs.declared.error.XlsxError.TheVariants.{Io};
-ghost use Rattle.xlsx_sections.specs.Elements.{ElementReadFails};
-ghost use Rattle.xlsx_sections.specs.Keeping.{put_behind};
-ghost use Rattle.xlsx_sections.specs.PartSection.{always};
-ghost use Rattle.xlsx_sections.specs.Refusal.{ElementFails, placed_at};
-ghost use Rattle.xlsx_parts.specs.WholePart.{IsMeaningRefused, WholePartFails};
+ghost use Rattle.xlsx_sections.specs.Words.{ElementReadFails, put_behind, always, ElementFails};
+ghost use Rattle.xlsx_sections.specs.Words.{placed_at};
+ghost use Rattle.xlsx_parts.specs.Words.{IsMeaningRefused, WholePartFails};
 ghost use Rattle.xlsx_areas.specs.MergeErrors.{IsRegionsError, IsMergesError};
 ghost use Rattle.xlsx_areas.specs.MergedCells.{merge_of, merges_in, regions_of};
 
@@ -86,7 +81,7 @@ impl Reads for MergeReader {
 pub fn read_merge_cells<P: Package>(xml: &mut XlReader<P>) -> Result<Vec<Dimensions>, XlsxError>
     requires element { IsReadingElement xml.old }
     ensures reads { ReadsElement Io result xml.old xml.new }
-    ensures merges { xml.old.source.is_told ≡ true →
+    ensures merges { xml.old.source.is_visible ≡ true →
         IfOk result (λ areas. merges_in (content 0 (ahead xml.old)) ≡ Ok areas.items) }
     ensures failed { xml.new.is_failed ≡ is_err result }
     ensures err { IfErr result (ElementReadFails (always []) merges_in xml.old xml.new) }
@@ -106,9 +101,9 @@ pub fn regions_in<P: Package>(xml: &mut XlReader<P>) -> Result<Vec<Dimensions>, 
     requires reading { IsReading xml.old }
     requires first { xml.old.at ≡ 0 }
     ensures reads { ReadsPart Io result xml.old xml.new }
-    ensures ends { xml.old.source.is_told ≡ true →
+    ensures ends { xml.old.source.is_visible ≡ true →
         OnOk result (xml.new.at ≡ length (events_of xml.old)) }
-    ensures regions { xml.old.source.is_told ≡ true → IfOk result (λ areas.
+    ensures regions { xml.old.source.is_visible ≡ true → IfOk result (λ areas.
         regions_of (events_of xml.old) ≡ Some areas.items) }
     ensures err { IfErr result
         (WholePartFails (IsMeaningRefused merges_in) xml.old xml.new.source) }

@@ -1,16 +1,15 @@
-ghost use Rattle.std.specs.Prelude.{◌≡◌, codes, true, None, Some, IfOk, OnOk, IfErr};
-ghost use Rattle.std.specs.Prelude.{IsSome, MatchOption};
-ghost use Rattle.part_events.specs.Package.{Uses, CountsUp, part_of, event_count};
-ghost use Rattle.part_events.specs.Reading.{IsReading, ReadsPart, MovesForward, events_of};
+ghost use Rattle.std.specs.Prelude.{◌≡◌, codes, true, None, Some, IfOk, OnOk, IfErr, IsSome};
+ghost use Rattle.std.specs.Prelude.{MatchOption};
+ghost use Rattle.part_events.specs.Words.{Uses, CountsUp, part_of, event_count, IsReading};
+ghost use Rattle.part_events.specs.Words.{ReadsPart, MovesForward, events_of};
 ghost use Rattle.xlsx_error.specs.declared.error.XlsxError.TheVariants.{Io};
-ghost use Rattle.xlsx_sections.specs.Failing.{FailsBy};
-ghost use Rattle.xlsx_sections.specs.SectionEvents.{ReadsToEnd, section_events};
-ghost use Rattle.xlsx_parts.specs.WholePart.{IsBreakError};
+ghost use Rattle.xlsx_sections.specs.Words.{FailsBy, ReadsToEnd, section_events};
+ghost use Rattle.xlsx_parts.specs.Words.{IsBreakError};
 ghost use Rattle.xlsx_areas.specs.MergeErrors.{IsRegionsError, IsMergesError, MergesCause};
 ghost use Rattle.xlsx_areas.specs.MergeErrors.{MergesFail, RegionsFail, BreaksBefore};
 ghost use Rattle.xlsx_areas.specs.MergeErrors.{BreaksBeforeMerges, LeavesFaults};
-ghost use Rattle.xlsx_areas.specs.MergedCells.{merges_of, merges_at, regions_at};
-ghost use Rattle.xlsx_areas.specs.MergedCells.{merges_or_none_of, merges_or_none_at};
+ghost use Rattle.xlsx_areas.specs.MergedCells.{merges_of, merges_at, regions_at, merges_or_none_of};
+ghost use Rattle.xlsx_areas.specs.MergedCells.{merges_or_none_at};
 
 use crate::merged_cells::{read_merge_cells, regions_in};
 use cell_refs::Dimensions;
@@ -25,8 +24,8 @@ fn merges_of<P: Package>(xml: &mut XlReader<P>) -> Result<Vec<Dimensions>, XlsxE
     requires first { xml.old.at ≡ 0 }
     ensures reads { ReadsPart Io result xml.old xml.new }
     ensures ends { let count = section_events (codes "mergeCells") (events_of xml.old) in
-        xml.old.source.is_told ≡ true → OnOk result (xml.new.at ≡ count) }
-    ensures merges { xml.old.source.is_told ≡ true →
+        xml.old.source.is_visible ≡ true → OnOk result (xml.new.at ≡ count) }
+    ensures merges { xml.old.source.is_visible ≡ true →
         IfOk result (λ areas. merges_of (events_of xml.old) ≡ Some areas.items) }
     ensures err { IfErr result
         (FailsBy (MergesCause (events_of xml.old)) xml.old.source xml.new.source) }
@@ -52,7 +51,7 @@ pub fn read_merges<P: Package>(
         xml.old.source xml.new.source }
     ensures to_end { ReadsToEnd (codes "mergeCells") path.now result xml.old.source xml.new.source }
     ensures merges { let old = xml.old.source in
-        old.is_told ≡ true → IfOk result (λ found. MatchOption found
+        old.is_visible ≡ true → IfOk result (λ found. MatchOption found
         (part_of old.parts path.now ≡ None)
         (λ areas. merges_at old.parts path.now ≡ Some areas.items)) }
     ensures err { IfErr result (MergesFail path.now xml.old.source xml.new.source) }
@@ -75,10 +74,10 @@ pub fn read_regions<P: Package>(
     ensures uses { Uses (event_count xml.old.source.parts path.now) Io result
         xml.old.source xml.new.source }
     ensures to_end { let old = xml.old.source in
-        old.is_told ≡ true →
+        old.is_visible ≡ true →
         OnOk result (CountsUp (event_count old.parts path.now) old.taken xml.new.source.taken) }
     ensures regions { let old = xml.old.source in
-        old.is_told ≡ true → IfOk result (λ found. MatchOption found
+        old.is_visible ≡ true → IfOk result (λ found. MatchOption found
         (part_of old.parts path.now ≡ None)
         (λ areas. regions_at old.parts path.now ≡ Some areas.items)) }
     ensures err { IfErr result (RegionsFail path.now xml.old.source xml.new.source) }
@@ -96,10 +95,10 @@ fn merges_or_none<P: Package>(xml: &mut XlReader<P>) -> Result<Vec<Dimensions>, 
     requires reading { IsReading xml.old }
     requires first { xml.old.at ≡ 0 }
     ensures moves { MovesForward xml.old xml.new }
-    ensures merges { xml.old.source.is_told ≡ true →
+    ensures merges { xml.old.source.is_visible ≡ true →
         IfOk result (λ areas. merges_or_none_of (events_of xml.old) ≡ Some areas.items) }
     ensures ends { let count = section_events (codes "mergeCells") (events_of xml.old) in
-        xml.old.source.is_told ≡ true → IsSome (merges_of (events_of xml.old)) →
+        xml.old.source.is_visible ≡ true → IsSome (merges_of (events_of xml.old)) →
         OnOk result (xml.new.at ≡ count) }
     ensures faults { LeavesFaults result xml.old.source xml.new.source }
     ensures err { IfErr result
@@ -134,7 +133,7 @@ pub fn read_merges_or_none<P: Package>(
     ensures to_end { IsSome (merges_at xml.old.source.parts path.now) →
         ReadsToEnd (codes "mergeCells") path.now result xml.old.source xml.new.source }
     ensures merges { let old = xml.old.source in
-        old.is_told ≡ true → IfOk result (λ found. MatchOption found
+        old.is_visible ≡ true → IfOk result (λ found. MatchOption found
         (part_of old.parts path.now ≡ None)
         (λ areas. merges_or_none_at old.parts path.now ≡ Some areas.items)) }
     ensures err { IfErr result (BreaksBeforeMerges path.now xml.old.source xml.new.source) }

@@ -1,7 +1,6 @@
 ghost use Rattle.std.specs.Prelude.{◌≡◌, ◌++◌, List, map, OnOk, OnErr};
 ghost use Rattle.std.specs.List.{filter};
-ghost use Rattle.xlsx_parts.specs.ManyAsked.{Appends};
-ghost use Rattle.xlsx_parts.specs.SheetPaths.{sheet_at};
+ghost use Rattle.xlsx_parts.specs.Words.{Appends, sheet_at};
 ghost use Rattle.xlsx_areas.specs.Regions.{region_in, region_of, is_of_sheet, regions_ask};
 ghost use Rattle.xlsx_areas.specs.declared.regions.MergedRegion.{MergedRegion};
 

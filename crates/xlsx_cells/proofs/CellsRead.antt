@@ -1,42 +1,37 @@
 -- How a cell is read, and why it is refused.
 use Rattle.std.proofs.Common.{◌≡◌, ℕ, List, [], ◌∷◌, ◌++◌, Bool, true, false, Option, Some, None}
-use Rattle.std.proofs.Common.{Ok, Err, refl, sym, ◌∙◌, ap, subst, inl, inr, codes, length}
-use Rattle.std.proofs.Common.{◌⊎◌, ◌-◌, ◌<◌, arith}
+use Rattle.std.proofs.Common.{Ok, Err, refl, sym, ◌∙◌, ap, subst, inl, inr, codes, length, ◌⊎◌, ◌-◌}
+use Rattle.std.proofs.Common.{◌<◌, arith}
 use Rattle.std.specs.Prelude.{◌||◌, if◌then◌else◌}
 use Rattle.std.specs.List.{last_or}
 use Rattle.std.specs.Option.{unwrap_or}
-use Rattle.attr_text.specs.Attributes.{lookup, value_of}
+use Rattle.attr_text.specs.Words.{lookup, value_of}
 use Rattle.attr_text.proofs.LookupsByKey.{lookup-ok}
-use Rattle.part_events.specs.Event.{Tag, Event, start, end}
-use Rattle.part_events.specs.Reading.{Reading, ahead}
-use Rattle.part_events.specs.Section.{Element, content, is_closed, unclosed, is_any}
-use Rattle.part_events.specs.Walk.{IsNextElement, inside, element_at, section_ahead, section_behind}
+use Rattle.part_events.specs.Words.{Tag, Event, start, end, Reading, ahead, Element, content}
+use Rattle.part_events.specs.Words.{is_closed, unclosed, is_any, IsNextElement, inside, element_at}
+use Rattle.part_events.specs.Words.{section_ahead, section_behind}
 use Rattle.part_events.proofs.Matches.{open_still}
 use Rattle.xlsx_error.specs.declared.error.XlsxError.{XlsxError}
 use Rattle.xlsx_error.specs.declared.error.XlsxError.TheVariants.{OutOfMemory}
-use Rattle.cell_data.specs.CellValue.{value_of_data_ref}
+use Rattle.cell_data.specs.Words.{value_of_data_ref}
 use Rattle.cell_data.specs.declared.format.CellFormat.{CellFormat}
-use Rattle.xlsx_sections.specs.Elements.{end_outside}
-use Rattle.xlsx_sections.specs.PartSection.{SectionFails, inside_of, section_left}
-use Rattle.xlsx_sections.specs.PartSection.{has_end}
-use Rattle.xlsx_sections.specs.Refusal.{Refusal, in_element, further, events_behind}
+use Rattle.xlsx_sections.specs.Words.{end_outside, SectionFails, inside_of, section_left, has_end}
+use Rattle.xlsx_sections.specs.Words.{Refusal, in_element, further, count_behind}
 use Rattle.xlsx_sections.proofs.CutOff.{cut_weaker, cut_open}
-use Rattle.xlsx_sections.proofs.ElementsRead.{IsElementFound, IsElementPassed, own_inside}
-use Rattle.xlsx_sections.proofs.ElementsRead.{own_end}
+use Rattle.xlsx_sections.proofs.ElementsRead.{IsElementFound, IsElementPassed, own_inside, own_end}
 use Rattle.xlsx_sections.proofs.Refused.{refused_by}
-use Rattle.xlsx_values.specs.CellType.{CellKind}
-use Rattle.xlsx_values.specs.Value.{Grounds, cell_value, value_in, style_number}
-use Rattle.xlsx_formulas.specs.Formula.{FormulaText, formulas_in, covers_in}
-use Rattle.xlsx_formulas.specs.Kept.{AreMasters, last_seen, covers_seen}
-use Rattle.xlsx_formulas.specs.declared.masters.Masters.{Masters}
+use Rattle.xlsx_values.specs.Words.{CellKind, ValueContext, cell_value, value_in, style_number}
+use Rattle.xlsx_formulas.specs.Words.{FormulaText, formulas_in, covers_in, AreMasters, last_seen}
+use Rattle.xlsx_formulas.specs.Words.{covers_seen}
+use Rattle.xlsx_formulas.specs.declared.shared_formulas.SharedFormulas.{SharedFormulas}
 use Rattle.xlsx_sections.proofs.SectionsRead.{same_tag}
 use Rattle.xlsx_cells.specs.Children.{AreChildrenRefused, ReadsCellFormulas, KeepsMasters, kept_by}
 use Rattle.xlsx_cells.specs.Counting.{AreKept, IsStartRefused, IsRefused}
 use Rattle.xlsx_cells.specs.Ends.{reads_children, kind_of_cell, end_in_child_element}
 use Rattle.xlsx_cells.specs.Ends.{end_in_children, end_in_contents}
-use Rattle.xlsx_cells.specs.Finding.{FindsCell, IsMarkRefused, marks_left, TakesElement}
-use Rattle.xlsx_cells.specs.Finding.{LacksCell, IsCutOff, open_mark, element_and}
-use Rattle.xlsx_cells.specs.Marks.{Mark, cell, is_cell, marks, behind_marks}
+use Rattle.xlsx_cells.specs.Finding.{FindsCell, IsMarkRefused, marks_left, TakesElement, LacksCell}
+use Rattle.xlsx_cells.specs.Finding.{IsCutOff, open_mark, element_and}
+use Rattle.xlsx_cells.specs.Marks.{Mark, cell, is_cell_start, marks, behind_marks}
 use Rattle.xlsx_cells.specs.Position.{NoCell}
 use Rattle.xlsx_cells.specs.Stream.{IsContentRefused, IsHeadRefused, IsCellRefused, CellFails}
 use Rattle.xlsx_cells.specs.Stream.{Stream, TakesCell, IsRead}
@@ -67,13 +62,13 @@ id_start_refused wants tag error wanted is =
     (λ refusal. (wants.styles ≡ true) × (id_named tag ≡ Err refusal)) error
     (λ refusal own. (wanted, own)) is
 
-pub head_refused : (wants : Wants) (grounds : Grounds) (tag : Tag) (error : XlsxError)
+pub head_refused : (wants : Wants) (context : ValueContext) (tag : Tag) (error : XlsxError)
     → IsRefused (λ refusal. (wants.styles ≡ true) × (id_named tag ≡ Err refusal)) error
-    → IsStartRefused (IsHeadRefused wants grounds tag) error
-head_refused wants grounds tag OutOfMemory is = tt
-head_refused wants grounds tag error is =
+    → IsStartRefused (IsHeadRefused wants context tag) error
+head_refused wants context tag OutOfMemory is = tt
+head_refused wants context tag error is =
     is_refused_weaker (λ refusal. (wants.styles ≡ true) × (id_named tag ≡ Err refusal))
-    (IsHeadRefused wants grounds tag) error (λ refusal own. inr own) is
+    (IsHeadRefused wants context tag) error (λ refusal own. inr own) is
 
 pub some_wanted : (values formulas : Bool) → (values ≡ true) ⊎ (formulas ≡ true)
     → (values || formulas) ≡ true
@@ -104,17 +99,17 @@ same_end true wants first second inside is same =
 same_end false wants first second inside is same =
     same_unclosed wants first second (unclosed is_any inside) is
 
-pub contents_fail : (wants : Wants) (grounds : Grounds) (format : CellFormat) (kind : CellKind)
+pub contents_fail : (wants : Wants) (context : ValueContext) (format : CellFormat) (kind : CellKind)
     (tag : Tag) (old new : Reading) (error : XlsxError) → reads_children wants ≡ true
     → (wants.values ≡ true → kind_of_cell tag ≡ kind)
     → (wants.values ≡ true → (inside : List Event)
-    → cell_value grounds tag inside ≡ value_in grounds format kind inside)
-    → SectionFails (end_in_children wants kind) (AreChildrenRefused wants grounds format kind)
+    → cell_value context tag inside ≡ value_in context format kind inside)
+    → SectionFails (end_in_children wants kind) (AreChildrenRefused wants context format kind)
     (length old.names) old new error
-    → CellFails wants grounds tag old new error
-contents_fail wants grounds format kind tag old new error some typed valued fails =
+    → CellFails wants context tag old new error
+contents_fail wants context format kind tag old new error some typed valued fails =
     refused_by (length old.names) old (end_in_children wants kind) (end_in_contents wants tag)
-    (AreChildrenRefused wants grounds format kind) (IsContentRefused wants grounds tag) new error
+    (AreChildrenRefused wants context format kind) (IsContentRefused wants context tag) new error
     (λ told. rw some (same_end wants.values wants (kind_of_cell tag) kind
     (inside_of (section_left (length old.names) old)) refl typed))
     (λ told refusal is. elim is [
@@ -125,12 +120,12 @@ contents_fail wants grounds format kind tag old new error some typed valued fail
       | inr own ↦ inr (inl own)
     ]) fails
 
-pub started_fail : (wants : Wants) (grounds : Grounds) (tag : Tag) (old new : Reading)
-    (error : XlsxError) → IsStartRefused (IsHeadRefused wants grounds tag) error
-    → CellFails wants grounds tag old new error
-started_fail wants grounds tag old new error is =
+pub started_fail : (wants : Wants) (context : ValueContext) (tag : Tag) (old new : Reading)
+    (error : XlsxError) → IsStartRefused (IsHeadRefused wants context tag) error
+    → CellFails wants context tag old new error
+started_fail wants context tag old new error is =
     start_refused (length old.names) old (end_in_contents wants tag)
-    (IsHeadRefused wants grounds tag) (IsContentRefused wants grounds tag) new error
+    (IsHeadRefused wants context tag) (IsContentRefused wants context tag) new error
     (λ told refusal own. elim own [
       | inl valued ↦ inl (
         valued.0,
@@ -140,20 +135,20 @@ started_fail wants grounds tag old new error is =
     ]) is
 
 -- the cell that was found is refused
-pub found_cell_refused : (wants : Wants) (grounds : Grounds) (before : List Mark)
+pub found_cell_refused : (wants : Wants) (context : ValueContext) (before : List Mark)
     (position : ℕ × ℕ) (base : ℕ) (old new : Reading) (counters : Counters) (tag : Tag)
     (refusal : Refusal) → FindsCell before position base old new counters
     → start tag ≡ new.source.current
-    → IsContentRefused wants grounds tag (section_left (length new.names) new) refusal
-    → IsMarkRefused NoCell (IsCellRefused wants grounds) before (marks_left base old)
-    (further (events_behind (element_at base tag new)) refusal)
-found_cell_refused wants grounds before position base old new counters tag refusal finds current
+    → IsContentRefused wants context tag (section_left (length new.names) new) refusal
+    → IsMarkRefused NoCell (IsCellRefused wants context) before (marks_left base old)
+    (further (count_behind (element_at base tag new)) refusal)
+found_cell_refused wants context before position base old new counters tag refusal finds current
     is =
     let same : finds.tag ≡ tag = same_tag (finds.current ∙ sym current) in
     let element = element_at base tag new in
-    let after = further (events_behind element) refusal in
+    let after = further (count_behind element) refusal in
     let behind = behind_marks finds.front.passed before in
-    let here : IsCellRefused wants grounds behind element after =
+    let here : IsCellRefused wants context behind element after =
     elim is [
       | inl own ↦ inr (inl (own.0, ap (in_element element) (rw (own_inside new) at own.1)))
       | inr others ↦ elim others [
@@ -164,17 +159,17 @@ found_cell_refused wants grounds before position base old new counters tag refus
         | inr own ↦ inr (inr (inr (own.0, ap (in_element element) own.1)))
       ]
     ] in
-    refused_behind_front (IsCellRefused wants grounds) after finds.front
-    (subst (λ (all : List Mark). IsMarkRefused NoCell (IsCellRefused wants grounds) behind all
+    refused_behind_front (IsCellRefused wants context) after finds.front
+    (subst (λ (all : List Mark). IsMarkRefused NoCell (IsCellRefused wants context) behind all
     after) (sym finds.next)
-    (subst (λ (own : Tag). IsMarkRefused NoCell (IsCellRefused wants grounds) behind
+    (subst (λ (own : Tag). IsMarkRefused NoCell (IsCellRefused wants context) behind
     (cell (element_at base own new) ∷ marks (section_behind base new)) after) (sym same)
     (inl here)))
 
 -- the cell that was found is left open, and no other cell is left
 found_cell_open : (before : List Mark) (position : ℕ × ℕ) (base : ℕ) (old new : Reading)
     (counters : Counters) (tag : Tag) → FindsCell before position base old new counters
-    → start tag ≡ new.source.current → IsNextElement is_cell base tag old new
+    → start tag ≡ new.source.current → IsNextElement is_cell_start base tag old new
     → has_end (section_left (length new.names) new) ≡ false
     → LacksCell NoCell before (section_ahead base old)
 found_cell_open before position base old new counters tag finds current next ends =
@@ -182,9 +177,10 @@ found_cell_open before position base old new counters tag finds current next end
     let element = element_at base tag new in
     let passed = finds.front.passed in
     let is_open : is_closed 0 (ahead new) ≡ false = sym (own_end new) ∙ ends in
-    let open_one : unclosed is_cell (section_ahead base old) ≡ Some element =
+    let open_one : unclosed is_cell_start (section_ahead base old) ≡ Some element =
     next.unclosed
-    ∙ ap (λ (b : Bool). if b then unclosed is_cell (section_behind base new) else Some element)
+    ∙ ap (λ (b : Bool). if b then unclosed is_cell_start (section_behind base new) else Some
+    element)
     is_open in
     record {
       passed = passed;
@@ -198,27 +194,28 @@ found_cell_open before position base old new counters tag finds current next end
     }
 
 -- a step is cut off in the cell that was found
-pub found_cell_cut : (wants : Wants) (grounds : Grounds) (position : ℕ × ℕ) (base place : ℕ)
+pub found_cell_cut : (wants : Wants) (context : ValueContext) (position : ℕ × ℕ) (base place : ℕ)
     (old mid new : Reading) (first counters : Counters) (tag : Tag) (error : XlsxError)
-    → IsElementFound is_cell base tag place old old mid → start tag ≡ mid.source.current
-    → (old.source.is_told ≡ true → (before : List Mark) → AreKept before first
+    → IsElementFound is_cell_start base tag place old old mid → start tag ≡ mid.source.current
+    → (old.source.is_visible ≡ true → (before : List Mark) → AreKept before first
     → FindsCell before position base old mid counters)
-    → CellFails wants grounds tag mid new error
+    → CellFails wants context tag mid new error
     → IsCutOff NoCell first base old error
-found_cell_cut wants grounds position base place old mid new first counters tag error found current
+found_cell_cut wants context position base place old mid new first counters tag error found current
     finds fails =
-    cut_weaker (mid.source.is_told ≡ true → has_end (section_left (length mid.names) mid) ≡ false)
-    (old.source.is_told ≡ true → (before : List Mark) → AreKept before first
+    cut_weaker (mid.source.is_visible ≡ true → has_end (section_left (length mid.names) mid)
+    ≡ false)
+    (old.source.is_visible ≡ true → (before : List Mark) → AreKept before first
     → LacksCell NoCell before (section_ahead base old)) error
     (λ ends told before kept.
     found_cell_open before position base old mid counters tag (finds told before kept) current
-    (found.next told) (ends (found.read.reads.moves.parts.is_told ∙ told)))
+    (found.next told) (ends (found.read.reads.moves.parts.is_visible ∙ told)))
     (cut_open (length mid.names) mid new (end_in_contents wants tag)
-    (IsContentRefused wants grounds tag) error fails)
+    (IsContentRefused wants context tag) error fails)
 
 -- the formulas that a cell writes, where they are wanted, and those that are kept of them
 record WritesOf
-    (wants : Wants) (keeps : Bool) (inside : List Event) (old new : Masters)
+    (wants : Wants) (keeps : Bool) (inside : List Event) (old new : SharedFormulas)
     (latest : Option FormulaText) : Type 0 where
   written : List FormulaText
   listed : wants.formulas ≡ true → formulas_in inside ≡ Ok written
@@ -226,13 +223,13 @@ record WritesOf
   none : wants.formulas ≡ false → written ≡ []
   masters : KeepsMasters (kept_by keeps written) old new
 
-kept_none : (keeps : Bool) (old new : Masters) → new ≡ old
+kept_none : (keeps : Bool) (old new : SharedFormulas) → new ≡ old
     → KeepsMasters (kept_by keeps []) old new
 kept_none true old new same = λ earlier are. rw same are
 kept_none false old new same = λ earlier are. rw same are
 
 writes_of : (formulas : Bool) (wants : Wants) (keeps : Bool) (inside : List Event)
-    (old new : Masters) (last : Option FormulaText) → wants.formulas ≡ formulas
+    (old new : SharedFormulas) (last : Option FormulaText) → wants.formulas ≡ formulas
     → (wants.formulas ≡ true
     → ReadsCellFormulas keeps inside old (record { masters = new; last = last }))
     → (wants.formulas ≡ false → new ≡ old) → WritesOf wants keeps inside old new last
@@ -280,14 +277,14 @@ found_cell_taken {base = base} {mid = mid} new finds deep closed left =
     }
 
 -- the cell that was found was read
-pub taken_cell : (wants : Wants) (keeps : Bool) (grounds : Grounds) (before : List Mark)
+pub taken_cell : (wants : Wants) (keeps : Bool) (context : ValueContext) (before : List Mark)
     (earlier : List FormulaText) (position : ℕ × ℕ) (old : Stream) (mid new : Reading)
-    (counters : Counters) (masters : Masters) (read : CellRead)
+    (counters : Counters) (masters : SharedFormulas) (read : CellRead)
     → (finds : FindsCell before position old.base old.reading mid counters)
-    → IsElementPassed is_cell old.base finds.tag old.reading old.reading mid new
+    → IsElementPassed is_cell_start old.base finds.tag old.reading old.reading mid new
     → old.base < length mid.names → is_closed 0 (ahead mid) ≡ true
-    → old.reading.source.is_told ≡ true → AreMasters earlier old.masters → read.pos ≡ position
-    → (wants.values ≡ true → cell_value grounds finds.tag (content 0 (ahead mid))
+    → old.reading.source.is_visible ≡ true → AreMasters earlier old.masters → read.pos ≡ position
+    → (wants.values ≡ true → cell_value context finds.tag (content 0 (ahead mid))
     ≡ Ok (value_of_data_ref read.value))
     → (wants.formulas ≡ true → ReadsCellFormulas keeps (content 0 (ahead mid)) old.masters
     (record { masters = masters; last = last_seen read.formula }))
@@ -301,8 +298,8 @@ pub taken_cell : (wants : Wants) (keeps : Bool) (grounds : Grounds) (before : Li
       masters = masters;
       is_done = old.is_done;
       is_failed = false;
-    }) (IsRead wants keeps grounds read)
-taken_cell wants keeps grounds before earlier position old mid new counters masters read finds
+    }) (IsRead wants keeps context read)
+taken_cell wants keeps context before earlier position old mid new counters masters read finds
     passed deep closed told behind placed valued reads covers kept styled =
     let base = old.base in
     let inside = content 0 (ahead mid) in

@@ -1,44 +1,38 @@
 -- How the cells of a sheet's data are collected.
 use Rattle.std.proofs.Common.{◌≡◌, ℕ, List, [], ◌∷◌, ◌++◌, append-nil, Bool, true, false, Option}
-use Rattle.std.proofs.Common.{Result, Ok, refl, sym, ◌∙◌, ap, subst}
-use Rattle.std.proofs.Common.{codes, map}
+use Rattle.std.proofs.Common.{Result, Ok, refl, sym, ◌∙◌, ap, subst, codes, map}
 use Rattle.std.specs.Prelude.{if◌then◌else◌, filter}
 use Rattle.std.proofs.lemmas.List.Elements.{filter-append}
-use Rattle.part_events.specs.Event.{Tag}
-use Rattle.part_events.specs.Reading.{Reading}
-use Rattle.part_events.specs.Section.{Element}
-use Rattle.part_events.specs.Walk.{section_ahead}
+use Rattle.part_events.specs.Words.{Tag, Reading, Element, section_ahead}
 use Rattle.xlsx_error.specs.declared.error.XlsxError.{XlsxError}
 use Rattle.xlsx_error.specs.declared.error.XlsxError.TheVariants.{Failed}
-use Rattle.cell_data.specs.CellValue.{CellValue, value_of_data_ref}
+use Rattle.cell_data.specs.Words.{CellValue, value_of_data_ref}
 use Rattle.cell_data.specs.declared.value.DataRef.{DataRef}
-use Rattle.cell_styles.specs.StyleMap.{StyledCell, is_explicit}
-use Rattle.xlsx_sections.specs.Answers.{prepended}
-use Rattle.xlsx_sections.specs.Elements.{KeepsElements, end_outside}
-use Rattle.xlsx_sections.specs.PartSection.{SectionFails}
-use Rattle.xlsx_sections.specs.Refusal.{Refusal}
+use Rattle.cell_styles.specs.Words.{StyledCell, is_explicit}
+use Rattle.xlsx_sections.specs.Words.{prepended, KeepsElements, end_outside, SectionFails, Refusal}
 use Rattle.xlsx_sections.proofs.Kept.{prepended-and_others}
 use Rattle.xlsx_sections.proofs.Refused.{refused_later}
 use Rattle.xlsx_sections.proofs.SectionsRead.{keeps_further}
-use Rattle.xlsx_values.specs.Value.{Grounds}
-use Rattle.xlsx_formulas.specs.Formula.{FormulaText, cell_formula, behind_formulas}
+use Rattle.xlsx_values.specs.Words.{ValueContext}
+use Rattle.xlsx_formulas.specs.Words.{FormulaText, cell_formula, behind_formulas}
 use Rattle.xlsx_formulas.specs.declared.cell_formula.CellFormula.{CellFormula}
 use Rattle.xlsx_cells.specs.CellErrors.{IsCellError, IsStyledError, IsStreamError}
 use Rattle.xlsx_cells.specs.CellErrors.{IsStyledStreamError}
 use Rattle.xlsx_cells.specs.Counting.{AreKept}
 use Rattle.xlsx_cells.specs.Ends.{end_in_cell, end_in_data}
 use Rattle.xlsx_cells.specs.Finding.{IsMarkRefused, IsStepRefused}
-use Rattle.xlsx_cells.specs.Marks.{Mark, row_start, row_end, cell, is_cell, marks, behind_marks}
+use Rattle.xlsx_cells.specs.Marks.{Mark, row_start, row_end, cell, is_cell_start, marks}
+use Rattle.xlsx_cells.specs.Marks.{behind_marks}
 use Rattle.xlsx_cells.specs.Position.{PassesMarks, NoCell, IsPlaced}
 use Rattle.xlsx_cells.specs.Sheet.{behind_row, answers_from, placed_value, placed_formulas}
 use Rattle.xlsx_cells.specs.Sheet.{values_in, formulas_written, formulas_along, is_nothing}
 use Rattle.xlsx_cells.specs.Sheet.{is_empty, used_values, used_formulas}
 use Rattle.xlsx_cells.specs.SheetPart.{AreDataRefused, DataFails, HoldsValues, HoldsFormulas}
-use Rattle.xlsx_cells.specs.SheetPart.{LackUnwanted, value_entry, value_entries}
-use Rattle.xlsx_cells.specs.SheetPart.{formula_entry, formula_entries}
+use Rattle.xlsx_cells.specs.SheetPart.{LackUnwanted, value_entry, value_entries, formula_entry}
+use Rattle.xlsx_cells.specs.SheetPart.{formula_entries}
 use Rattle.xlsx_cells.specs.Stream.{Stream, StandsBehind, IsGoing, IsCellRefused, IsWritten}
-use Rattle.xlsx_cells.specs.Stream.{TakesCell, NextCellFails, marks_ahead, data_ahead}
-use Rattle.xlsx_cells.specs.Stream.{WrittenCell, LacksUnwantedText}
+use Rattle.xlsx_cells.specs.Stream.{TakesCell, NextCellFails, marks_ahead, data_ahead, WrittenCell}
+use Rattle.xlsx_cells.specs.Stream.{LacksUnwantedText}
 use Rattle.xlsx_cells.specs.StyleIds.{placed_id, ids_in, HoldsIds}
 use Rattle.xlsx_cells.specs.declared.children.Wants.{Wants}
 use Rattle.xlsx_cells.proofs.Fronts.{mark_weaker, no_cell, refused_further}
@@ -146,12 +140,12 @@ taken_is_mark refused before others refusal is =
 
 -- the values so far, where they are wanted
 pub record ValuesSoFar
-    (grounds : Grounds) (before : List Mark) (old now : Stream)
+    (context : ValueContext) (before : List Mark) (old now : Stream)
     (values : List ((ℕ × ℕ) × CellValue)) : Type 0 where
   pub passed : List ((ℕ × ℕ) × CellValue)
   pub all :
-      prepended passed (answers_from (placed_value grounds) before (marks_ahead now))
-      ≡ values_in grounds (data_ahead old)
+      prepended passed (answers_from (placed_value context) before (marks_ahead now))
+      ≡ values_in context (data_ahead old)
   pub used : values ≡ used_values passed
 
 -- and the formulas
@@ -175,32 +169,32 @@ pub record IdsSoFar
 
 -- the cells of a sheet's data were collected up to here
 pub record HasCollected
-    (wants : Wants) (grounds : Grounds) (count : ℕ) (old now : Stream)
+    (wants : Wants) (context : ValueContext) (count : ℕ) (old now : Stream)
     (values : List ((ℕ × ℕ) × CellValue)) (formulas : List ((ℕ × ℕ) × List ℕ))
     (ids : List StyledCell) : Type 0 where
   pub before : List Mark
   pub earlier : List FormulaText
   pub stands : StandsBehind before earlier now
-  pub valued : wants.values ≡ true → ValuesSoFar grounds before old now values
+  pub valued : wants.values ≡ true → ValuesSoFar context before old now values
   pub listed : wants.formulas ≡ true → FormulasSoFar before earlier old now formulas
   pub styled : wants.styles ≡ true → IdsSoFar count before old now ids
   pub refused :
       (refusal : Refusal) →
-      IsMarkRefused IsPlaced (IsCellRefused wants grounds) before (marks_ahead now) refusal →
-      IsMarkRefused IsPlaced (IsCellRefused wants grounds) [] (marks_ahead old) refusal
+      IsMarkRefused IsPlaced (IsCellRefused wants context) before (marks_ahead now) refusal →
+      IsMarkRefused IsPlaced (IsCellRefused wants context) [] (marks_ahead old) refusal
 
 -- one cell more
-pub collected_further : (wants : Wants) (grounds : Grounds) (count : ℕ) (old mid new : Stream)
+pub collected_further : (wants : Wants) (context : ValueContext) (count : ℕ) (old mid new : Stream)
     (values : List ((ℕ × ℕ) × CellValue)) (formulas : List ((ℕ × ℕ) × List ℕ))
     (ids : List StyledCell) (read : WrittenCell)
-    → (been : HasCollected wants grounds count old mid values formulas ids)
+    → (been : HasCollected wants context count old mid values formulas ids)
     → TakesCell NoCell been.before been.earlier mid new
-    (IsWritten wants grounds been.earlier read)
-    → HasCollected wants grounds count old new
+    (IsWritten wants context been.earlier read)
+    → HasCollected wants context count old new
     (values ++ used_values ((read.pos, value_of_data_ref read.value) ∷ []))
     (formulas ++ used_formulas ((read.pos, read.text) ∷ []))
     (ids ++ filter (is_explicit count) ((read.pos.0, read.pos.1, read.style_id) ∷ []))
-collected_further wants grounds count old mid new values formulas ids read been takes =
+collected_further wants context count old mid new values formulas ids read been takes =
     let front = takes.takes.front in
     let behind = behind_marks front.passed been.before in
     let element = takes.element in
@@ -213,11 +207,11 @@ collected_further wants grounds count old mid new values formulas ids read been 
       stands = takes.stands;
       valued = λ wanted.
           let so_far = been.valued wanted in
-          let answer : placed_value grounds behind element ≡ Ok (read.pos, value) =
+          let answer : placed_value context behind element ≡ Ok (read.pos, value) =
           rw (takes.holds.placed, takes.holds.valued wanted) refl in
           record {
             passed = so_far.passed ++ (read.pos, value) ∷ [];
-            all = answer_kept (placed_value grounds) so_far.passed (read.pos, value) front.passed
+            all = answer_kept (placed_value context) so_far.passed (read.pos, value) front.passed
                 been.before (marks_ahead new) (marks_ahead mid) element _ front.fact marks_same
                 answer so_far.all;
             used = ap (λ (own : List ((ℕ × ℕ) × CellValue)). own
@@ -263,7 +257,7 @@ collected_further wants grounds count old mid new values formulas ids read been 
                 ∙ sym (filter-append (is_explicit count) so_far.passed (own ∷ []));
           };
       refused = λ refusal is. been.refused refusal
-          (refused_further (IsCellRefused wants grounds) refusal takes.takes
+          (refused_further (IsCellRefused wants context) refusal takes.takes
           (read.pos, takes.holds.placed) is);
     }
 
@@ -293,27 +287,27 @@ unwanted_further wants count values more_values formulas more_formulas ids more_
       ids = λ unwanted. styled ∙ rw (been.ids unwanted, lacks.style unwanted) refl;
     }
 
-pub values_whole : (wants : Wants) (grounds : Grounds) (count : ℕ) (old now : Stream)
+pub values_whole : (wants : Wants) (context : ValueContext) (count : ℕ) (old now : Stream)
     (values : List ((ℕ × ℕ) × CellValue)) (formulas : List ((ℕ × ℕ) × List ℕ))
     (ids : List StyledCell)
-    → (been : HasCollected wants grounds count old now values formulas ids)
+    → (been : HasCollected wants context count old now values formulas ids)
     → PassesMarks NoCell been.before (marks_ahead now) → wants.values ≡ true
-    → HoldsValues grounds (data_ahead old) values
-values_whole wants grounds count old now values formulas ids been rows wanted =
+    → HoldsValues context (data_ahead old) values
+values_whole wants context count old now values formulas ids been rows wanted =
     let so_far = been.valued wanted in (
       so_far.passed,
-      answers_whole (placed_value grounds) so_far.passed been.before (marks_ahead now) _ rows
+      answers_whole (placed_value context) so_far.passed been.before (marks_ahead now) _ rows
           so_far.all,
       so_far.used,
     )
 
-pub formulas_whole : (wants : Wants) (grounds : Grounds) (count : ℕ) (old now : Stream)
+pub formulas_whole : (wants : Wants) (context : ValueContext) (count : ℕ) (old now : Stream)
     (values : List ((ℕ × ℕ) × CellValue)) (formulas : List ((ℕ × ℕ) × List ℕ))
     (ids : List StyledCell)
-    → (been : HasCollected wants grounds count old now values formulas ids)
+    → (been : HasCollected wants context count old now values formulas ids)
     → PassesMarks NoCell been.before (marks_ahead now) → wants.formulas ≡ true
     → HoldsFormulas (data_ahead old) formulas
-formulas_whole wants grounds count old now values formulas ids been rows wanted =
+formulas_whole wants context count old now values formulas ids been rows wanted =
     let so_far = been.listed wanted in (
       so_far.passed,
       answers_whole placed_formulas so_far.passed been.before (marks_ahead now) _ rows
@@ -321,13 +315,13 @@ formulas_whole wants grounds count old now values formulas ids been rows wanted 
       so_far.used,
     )
 
-pub ids_whole : (wants : Wants) (grounds : Grounds) (count : ℕ) (old now : Stream)
+pub ids_whole : (wants : Wants) (context : ValueContext) (count : ℕ) (old now : Stream)
     (values : List ((ℕ × ℕ) × CellValue)) (formulas : List ((ℕ × ℕ) × List ℕ))
     (ids : List StyledCell)
-    → (been : HasCollected wants grounds count old now values formulas ids)
+    → (been : HasCollected wants context count old now values formulas ids)
     → PassesMarks NoCell been.before (marks_ahead now) → wants.styles ≡ true
     → HoldsIds count (data_ahead old) ids
-ids_whole wants grounds count old now values formulas ids been rows wanted =
+ids_whole wants context count old now values formulas ids been rows wanted =
     let so_far = been.styled wanted in (
       so_far.passed,
       answers_whole placed_id so_far.passed been.before (marks_ahead now) _ rows so_far.all,
@@ -340,45 +334,47 @@ pub keeps_on : {wanted : Tag → Bool} {base : ℕ} {first mid last : Reading}
 keeps_on before after = record {
   section = keeps_further before.section after.section;
   unclosed = λ told.
-      after.unclosed (before.section.reads.moves.parts.is_told ∙ told) ∙ before.unclosed told;
+      after.unclosed (before.section.reads.moves.parts.is_visible ∙ told) ∙ before.unclosed told;
   behind = λ told.
-      after.behind (before.section.reads.moves.parts.is_told ∙ told) ∙ before.behind told;
+      after.behind (before.section.reads.moves.parts.is_visible ∙ told) ∙ before.behind told;
 }
 
 -- a step is refused, and so are the data
-pub step_refused : (wants : Wants) (grounds : Grounds) (old mid new : Stream) (error : XlsxError)
-    → IsGoing mid → mid.base ≡ old.base → KeepsElements is_cell old.base old.reading mid.reading
-    → (old.reading.source.is_told ≡ true
+pub step_refused : (wants : Wants) (context : ValueContext) (old mid new : Stream)
+    (error : XlsxError)
+    → IsGoing mid → mid.base ≡ old.base → KeepsElements is_cell_start old.base old.reading
+    mid.reading
+    → (old.reading.source.is_visible ≡ true
     → (refusal : Refusal) → ((before : List Mark) → AreKept before mid.counters
-    → IsMarkRefused NoCell (IsCellRefused wants grounds) before (marks_ahead mid) refusal)
-    → IsMarkRefused IsPlaced (IsCellRefused wants grounds) [] (marks_ahead old) refusal)
-    → NextCellFails wants grounds mid new.reading error → DataFails wants grounds old new error
-step_refused wants grounds old mid new Failed going same keeps weaker fails =
+    → IsMarkRefused NoCell (IsCellRefused wants context) before (marks_ahead mid) refusal)
+    → IsMarkRefused IsPlaced (IsCellRefused wants context) [] (marks_ahead old) refusal)
+    → NextCellFails wants context mid new.reading error → DataFails wants context old new error
+step_refused wants context old mid new Failed going same keeps weaker fails =
     absurd (let both : true ≡ false = sym fails ∙ going.failed in cc)
-step_refused wants grounds old mid new error going same keeps weaker fails =
-    let refused = IsStepRefused NoCell (IsCellRefused wants grounds) mid.counters in
+step_refused wants context old mid new error going same keeps weaker fails =
+    let refused = IsStepRefused NoCell (IsCellRefused wants context) mid.counters in
     let here : SectionFails (end_in_data wants) refused old.base mid.reading new.reading error =
     subst (λ (n : ℕ). SectionFails (end_in_data wants) refused n mid.reading new.reading error) same
     fails.1 in
     refused_later old.base old.reading mid.reading (end_in_data wants) refused
-    (AreDataRefused wants grounds) new.reading error keeps.section
+    (AreDataRefused wants context) new.reading error keeps.section
     (λ told. ap (end_outside (codes "sheetData") (end_in_cell wants)) (keeps.unclosed told))
     (λ told refusal is. weaker told refusal (λ before kept.
-    subst (λ (n : ℕ). IsMarkRefused NoCell (IsCellRefused wants grounds) before
+    subst (λ (n : ℕ). IsMarkRefused NoCell (IsCellRefused wants context) before
     (marks (section_ahead n mid.reading)) refusal) (sym same) (is before kept)))
     here
 
 -- a step behind which no call was refused doesn't answer that one was
-pub step_error : (wants : Wants) (grounds : Grounds) (mid new : Stream) (error : XlsxError)
-    → IsGoing mid → NextCellFails wants grounds mid new.reading error → IsStreamError error
+pub step_error : (wants : Wants) (context : ValueContext) (mid new : Stream) (error : XlsxError)
+    → IsGoing mid → NextCellFails wants context mid new.reading error → IsStreamError error
     → IsCellError error
-step_error wants grounds mid new Failed going fails is =
+step_error wants context mid new Failed going fails is =
     absurd (let both : true ≡ false = sym fails ∙ going.failed in cc)
-step_error wants grounds mid new error going fails is = is
+step_error wants context mid new error going fails is = is
 
-pub styled_error : (wants : Wants) (grounds : Grounds) (mid new : Stream) (error : XlsxError)
-    → IsGoing mid → NextCellFails wants grounds mid new.reading error → IsStyledStreamError error
+pub styled_error : (wants : Wants) (context : ValueContext) (mid new : Stream) (error : XlsxError)
+    → IsGoing mid → NextCellFails wants context mid new.reading error → IsStyledStreamError error
     → IsStyledError error
-styled_error wants grounds mid new Failed going fails is =
+styled_error wants context mid new Failed going fails is =
     absurd (let both : true ≡ false = sym fails ∙ going.failed in cc)
-styled_error wants grounds mid new error going fails is = is
+styled_error wants context mid new error going fails is = is

@@ -5,11 +5,11 @@ use Rattle.std.proofs.lemmas.Bool.Decides.{nat_tests}
 use Rattle.std.specs.Prelude.{min, nat_le, Bool, true, false, if◌then◌else◌}
 use Rattle.cell_refs.specs.declared.TheConstants.{MAX_ROWS, MAX_COLUMNS}
 use Rattle.cell_refs.specs.declared.error.RefError.TheVariants as ref
-use Rattle.part_events.specs.Section.{Element}
+use Rattle.part_events.specs.Words.{Element}
 use Rattle.xlsx_cells.specs.Marks.{Mark, row_start, row_end, cell}
 use Rattle.xlsx_cells.specs.Position.{row_named, position_named, row_counter, column_counter}
 use Rattle.xlsx_cells.specs.Position.{or_further_row, or_further_column, implied_position}
-use Rattle.xlsx_sections.specs.Refusal.{Refusal, plain, misplaced}
+use Rattle.xlsx_sections.specs.Words.{Refusal, plain, misplaced}
 
 or_further_row_more : (ends : ℕ) (named : Result (Option ℕ) Refusal) (less more : ℕ) → more
     ≡ suc less → or_further_row (suc ends) named more ≡ suc (or_further_row ends named less)

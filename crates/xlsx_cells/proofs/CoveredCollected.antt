@@ -4,19 +4,17 @@ use Rattle.std.proofs.Common.{length, map, append-nil, append_assoc, Option}
 use Rattle.std.specs.Prelude.{filter, zip}
 use Rattle.std.proofs.lemmas.List.Elements.{filter-append}
 use Rattle.cell_refs.specs.declared.dimensions.Dimensions.{Dimensions}
-use Rattle.xlsx_sections.specs.Answers.{prepended}
-use Rattle.xlsx_sections.specs.Refusal.{Refusal}
+use Rattle.xlsx_sections.specs.Words.{prepended, Refusal}
 use Rattle.xlsx_sections.proofs.Kept.{prepended-nil}
-use Rattle.xlsx_values.specs.Value.{Grounds}
-use Rattle.xlsx_formulas.specs.Formula.{FormulaText, behind_formulas, cell_formula}
-use Rattle.xlsx_formulas.specs.Formula.{covers_in, covered}
-use Rattle.xlsx_cells.specs.CoveredFormulas.{covers_said, with_covers, is_written}
-use Rattle.xlsx_cells.specs.CoveredFormulas.{covered_formulas, covered_among, covered_in}
+use Rattle.xlsx_values.specs.Words.{ValueContext}
+use Rattle.xlsx_formulas.specs.Words.{FormulaText, behind_formulas, cell_formula, covers_in}
+use Rattle.xlsx_formulas.specs.Words.{covered}
+use Rattle.xlsx_cells.specs.CoveredFormulas.{covers_said, with_covers, is_written, covered_formulas}
+use Rattle.xlsx_cells.specs.CoveredFormulas.{covered_among, covered_in}
 use Rattle.xlsx_cells.specs.Finding.{IsMarkRefused}
 use Rattle.xlsx_cells.specs.Marks.{Mark, row_start, row_end, cell, behind_marks}
 use Rattle.xlsx_cells.specs.Position.{PassesMarks, NoCell, IsPlaced}
-use Rattle.xlsx_cells.specs.Sheet.{answers_from, placed_formulas, formulas_written}
-use Rattle.xlsx_cells.specs.Sheet.{formulas_along}
+use Rattle.xlsx_cells.specs.Sheet.{answers_from, placed_formulas, formulas_written, formulas_along}
 use Rattle.xlsx_cells.specs.Stream.{Stream, StandsBehind, IsCellRefused, IsWritten, TakesCell}
 use Rattle.xlsx_cells.specs.Stream.{WrittenCell, marks_ahead, data_ahead}
 use Rattle.xlsx_cells.specs.declared.children.Wants.{Wants}
@@ -61,7 +59,7 @@ covered_further formulas said formula own same =
 
 -- the formulas of a sheet's data were collected up to here
 pub record HasCovered
-    (wants : Wants) (grounds : Grounds) (old now : Stream)
+    (wants : Wants) (context : ValueContext) (old now : Stream)
     (found : List ((ℕ × ℕ) × (List ℕ × Dimensions))) : Type 0
   where
     pub before : List Mark
@@ -78,13 +76,13 @@ pub record HasCovered
     pub used : found ≡ covered_formulas (formulas_along [] passed) said
     pub refused :
         (refusal : Refusal) →
-        IsMarkRefused IsPlaced (IsCellRefused wants grounds) before (marks_ahead now) refusal
-        → IsMarkRefused IsPlaced (IsCellRefused wants grounds) [] (marks_ahead old) refusal
+        IsMarkRefused IsPlaced (IsCellRefused wants context) before (marks_ahead now) refusal
+        → IsMarkRefused IsPlaced (IsCellRefused wants context) [] (marks_ahead old) refusal
 
 -- none so far
-pub covered_none : (wants : Wants) (grounds : Grounds) (s : Stream) → StandsBehind [] [] s
-    → HasCovered wants grounds s s []
-covered_none wants grounds s stands = record {
+pub covered_none : (wants : Wants) (context : ValueContext) (s : Stream) → StandsBehind [] [] s
+    → HasCovered wants context s s []
+covered_none wants context s stands = record {
   before = [];
   earlier = [];
   stands = stands;
@@ -99,14 +97,14 @@ covered_none wants grounds s stands = record {
 }
 
 -- one cell more
-pub covered_cell : (wants : Wants) (grounds : Grounds) (old mid new : Stream)
+pub covered_cell : (wants : Wants) (context : ValueContext) (old mid new : Stream)
     (found : List ((ℕ × ℕ) × (List ℕ × Dimensions))) (read : WrittenCell)
-    → wants.formulas ≡ true → (been : HasCovered wants grounds old mid found)
+    → wants.formulas ≡ true → (been : HasCovered wants context old mid found)
     → TakesCell NoCell been.before been.earlier mid new
-    (IsWritten wants grounds been.earlier read)
-    → HasCovered wants grounds old new (found
+    (IsWritten wants context been.earlier read)
+    → HasCovered wants context old new (found
     ++ filter is_written ((read.pos, (read.text, read.covers)) ∷ []))
-covered_cell wants grounds old mid new found read wanted been takes =
+covered_cell wants context old mid new found read wanted been takes =
     let front = takes.takes.front in
     let behind = behind_marks front.passed been.before in
     let element = takes.element in
@@ -153,15 +151,15 @@ covered_cell wants grounds old mid new found read wanted been takes =
           ∙ ap (λ all. covered_formulas all (been.said ++ covers ∷ []))
           (sym (along_further been.passed [] own));
       refused = λ refusal is. been.refused refusal
-          (refused_further (IsCellRefused wants grounds) refusal takes.takes
+          (refused_further (IsCellRefused wants context) refusal takes.takes
           (read.pos, takes.holds.placed) is);
     }
 
 -- all cells
-pub covered_whole : (wants : Wants) (grounds : Grounds) (old now : Stream)
-    (found : List ((ℕ × ℕ) × (List ℕ × Dimensions))) (been : HasCovered wants grounds old now found)
+pub covered_whole : (wants : Wants) (context : ValueContext) (old now : Stream)
+    (found : List ((ℕ × ℕ) × (List ℕ × Dimensions))) (been : HasCovered wants context old now found)
     → PassesMarks NoCell been.before (marks_ahead now) → covered_in (data_ahead old) ≡ Ok found
-covered_whole wants grounds old now found been rows =
+covered_whole wants context old now found been rows =
     let written = answers_whole placed_formulas been.passed been.before (marks_ahead now) _ rows
     been.all in
     let said : been.said ≡ covers_said (marks_ahead old) =

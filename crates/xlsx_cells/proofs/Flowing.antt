@@ -1,24 +1,22 @@
 -- How a stream of cells goes on, and how the data that it reads are entered.
-use Rattle.std.proofs.Common.{◌≡◌, ◌∙◌, ℕ, List, [], length, true, false, Some, None}
-use Rattle.std.proofs.Common.{refl, sym, ap, subst, codes, arith, string_bytes}
+use Rattle.std.proofs.Common.{◌≡◌, ◌∙◌, ℕ, List, [], length, true, false, Some, None, refl, sym, ap}
+use Rattle.std.proofs.Common.{subst, codes, arith, string_bytes}
 use Rattle.std.specs.Prelude.{String, Option, option_map, Bool}
 use Rattle.std.specs.List.{last_or}
 use Rattle.std.specs.declared.alloc.Global.{Global}
 use Rattle.cell_refs.specs.declared.dimensions.Dimensions.{Dimensions}
-use Rattle.part_events.specs.Event.{Event}
-use Rattle.part_events.specs.Reading.{Reading, IsReading, ReadsOn, ahead, events_of}
-use Rattle.part_events.specs.Section.{behind_start}
+use Rattle.part_events.specs.Words.{Event, Reading, IsReading, ReadsOn, ahead, events_of}
+use Rattle.part_events.specs.Words.{behind_start}
 use Rattle.cell_data.specs.declared.cell.Cell.{Cell}
 use Rattle.cell_data.specs.declared.value.DataRef.{DataRef}
-use Rattle.xlsx_sections.specs.PartSection.{section_left, section_in}
+use Rattle.xlsx_sections.specs.Words.{section_left, section_in}
 use Rattle.xlsx_sections.proofs.SectionsRead.{ahead_at_first, first_section_left, nothing_past}
-use Rattle.xlsx_values.specs.Value.{Grounds}
-use Rattle.xlsx_formulas.specs.Described.{description_seen, described}
-use Rattle.xlsx_formulas.specs.Formula.{FormulaText, behind_formulas, formula_of_last, cell_formula}
-use Rattle.xlsx_formulas.specs.Formula.{covers_in, covered}
-use Rattle.xlsx_formulas.specs.Kept.{AreMasters, last_seen, covers_seen}
+use Rattle.xlsx_values.specs.Words.{ValueContext}
+use Rattle.xlsx_formulas.specs.Words.{description_seen, described, FormulaText, behind_formulas}
+use Rattle.xlsx_formulas.specs.Words.{formula_of_last, cell_formula, covers_in, covered, AreMasters}
+use Rattle.xlsx_formulas.specs.Words.{last_seen, covers_seen}
 use Rattle.xlsx_formulas.specs.declared.metadata.XlsxFormulaMetadata.{XlsxFormulaMetadata}
-use Rattle.xlsx_formulas.specs.declared.masters.Masters.{Masters}
+use Rattle.xlsx_formulas.specs.declared.shared_formulas.SharedFormulas.{SharedFormulas}
 use Rattle.xlsx_formulas.proofs.Cells.{last_formula}
 use Rattle.xlsx_formulas.proofs.Groups.{formulas_kept}
 use Rattle.xlsx_cells.specs.CellsReader.{EntersCells, IsValued, IsFormula, values_alone}
@@ -29,9 +27,8 @@ use Rattle.xlsx_cells.specs.Counting.{AreKept}
 use Rattle.xlsx_cells.specs.Head.{is_sheet_data, AreDimensions}
 use Rattle.xlsx_cells.specs.Marks.{Mark}
 use Rattle.xlsx_cells.specs.Position.{NoCell}
-use Rattle.xlsx_cells.specs.Stream.{Stream, IsStreaming, IsGoing, TakesCell, IsRead}
-use Rattle.xlsx_cells.specs.Stream.{WrittenCell, seen_with_text, IsWritten, LacksUnwanted}
-use Rattle.xlsx_cells.specs.Stream.{LacksUnwantedText}
+use Rattle.xlsx_cells.specs.Stream.{Stream, IsStreaming, IsGoing, TakesCell, IsRead, WrittenCell}
+use Rattle.xlsx_cells.specs.Stream.{seen_with_text, IsWritten, LacksUnwanted, LacksUnwantedText}
 use Rattle.xlsx_cells.specs.declared.cell_read.CellRead.{CellRead}
 use Rattle.xlsx_cells.specs.declared.cell_read.CellText.{CellText}
 use Rattle.xlsx_cells.specs.declared.children.Wants.{Wants}
@@ -46,13 +43,13 @@ is_going s streams failed done = record {
 
 -- the text of the formula that was read last, by the masters behind the cell
 pub text_taken : {before : List Mark} {earlier : List FormulaText} {old new : Stream}
-    {wants : Wants} {grounds : Grounds} (read : CellRead) (own : WrittenCell)
+    {wants : Wants} {context : ValueContext} (read : CellRead) (own : WrittenCell)
     → own.pos ≡ read.pos
     → own.value ≡ read.value → own.style_id ≡ read.style_id
     → ((behind : List FormulaText) → AreMasters behind new.masters
     → own.text ≡ formula_of_last behind read.pos (last_seen read.formula))
     → own.covers ≡ covered read.pos (covers_seen read.formula)
-    → TakesCell NoCell before earlier old new (IsRead wants true grounds read)
+    → TakesCell NoCell before earlier old new (IsRead wants true context read)
     → TakesCell NoCell before earlier old (record {
       reading = new.reading;
       base = new.base;
@@ -60,7 +57,7 @@ pub text_taken : {before : List Mark} {earlier : List FormulaText} {old new : St
       masters = new.masters;
       is_done = new.is_done;
       is_failed = false;
-    }) (IsWritten wants grounds earlier own)
+    }) (IsWritten wants context earlier own)
 text_taken {earlier = earlier} read own placed valued styled text covers takes =
     let is = takes.holds in
     let kept = takes.kept in
@@ -92,8 +89,8 @@ text_taken {earlier = earlier} read own placed valued styled text covers takes =
 
 -- the same text, written out
 pub text_written : {before : List Mark} {earlier : List FormulaText} {old new : Stream}
-    {wants : Wants} {grounds : Grounds} (one two : WrittenCell) → one ≡ two
-    → TakesCell NoCell before earlier old new (IsWritten wants grounds earlier one)
+    {wants : Wants} {context : ValueContext} (one two : WrittenCell) → one ≡ two
+    → TakesCell NoCell before earlier old new (IsWritten wants context earlier one)
     → TakesCell NoCell before earlier old (record {
       reading = new.reading;
       base = new.base;
@@ -101,8 +98,8 @@ pub text_written : {before : List Mark} {earlier : List FormulaText} {old new : 
       masters = new.masters;
       is_done = new.is_done;
       is_failed = false;
-    }) (IsWritten wants grounds earlier two)
-text_written {wants = wants} {grounds = grounds} one two same takes = record {
+    }) (IsWritten wants context earlier two)
+text_written {wants = wants} {context = context} one two same takes = record {
   element = takes.element;
   kept = takes.kept;
   takes = takes.takes;
@@ -114,7 +111,7 @@ text_written {wants = wants} {grounds = grounds} one two same takes = record {
   };
 }
 
-pub text_unwanted : {wants : Wants} (masters : Masters) (read : CellRead) (own : WrittenCell)
+pub text_unwanted : {wants : Wants} (masters : SharedFormulas) (read : CellRead) (own : WrittenCell)
     → own.pos ≡ read.pos → own.value ≡ read.value → own.style_id ≡ read.style_id
     → ((behind : List FormulaText) → AreMasters behind masters
     → own.text ≡ formula_of_last behind read.pos (last_seen read.formula))
@@ -131,24 +128,24 @@ text_unwanted masters read own placed valued styled text covers lacks = record {
 
 -- what was asked for is the same
 pub read_as : {before : List Mark} {earlier : List FormulaText} {old new : Stream}
-    {wants own : Wants} {keeps still : Bool} {grounds same : Grounds} {read : CellRead}
-    → wants ≡ own → keeps ≡ still → grounds ≡ same
-    → TakesCell NoCell before earlier old new (IsRead wants keeps grounds read)
+    {wants own : Wants} {keeps still : Bool} {context same : ValueContext} {read : CellRead}
+    → wants ≡ own → keeps ≡ still → context ≡ same
+    → TakesCell NoCell before earlier old new (IsRead wants keeps context read)
     → TakesCell NoCell before earlier old new (IsRead own still same read)
 read_as wanted kept rests takes = rw (wanted, kept, rests) at takes
 
 pub written_as : {before : List Mark} {earlier : List FormulaText} {old new : Stream}
-    {wants own : Wants} {grounds same : Grounds} {read : WrittenCell} → wants ≡ own
-    → grounds ≡ same
-    → TakesCell NoCell before earlier old new (IsWritten wants grounds earlier read)
+    {wants own : Wants} {context same : ValueContext} {read : WrittenCell} → wants ≡ own
+    → context ≡ same
+    → TakesCell NoCell before earlier old new (IsWritten wants context earlier read)
     → TakesCell NoCell before earlier old new (IsWritten own same earlier read)
 written_as wanted rests takes = rw (wanted, rests) at takes
 
 pub value_taken : {before : List Mark} {earlier : List FormulaText} {old new : Stream}
-    {grounds : Grounds} (read : CellRead) (own : Cell DataRef)
+    {context : ValueContext} (read : CellRead) (own : Cell DataRef)
     → own ≡ record { pos = read.pos; val = read.value }
-    → TakesCell NoCell before earlier old new (IsRead values_alone false grounds read)
-    → TakesCell NoCell before earlier old new (IsValued grounds own)
+    → TakesCell NoCell before earlier old new (IsRead values_alone false context read)
+    → TakesCell NoCell before earlier old new (IsValued context own)
 value_taken read own is takes = record {
   element = takes.element;
   kept = takes.kept;
@@ -163,10 +160,10 @@ value_taken read own is takes = record {
 }
 
 pub formula_taken : {before : List Mark} {earlier : List FormulaText} {old new : Stream}
-    {grounds : Grounds} (read : CellText) (own : Cell (String Global))
+    {context : ValueContext} (read : CellText) (own : Cell (String Global))
     → own ≡ record { pos = read.pos; val = read.text }
     → TakesCell NoCell before earlier old new
-    (IsWritten formulas_alone grounds earlier (seen_with_text read))
+    (IsWritten formulas_alone context earlier (seen_with_text read))
     → TakesCell NoCell before earlier old new (IsFormula earlier own)
 formula_taken read own is takes = record {
   element = takes.element;
@@ -182,10 +179,10 @@ formula_taken read own is takes = record {
 }
 
 pub styled_value_taken : {before : List Mark} {earlier : List FormulaText} {old new : Stream}
-    {grounds : Grounds} (read : CellRead) (own : Cell DataRef)
+    {context : ValueContext} (read : CellRead) (own : Cell DataRef)
     → own ≡ record { pos = read.pos; val = read.value }
-    → TakesCell NoCell before earlier old new (IsRead values_and_styles false grounds read)
-    → TakesCell NoCell before earlier old new (IsValuedStyle grounds (own, read.style_id))
+    → TakesCell NoCell before earlier old new (IsRead values_and_styles false context read)
+    → TakesCell NoCell before earlier old new (IsValuedStyle context (own, read.style_id))
 styled_value_taken read own is takes = record {
   element = takes.element;
   kept = takes.kept;
@@ -203,11 +200,11 @@ styled_value_taken read own is takes = record {
 }
 
 pub written_value_taken : {before : List Mark} {earlier : List FormulaText} {old new : Stream}
-    {grounds : Grounds} (read : CellText) (formula : Option (String Global))
+    {context : ValueContext} (read : CellText) (formula : Option (String Global))
     → option_map string_bytes formula ≡ written_text (string_bytes read.text)
     → TakesCell NoCell before earlier old new
-    (IsWritten values_and_formulas grounds earlier (seen_with_text read))
-    → TakesCell NoCell before earlier old new (IsValuedFormula grounds earlier
+    (IsWritten values_and_formulas context earlier (seen_with_text read))
+    → TakesCell NoCell before earlier old new (IsValuedFormula context earlier
     (record { pos = read.pos; value = read.value; formula = formula }))
 written_value_taken read formula is takes = record {
   element = takes.element;
@@ -224,10 +221,10 @@ written_value_taken read formula is takes = record {
 }
 
 pub described_value_taken : {before : List Mark} {earlier : List FormulaText} {old new : Stream}
-    {grounds : Grounds} (read : CellRead) (formula : Option XlsxFormulaMetadata)
+    {context : ValueContext} (read : CellRead) (formula : Option XlsxFormulaMetadata)
     → option_map description_seen formula ≡ described (last_seen read.formula)
-    → TakesCell NoCell before earlier old new (IsRead values_and_formulas false grounds read)
-    → TakesCell NoCell before earlier old new (IsValuedMetadata grounds
+    → TakesCell NoCell before earlier old new (IsRead values_and_formulas false context read)
+    → TakesCell NoCell before earlier old new (IsValuedMetadata context
     (record { pos = read.pos; value = read.value; formula = formula }))
 described_value_taken read formula is takes = record {
   element = takes.element;
@@ -248,9 +245,9 @@ described_value_taken read formula is takes = record {
 pub cells_entered : {area : Dimensions} (old : Reading) (new : Stream) → IsReading old → old.at ≡ 0
     → new.is_failed ≡ false → new.is_done ≡ false → ReadsOn old new.reading
     → new.base ≡ length new.reading.names → AreKept [] new.counters → AreMasters [] new.masters
-    → (old.source.is_told ≡ true
+    → (old.source.is_visible ≡ true
     → behind_start is_sheet_data (ahead old) ≡ Some (ahead new.reading))
-    → (old.source.is_told ≡ true → AreDimensions (ahead old) area) → EntersCells area old new
+    → (old.source.is_visible ≡ true → AreDimensions (ahead old) area) → EntersCells area old new
 cells_entered {area = area} old new is first failed done reads base kept groups found dimensions =
     let here = new.reading in
     record {
@@ -269,7 +266,7 @@ cells_entered {area = area} old new is first failed done reads base kept groups 
           (subst (λ (events : List Event). section_in (codes "sheetData") events
           ≡ Some (section_left (length here.names) here)) same
           (first_section_left (codes "sheetData") old here (nothing_past old is first told)
-          (reads.stays.reading.tracked (reads.moves.parts.is_told ∙ told)) same (found told)));
+          (reads.stays.reading.tracked (reads.moves.parts.is_visible ∙ told)) same (found told)));
       dimensions = λ told. subst (λ (events : List Event). AreDimensions events area)
           (ahead_at_first old (nothing_past old is first told)) (dimensions told);
     }

@@ -1,12 +1,12 @@
 -- Marks and events that were passed, and what is refused behind them.
 use Rattle.std.proofs.Common.{◌≡◌, ℕ, List, [], ◌∷◌, ◌++◌, append_assoc, Option, Result, Ok, Err}
 use Rattle.std.proofs.Common.{refl, sym, ◌∙◌, ap, subst, inl, inr}
-use Rattle.part_events.specs.Event.{Event, start, end}
-use Rattle.part_events.specs.Section.{Element, unclosed}
-use Rattle.xlsx_sections.specs.Refusal.{Refusal}
+use Rattle.part_events.specs.Words.{Event, start, end, Element, unclosed}
+use Rattle.xlsx_sections.specs.Words.{Refusal}
 use Rattle.xlsx_cells.specs.Finding.{BehindRow, IsMarkRefused, PassesTo, TakesElement, LacksCell}
 use Rattle.xlsx_cells.specs.Finding.{open_mark}
-use Rattle.xlsx_cells.specs.Marks.{Mark, row_start, row_end, cell, is_cell, marks, behind_marks}
+use Rattle.xlsx_cells.specs.Marks.{Mark, row_start, row_end, cell, is_cell_start, marks}
+use Rattle.xlsx_cells.specs.Marks.{behind_marks}
 use Rattle.xlsx_cells.specs.Position.{row_named, PassesMarks, IsPlaced, NoCell}
 
 pub behind_append : (first second before : List Mark) → behind_marks (first ++ second) before
@@ -202,13 +202,13 @@ passes_all {passes = passes} {before = before} {new = new} front rest =
 -- no cell is left behind them, but one that is left open
 pub lacks_behind : {passes : List Mark → Element → Type 0} {before : List Mark}
     {old new : List Event} → (front : PassesTo passes before old new)
-    → unclosed is_cell new ≡ unclosed is_cell old
+    → unclosed is_cell_start new ≡ unclosed is_cell_start old
     → LacksCell passes (behind_marks front.passed before) new → LacksCell passes before old
 lacks_behind {passes = passes} {before = before} {new = new} front same lacks = record {
   passed = front.passed ++ lacks.passed;
   fact = passes_both passes front.passed lacks.passed before front.fact lacks.fact;
   marks = front.marks ∙ ap (λ (others : List Mark). front.passed ++ others) lacks.marks
-      ∙ sym (append_assoc front.passed lacks.passed (open_mark (unclosed is_cell new)))
+      ∙ sym (append_assoc front.passed lacks.passed (open_mark (unclosed is_cell_start new)))
       ∙ ap (λ (found : Option Element). (front.passed ++ lacks.passed) ++ open_mark found) same;
 }
 

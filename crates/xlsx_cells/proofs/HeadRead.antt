@@ -4,27 +4,22 @@ use Rattle.std.proofs.Common.{Ok, Err, refl, sym, ◌∙◌, ap, subst, codes}
 use Rattle.std.specs.Prelude.{if◌then◌else◌, ◌||◌}
 use Rattle.std.specs.Option.{option_or}
 use Rattle.std.specs.Str.{bytes_eq}
-use Rattle.attr_text.specs.Attributes.{local_name_of}
+use Rattle.attr_text.specs.Words.{local_name_of}
 use Rattle.cell_refs.specs.declared.dimensions.Dimensions.{Dimensions}
-use Rattle.part_events.specs.Event.{Tag, Event, start, end, leaf}
-use Rattle.part_events.specs.Nesting.{whole}
-use Rattle.part_events.specs.Reading.{Reading, ahead, events_of}
-use Rattle.part_events.specs.Section.{behind_start}
+use Rattle.part_events.specs.Words.{Tag, Event, start, end, leaf, whole, Reading, ahead, events_of}
+use Rattle.part_events.specs.Words.{behind_start}
 use Rattle.part_events.specs.declared.fault.XmlFault.TheVariants.{Break}
 use Rattle.xlsx_error.specs.declared.error.XlsxError.{XlsxError}
 use Rattle.xlsx_error.specs.declared.error.XlsxError.TheVariants.{OutOfMemory, Io, Xml, XmlEof}
 use Rattle.xlsx_error.specs.declared.error.XlsxError.TheVariants.{NotAWorksheet}
-use Rattle.xlsx_sections.specs.Answers.{or_earlier, or_later}
-use Rattle.xlsx_sections.specs.Refusal.{Refusal}
+use Rattle.xlsx_sections.specs.Words.{or_earlier, or_later, Refusal}
 use Rattle.xlsx_sections.proofs.Kept.{or_earlier-None}
 use Rattle.xlsx_sections.proofs.Refused.{refused_weaker, never_refused}
 use Rattle.xlsx_cells.specs.Counting.{IsRefused}
-use Rattle.xlsx_cells.specs.Head.{is_sheet_data, starts_data}
-use Rattle.xlsx_cells.specs.Head.{dimension_area}
-use Rattle.xlsx_cells.specs.Head.{dimensions_by, dimensions_in, dimensions_at}
-use Rattle.xlsx_cells.specs.Head.{other_in, other_name, IsHeadStartRefused, LacksData}
-use Rattle.xlsx_cells.specs.Head.{HasNoData, HasSoundDimensions, HeadCause, HeadFails}
-use Rattle.xlsx_cells.specs.Head.{IfNoWorksheet}
+use Rattle.xlsx_cells.specs.Head.{is_sheet_data, starts_data, dimension_area, dimensions_by}
+use Rattle.xlsx_cells.specs.Head.{dimensions_in, dimensions_at, other_in, other_name}
+use Rattle.xlsx_cells.specs.Head.{IsHeadStartRefused, LacksData, HasNoData, HasSoundDimensions}
+use Rattle.xlsx_cells.specs.Head.{HeadCause, HeadFails, IfNoWorksheet}
 use Rattle.xlsx_cells.specs.declared.head.Head.{Head}
 
 -- what is kept of the events before `left`, with what these say, is what all of them say
@@ -94,7 +89,7 @@ tells_weaker _ goes is = tt
 -- a start before the data is refused, and so is the head
 pub head_refused : (old new : Reading) (answer : Result (Option Dimensions) Refusal)
     (error : XlsxError) → IsHeadStartRefused answer error
-    → (old.source.is_told ≡ true → (refusal : Refusal) → answer ≡ Err refusal
+    → (old.source.is_visible ≡ true → (refusal : Refusal) → answer ≡ Err refusal
     → dimensions_in (ahead old) ≡ Err refusal) → HeadFails old new error
 head_refused old new answer Io refuses all = absurd (refuses 0)
 head_refused old new answer OutOfMemory refuses all = tt
@@ -108,7 +103,7 @@ head_refused old new answer error refuses all = λ told.
 -- the part ends before the data
 pub head_ends : (old new : Reading) (other : Option (List ℕ)) (error : XlsxError)
     → LacksData other error
-    → (old.source.is_told ≡ true → (whole (events_of old) ≡ events_of old)
+    → (old.source.is_visible ≡ true → (whole (events_of old) ≡ events_of old)
     × HasNoData (ahead old) × HasSoundDimensions (ahead old)
     × (other ≡ other_in (ahead old))) → HeadFails old new error
 head_ends old new other (XmlEof element) lacks ended = λ told.

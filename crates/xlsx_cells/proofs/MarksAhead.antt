@@ -2,11 +2,10 @@
 use Rattle.std.proofs.Common.{◌≡◌, ℕ, zero, suc, ◌+◌, List, [], ◌∷◌, ◌++◌, length, Bool, true}
 use Rattle.std.proofs.Common.{false, Some, None, refl, ◌∙◌, ap, arith}
 use Rattle.std.specs.Prelude.{if◌then◌else◌}
-use Rattle.part_events.specs.Event.{Tag, Event, start, end, leaf}
-use Rattle.part_events.specs.Section.{Element, element_of, content, is_closed, behind}
-use Rattle.part_events.specs.Section.{unclosed}
+use Rattle.part_events.specs.Words.{Tag, Event, start, end, leaf, Element, element_of, content}
+use Rattle.part_events.specs.Words.{is_closed, behind, unclosed}
 use Rattle.part_events.proofs.Sections.{content-content}
-use Rattle.xlsx_cells.specs.Marks.{Mark, row_start, row_end, cell, is_cell, is_row}
+use Rattle.xlsx_cells.specs.Marks.{Mark, row_start, row_end, cell, is_cell_start, is_row}
 use Rattle.xlsx_cells.specs.Marks.{is_row_name, marks_from, marks, cell_start, marks_of}
 
 -- the marks of a section behind an element that lies in it
@@ -48,7 +47,7 @@ content_parts inner outer within (leaf kind ∷ events) is closed =
     (rest.0, ap (λ (more : List Event). leaf kind ∷ more) rest.1)
 
 -- a cell is the next mark, and the others are those behind it
-pub marks_cell : (tag : Tag) (outer : ℕ) (events : List Event) → is_cell tag ≡ true
+pub marks_cell : (tag : Tag) (outer : ℕ) (events : List Event) → is_cell_start tag ≡ true
     → marks (start tag ∷ content (suc outer) events)
     ≡ cell (record {
       tag = tag;
@@ -70,8 +69,8 @@ no_cell_if : (b : Bool) (tag : Tag) → (if b then Some tag else None) ≡ None 
 no_cell_if true tag is = absurd (cc)
 no_cell_if false tag is = refl
 
-pub no_cell_start : (tag : Tag) → cell_start (start tag) ≡ None → is_cell tag ≡ false
-no_cell_start tag is = no_cell_if (is_cell tag) tag is
+pub no_cell_start : (tag : Tag) → cell_start (start tag) ≡ None → is_cell_start tag ≡ false
+no_cell_start tag is = no_cell_if (is_cell_start tag) tag is
 
 one_if : (b : Bool) (mark : Mark) (others : List Mark) → (if b then mark ∷ others else others)
     ≡ (if b then mark ∷ [] else []) ++ others
@@ -91,7 +90,7 @@ marks_event (leaf kind) events none = refl
 
 -- and is no unclosed cell
 pub unclosed_event : (event : Event) (events : List Event) → cell_start event ≡ None
-    → unclosed is_cell (event ∷ events) ≡ unclosed is_cell events
+    → unclosed is_cell_start (event ∷ events) ≡ unclosed is_cell_start events
 unclosed_event (start tag) events none = rw (no_cell_start tag none) refl
 unclosed_event (end name) events none = refl
 unclosed_event (leaf kind) events none = refl

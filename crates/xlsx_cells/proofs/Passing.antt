@@ -1,21 +1,18 @@
 -- How the marks of a sheet's data are passed.
-use Rattle.std.proofs.Common.{◌≡◌, ◌≤◌, ◌<◌, ℕ, suc, ◌-◌, List, [], ◌∷◌, length}
-use Rattle.std.proofs.Common.{Bool, true, false, Option, Some, None, refl, sym, ◌∙◌, ap, subst}
-use Rattle.std.proofs.Common.{arith}
+use Rattle.std.proofs.Common.{◌≡◌, ◌≤◌, ◌<◌, ℕ, suc, ◌-◌, List, [], ◌∷◌, length, Bool, true, false}
+use Rattle.std.proofs.Common.{Option, Some, None, refl, sym, ◌∙◌, ap, subst, arith}
 use Rattle.std.specs.Prelude.{if◌then◌else◌}
-use Rattle.part_events.specs.Event.{Tag, Event, start, end, leaf}
-use Rattle.part_events.specs.Reading.{Reading, ReadsOn, names_behind, ahead}
-use Rattle.part_events.specs.Section.{Element, content, outermost, starts_by, behind_start}
-use Rattle.part_events.specs.Section.{unclosed}
-use Rattle.part_events.specs.Walk.{inside, element_at, section_ahead, section_behind, StandsInside}
-use Rattle.part_events.specs.Walk.{StepsInside, TakesInside, SameAhead}
+use Rattle.part_events.specs.Words.{Tag, Event, start, end, leaf, Reading, ReadsOn, names_behind}
+use Rattle.part_events.specs.Words.{ahead, Element, content, outermost, starts_by, behind_start}
+use Rattle.part_events.specs.Words.{unclosed, inside, element_at, section_ahead, section_behind}
+use Rattle.part_events.specs.Words.{StandsInside, StepsInside, TakesInside, SameAhead}
 use Rattle.part_events.specs.declared.walk.Step.TheVariants.{Found}
-use Rattle.xlsx_sections.specs.PartSection.{KeepsSection}
+use Rattle.xlsx_sections.specs.Words.{KeepsSection}
 use Rattle.xlsx_sections.proofs.SectionsRead.{section_further}
 use Rattle.xlsx_cells.specs.Counting.{AreKept}
 use Rattle.xlsx_cells.specs.Finding.{PassesTo}
-use Rattle.xlsx_cells.specs.Marks.{Mark, cell, is_cell, marks, cell_start}
-use Rattle.xlsx_cells.specs.Marks.{marks_of, behind_marks}
+use Rattle.xlsx_cells.specs.Marks.{Mark, cell, is_cell_start, marks, cell_start, marks_of}
+use Rattle.xlsx_cells.specs.Marks.{behind_marks}
 use Rattle.xlsx_cells.specs.Position.{PassesMarks, NoCell}
 use Rattle.xlsx_cells.specs.declared.counters.Counters.{Counters}
 use Rattle.xlsx_cells.proofs.MarksAhead.{marks_cell, marks_event, unclosed_event, no_cell_start}
@@ -55,24 +52,24 @@ passed_further {before = before} {base = base} {event = event} {new = new} {next
     }
 
 starts_event : (event : Event) (events : List Event) → cell_start event ≡ None
-    → starts_by is_cell (event ∷ events) ≡ starts_by is_cell events
+    → starts_by is_cell_start (event ∷ events) ≡ starts_by is_cell_start events
 starts_event (start tag) events none = rw (no_cell_start tag none) refl
 starts_event (end name) events none = refl
 starts_event (leaf kind) events none = refl
 
 elements_event : (event : Event) (events : List Event) → cell_start event ≡ None
-    → outermost is_cell (event ∷ events) ≡ outermost is_cell events
+    → outermost is_cell_start (event ∷ events) ≡ outermost is_cell_start events
 elements_event (start tag) events none = rw (no_cell_start tag none) refl
 elements_event (end name) events none = refl
 elements_event (leaf kind) events none = refl
 
 first_event : (event : Event) (events : List Event) → cell_start event ≡ None
-    → behind_start is_cell (event ∷ events) ≡ behind_start is_cell events
+    → behind_start is_cell_start (event ∷ events) ≡ behind_start is_cell_start events
 first_event (start tag) events none = rw (no_cell_start tag none) refl
 first_event (end name) events none = refl
 first_event (leaf kind) events none = refl
 
-pub same_none : (base : ℕ) (first : Reading) → SameAhead is_cell base first first
+pub same_none : (base : ℕ) (first : Reading) → SameAhead is_cell_start base first first
 same_none base first = record {
   starts = refl;
   elements = refl;
@@ -85,45 +82,45 @@ same_none base first = record {
 
 -- an event that starts no cell leaves the same cells ahead
 pub same_further : {base : ℕ} {event : Event} {old mid new : Reading}
-    → SameAhead is_cell base old mid → cell_start event ≡ None → event ≡ new.source.current
-    → TakesInside base mid new → SameAhead is_cell base old new
+    → SameAhead is_cell_start base old mid → cell_start event ≡ None → event ≡ new.source.current
+    → TakesInside base mid new → SameAhead is_cell_start base old new
 same_further {base = base} {event = event} {mid = mid} {new = new} same none current takes =
     let left : section_ahead base mid ≡ event ∷ section_ahead base new =
     takes.events ∙ ap (λ (first : Event). first ∷ section_ahead base new) (sym current) in
     let far : ahead mid ≡ event ∷ ahead new =
     takes.steps.0 ∙ ap (λ (first : Event). first ∷ ahead new) (sym current) in
     record {
-      starts = same.starts ∙ ap (starts_by is_cell) left
+      starts = same.starts ∙ ap (starts_by is_cell_start) left
           ∙ starts_event event (section_ahead base new) none;
-      elements = same.elements ∙ ap (outermost is_cell) left
+      elements = same.elements ∙ ap (outermost is_cell_start) left
           ∙ elements_event event (section_ahead base new) none;
-      unclosed = same.unclosed ∙ ap (unclosed is_cell) left
+      unclosed = same.unclosed ∙ ap (unclosed is_cell_start) left
           ∙ unclosed_event event (section_ahead base new) none;
       closed = same.closed ∙ takes.closed;
       behind = same.behind ∙ takes.behind;
       ends = same.ends ∙ takes.ends;
-      first = same.first ∙ ap (behind_start is_cell) far ∙ first_event event (ahead new) none;
+      first = same.first ∙ ap (behind_start is_cell_start) far ∙ first_event event (ahead new) none;
     }
 
 -- an event of a section was taken
 pub section_on : {base : ℕ} {first mid new : Reading} → KeepsSection base first mid
     → ReadsOn mid new → StandsInside base Found mid new
-    → (mid.source.is_told ≡ true → StepsInside base Found mid new) → KeepsSection base first new
+    → (mid.source.is_visible ≡ true → StepsInside base Found mid new) → KeepsSection base first new
 section_on keeps reads stands steps =
     section_further keeps reads stands.1
     (λ told. (sym (steps told).closed, sym (steps told).ends))
 
 cell_event_if : (b : Bool) (own tag : Tag) → (if b then Some own else None) ≡ Some tag
-    → is_cell own ≡ b → (start own ≡ start tag) × (is_cell tag ≡ true)
+    → is_cell_start own ≡ b → (start own ≡ start tag) × (is_cell_start tag ≡ true)
 cell_event_if true own tag is there =
     let same : own ≡ tag = cc in
-    (ap start same, subst (λ (t : Tag). is_cell t ≡ true) same there)
+    (ap start same, subst (λ (t : Tag). is_cell_start t ≡ true) same there)
 cell_event_if false own tag is there = absurd (cc)
 
 -- the event behind which a cell's start is the current one
 pub cell_event : (event : Event) (found : Option Tag) (tag : Tag) → found ≡ Some tag
-    → found ≡ cell_start event → (event ≡ start tag) × (is_cell tag ≡ true)
-cell_event (start own) found tag is same = cell_event_if (is_cell own) own tag
+    → found ≡ cell_start event → (event ≡ start tag) × (is_cell_start tag ≡ true)
+cell_event (start own) found tag is same = cell_event_if (is_cell_start own) own tag
     (sym same ∙ is) refl
 cell_event (end name) found tag is same = absurd (let none : None ≡ Some tag = sym same ∙ is in cc)
 cell_event (leaf kind) found tag is same = absurd (let none : None ≡ Some tag = sym same ∙ is in cc)
@@ -142,7 +139,7 @@ start_is_deep base tag mid new current stands within =
     omega (arith, ap length names, within)
 
 -- the next mark is a cell, at whose start reading stands
-pub cell_next : (base : ℕ) (tag : Tag) (new : Reading) → is_cell tag ≡ true
+pub cell_next : (base : ℕ) (tag : Tag) (new : Reading) → is_cell_start tag ≡ true
     → base < length new.names
     → marks (start tag ∷ section_ahead base new)
     ≡ cell (element_at base tag new) ∷ marks (section_behind base new)

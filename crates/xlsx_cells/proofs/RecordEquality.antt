@@ -8,7 +8,7 @@ use Rattle.std.proofs.lemmas.Slice.Eq.{bytes_eq-Decides}
 use Rattle.equalities.specs.Equality.{IsEquality}
 use Rattle.equalities.proofs.Equality.{of_pairs, of_image, of_bool}
 use Rattle.cell_data.proofs.Equalities.{data_ref_law}
-use Rattle.xlsx_formulas.specs.Described.{description_seen}
+use Rattle.xlsx_formulas.specs.Words.{description_seen}
 use Rattle.xlsx_formulas.proofs.SameMetadata.{metadata_law}
 use Rattle.xlsx_cells.specs.Records.{formula_cell, metadata_cell}
 use Rattle.xlsx_cells.specs.contracts.cell_records.XlsxCellFormulaPartialEq.TheImpl as formula

@@ -1,15 +1,12 @@
 -- How the refusals of marks pass on to their section.
 use Rattle.std.proofs.Common.{◌≡◌, ℕ, List, [], ◌∷◌, ◌++◌, Bool, true, false, Option, Err, refl}
 use Rattle.std.specs.Prelude.{if◌then◌else◌}
-use Rattle.part_events.specs.Event.{Tag, Event, start, end, leaf}
-use Rattle.part_events.specs.Reading.{Reading}
-use Rattle.part_events.specs.Section.{Element}
+use Rattle.part_events.specs.Words.{Tag, Event, start, end, leaf, Reading, Element}
 use Rattle.part_events.specs.declared.fault.XmlFault.TheVariants.{Break, Unclosed}
 use Rattle.xlsx_error.specs.declared.error.XlsxError.{XlsxError}
 use Rattle.xlsx_error.specs.declared.error.XlsxError.TheVariants.{OutOfMemory, Io, Xml, XmlEof}
 use Rattle.xlsx_error.specs.declared.error.XlsxError.TheVariants.{Failed}
-use Rattle.xlsx_sections.specs.PartSection.{PartSection, SectionFails, section_left, last_of}
-use Rattle.xlsx_sections.specs.Refusal.{Refusal}
+use Rattle.xlsx_sections.specs.Words.{PartSection, SectionFails, section_left, last_of, Refusal}
 use Rattle.xlsx_sections.proofs.Refused.{refused_weaker}
 use Rattle.xlsx_cells.specs.Counting.{IsRefused, IsStartRefused, IsRowRefused}
 use Rattle.xlsx_cells.specs.Ends.{end_in_data}
@@ -29,7 +26,7 @@ is_refused_weaker after before error weaker refuses =
 pub start_refused : (base : ℕ) (first : Reading) (ending : List Event → Option (List ℕ))
     (own : Refusal → Type 0) (refused : PartSection → Refusal → Type 0) (new : Reading)
     (error : XlsxError)
-    → (first.source.is_told ≡ true → (refusal : Refusal) → own refusal
+    → (first.source.is_visible ≡ true → (refusal : Refusal) → own refusal
     → refused (section_left base first) refusal) → IsStartRefused own error
     → SectionFails ending refused base first new error
 start_refused base first ending own refused new Io weaker is = absurd (is 0)

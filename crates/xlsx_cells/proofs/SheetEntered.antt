@@ -1,15 +1,12 @@
 -- How the data of a sheet are entered, and why they can't be.
-use Rattle.std.proofs.Common.{◌≡◌, ℕ, List, [], length, Bool, true, false, Option, Some, sym}
-use Rattle.std.proofs.Common.{◌∙◌, ap, subst, codes, arith}
+use Rattle.std.proofs.Common.{◌≡◌, ℕ, List, [], length, Bool, true, false, Option, Some, sym, ◌∙◌}
+use Rattle.std.proofs.Common.{ap, subst, codes, arith}
 use Rattle.std.specs.Option.{option_map_or}
 use Rattle.cell_refs.specs.declared.dimensions.Dimensions.{Dimensions}
-use Rattle.part_events.specs.Event.{Event}
-use Rattle.part_events.specs.Nesting.{whole}
-use Rattle.part_events.specs.Package.{PackageState, Opens, OpenCounts, CountsUp, part_of}
-use Rattle.part_events.specs.Package.{event_count}
-use Rattle.part_events.specs.Reading.{Reading, MovesForward, ahead, events_of}
-use Rattle.xlsx_sections.specs.PartSection.{EntersSection, section_left, section_in}
-use Rattle.xlsx_formulas.specs.Kept.{AreMasters}
+use Rattle.part_events.specs.Words.{Event, whole, PackageState, Opens, OpenCounts, CountsUp}
+use Rattle.part_events.specs.Words.{part_of, event_count, Reading, MovesForward, ahead, events_of}
+use Rattle.xlsx_sections.specs.Words.{EntersSection, section_left, section_in}
+use Rattle.xlsx_formulas.specs.Words.{AreMasters}
 use Rattle.xlsx_cells.specs.Counting.{AreKept}
 use Rattle.xlsx_cells.specs.Head.{AreDimensions}
 use Rattle.xlsx_cells.specs.SheetPart.{EntersData}
@@ -20,9 +17,9 @@ pub data_entered : {path : List ℕ} {area : Dimensions} {old : PackageState} (o
     (new : Stream) → EntersSection (codes "sheetData") path old new.reading
     → new.base ≡ length new.reading.names → AreKept [] new.counters → AreMasters [] new.masters
     → new.is_done ≡ false → new.is_failed ≡ false
-    → (old.is_told ≡ true → opened.source.past ≡ [])
-    → (old.is_told ≡ true → events_of new.reading ≡ events_of opened)
-    → (old.is_told ≡ true → AreDimensions (ahead opened) area) → EntersData path area old new
+    → (old.is_visible ≡ true → opened.source.past ≡ [])
+    → (old.is_visible ≡ true → events_of new.reading ≡ events_of opened)
+    → (old.is_visible ≡ true → AreDimensions (ahead opened) area) → EntersData path area old new
 data_entered {area = area} opened new enters base kept groups done failed fresh same dimensions =
     record {
       going = record {
@@ -47,8 +44,8 @@ data_entered {area = area} opened new enters base kept groups done failed fresh 
 -- the part was opened, and read to its end
 pub part_taken : {path : List ℕ} {found : Bool} {old : PackageState} {opened new : Reading}
     → found ≡ true → OpenCounts found old opened.source
-    → (old.is_told ≡ true → Opens path found old opened.source) → opened.at ≡ 0
-    → MovesForward opened new → old.is_told ≡ true → new.at ≡ length (events_of opened)
+    → (old.is_visible ≡ true → Opens path found old opened.source) → opened.at ≡ 0
+    → MovesForward opened new → old.is_visible ≡ true → new.at ≡ length (events_of opened)
     → CountsUp (event_count old.parts path) old.taken new.source.taken
 part_taken {path = path} {old = old} {opened = opened} is counted opens first moves told all =
     let counts : OpenCounts true old opened.source = rw is at counted in

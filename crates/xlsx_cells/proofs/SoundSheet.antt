@@ -1,20 +1,16 @@
 -- A sound sheet has no cause to be refused.
-use Rattle.std.proofs.Common.{◌≡◌, ℕ, List, [], ◌∷◌, true, Option, Some, None, Result}
-use Rattle.std.proofs.Common.{Ok, Err, refl, sym, ◌∙◌, subst, inl, inr, codes}
+use Rattle.std.proofs.Common.{◌≡◌, ℕ, List, [], ◌∷◌, true, Option, Some, None, Result, Ok, Err}
+use Rattle.std.proofs.Common.{refl, sym, ◌∙◌, subst, inl, inr, codes}
 use Rattle.std.specs.Prelude.{option_map, IsSomeAnd}
-use Rattle.part_events.specs.Event.{Tag, Event}
-use Rattle.part_events.specs.Nesting.{whole}
-use Rattle.part_events.specs.Section.{Element, behind_start, is_named}
+use Rattle.part_events.specs.Words.{Tag, Event, whole, Element, behind_start, is_named}
 use Rattle.cell_refs.specs.declared.dimensions.Dimensions.{Dimensions}
 use Rattle.xlsx_error.specs.declared.error.XlsxError.{XlsxError}
-use Rattle.cell_styles.specs.StyleMap.{StyledCell}
-use Rattle.xlsx_sections.specs.Answers.{and_others, with_first}
-use Rattle.xlsx_sections.specs.PartSection.{PartSection, inside_of, has_end}
-use Rattle.xlsx_sections.specs.PartSection.{section_from, section_in}
-use Rattle.xlsx_sections.specs.Refusal.{Refusal, in_element}
+use Rattle.cell_styles.specs.Words.{StyledCell}
+use Rattle.xlsx_sections.specs.Words.{and_others, with_first, PartSection, inside_of, has_end}
+use Rattle.xlsx_sections.specs.Words.{section_from, section_in, Refusal, in_element}
 use Rattle.xlsx_sections.proofs.Sound.{no_section_cause}
-use Rattle.xlsx_values.specs.Value.{Grounds, cell_value}
-use Rattle.xlsx_formulas.specs.Formula.{formulas_in}
+use Rattle.xlsx_values.specs.Words.{ValueContext, cell_value}
+use Rattle.xlsx_formulas.specs.Words.{formulas_in}
 use Rattle.xlsx_cells.specs.CellsReader.{formulas_alone, styles_alone}
 use Rattle.xlsx_cells.specs.Ends.{end_in_data}
 use Rattle.xlsx_cells.specs.Marks.{Mark, row_start, row_end, cell, marks}
@@ -114,22 +110,23 @@ all_placed answer places before (cell element ∷ marks) are =
     )
 
 -- what is wanted of such marks isn't refused
-pub record AreSound (wants : Wants) (grounds : Grounds) (before marks : List Mark) : Type 0 where
+pub record AreSound (wants : Wants) (context : ValueContext) (before marks : List Mark)
+    : Type 0 where
   placed : PassesMarks IsPlaced before marks
-  valued : wants.values ≡ true → AnswerAll (placed_value grounds) before marks
+  valued : wants.values ≡ true → AnswerAll (placed_value context) before marks
   listed : wants.formulas ≡ true → AnswerAll placed_formulas before marks
   styled : wants.styles ≡ true → AnswerAll placed_id before marks
 
-pub sound_by_values : (wants : Wants) (grounds : Grounds) (before marks : List Mark)
-    → AnswerAll (placed_value grounds) before marks
+pub sound_by_values : (wants : Wants) (context : ValueContext) (before marks : List Mark)
+    → AnswerAll (placed_value context) before marks
     → (wants.formulas ≡ true → AnswerAll placed_formulas before marks)
     → (wants.styles ≡ true → AnswerAll placed_id before marks)
-    → AreSound wants grounds before marks
-sound_by_values wants grounds before marks valued listed styled = record {
-  placed = all_placed (placed_value grounds) (λ earlier element own is. (
+    → AreSound wants context before marks
+sound_by_values wants context before marks valued listed styled = record {
+  placed = all_placed (placed_value context) (λ earlier element own is. (
     own.0,
     (placed_sound (cell_position earlier element.tag)
-        (in_element element (cell_value grounds element.tag element.inside)) own is).0,
+        (in_element element (cell_value context element.tag element.inside)) own is).0,
   )) before
       marks valued;
   valued = λ wanted. valued;
@@ -137,9 +134,9 @@ sound_by_values wants grounds before marks valued listed styled = record {
   styled = styled;
 }
 
-pub sound_by_formulas : (grounds : Grounds) (before marks : List Mark)
-    → AnswerAll placed_formulas before marks → AreSound formulas_alone grounds before marks
-sound_by_formulas grounds before marks listed = record {
+pub sound_by_formulas : (context : ValueContext) (before marks : List Mark)
+    → AnswerAll placed_formulas before marks → AreSound formulas_alone context before marks
+sound_by_formulas context before marks listed = record {
   placed = all_placed placed_formulas (λ earlier element own is. (
     own.0,
     (placed_sound (cell_position earlier element.tag)
@@ -150,9 +147,9 @@ sound_by_formulas grounds before marks listed = record {
   styled = λ wanted. absurd (cc);
 }
 
-pub sound_by_ids : (grounds : Grounds) (before marks : List Mark)
-    → AnswerAll placed_id before marks → AreSound styles_alone grounds before marks
-sound_by_ids grounds before marks styled = record {
+pub sound_by_ids : (context : ValueContext) (before marks : List Mark)
+    → AnswerAll placed_id before marks → AreSound styles_alone context before marks
+sound_by_ids context before marks styled = record {
   placed = all_placed placed_id (λ earlier element own is.
       (id_sound (cell_position earlier element.tag)
       (in_element element (id_named element.tag)) own is).0) before marks styled;
@@ -161,54 +158,55 @@ sound_by_ids grounds before marks styled = record {
   styled = λ wanted. styled;
 }
 
-cell_never : (wants : Wants) (grounds : Grounds) (before marks : List Mark) (element : Element)
-    (refusal : Refusal) → AreSound wants grounds before (cell element ∷ marks)
-    → IsCellRefused wants grounds before element refusal → ⊥
-cell_never wants grounds before marks element refusal are (inl misplaced) =
+cell_never : (wants : Wants) (context : ValueContext) (before marks : List Mark) (element : Element)
+    (refusal : Refusal) → AreSound wants context before (cell element ∷ marks)
+    → IsCellRefused wants context before element refusal → ⊥
+cell_never wants context before marks element refusal are (inl misplaced) =
     never_both (cell_position before element.tag) are.placed.0.0 refusal are.placed.0.1 misplaced
-cell_never wants grounds before marks element refusal are (inr (inl refused)) =
-    let own = in_element element (cell_value grounds element.tag element.inside) in
-    let answer = cell_answers (placed_value grounds) before marks element
+cell_never wants context before marks element refusal are (inr (inl refused)) =
+    let own = in_element element (cell_value context element.tag element.inside) in
+    let answer = cell_answers (placed_value context) before marks element
     (are.valued refused.0) in
     let sound = placed_sound (cell_position before element.tag) own answer.0.0 answer.0.1 in
     never_both own answer.0.0.1 refusal sound.1 refused.1
-cell_never wants grounds before marks element refusal are (inr (inr (inl refused))) =
+cell_never wants context before marks element refusal are (inr (inr (inl refused))) =
     let own = in_element element (formulas_in element.inside) in
     let answer = cell_answers placed_formulas before marks element (are.listed refused.0) in
     let sound = placed_sound (cell_position before element.tag) own answer.0.0 answer.0.1 in
     never_both own answer.0.0.1 refusal sound.1 refused.1
-cell_never wants grounds before marks element refusal are (inr (inr (inr refused))) =
+cell_never wants context before marks element refusal are (inr (inr (inr refused))) =
     let own = in_element element (id_named element.tag) in
     let answer = cell_answers placed_id before marks element (are.styled refused.0) in
     let sound = id_sound (cell_position before element.tag) own answer.0.0 answer.0.1 in
     never_both own sound.1.0 refusal sound.1.1 refused.1
 
-marks_never : (wants : Wants) (grounds : Grounds) (before marks : List Mark) (refusal : Refusal)
-    → AreSound wants grounds before marks
-    → IsMarkRefused IsPlaced (IsCellRefused wants grounds) before marks refusal → ⊥
-marks_never wants grounds before [] refusal are is = is
-marks_never wants grounds before (row_start tag ∷ marks) refusal are is =
-    marks_never wants grounds (row_start tag ∷ before) marks refusal
+marks_never : (wants : Wants) (context : ValueContext) (before marks : List Mark)
+    (refusal : Refusal)
+    → AreSound wants context before marks
+    → IsMarkRefused IsPlaced (IsCellRefused wants context) before marks refusal → ⊥
+marks_never wants context before [] refusal are is = is
+marks_never wants context before (row_start tag ∷ marks) refusal are is =
+    marks_never wants context (row_start tag ∷ before) marks refusal
     (record {
       placed = are.placed.1;
-      valued = λ wanted. (row_answers (placed_value grounds) before marks tag
+      valued = λ wanted. (row_answers (placed_value context) before marks tag
           (are.valued wanted)).1;
       listed = λ wanted. (row_answers placed_formulas before marks tag (are.listed wanted)).1;
       styled = λ wanted. (row_answers placed_id before marks tag (are.styled wanted)).1;
     }) (rw are.placed.0.1 at is)
-marks_never wants grounds before (row_end ∷ marks) refusal are is =
-    marks_never wants grounds (row_end ∷ before) marks refusal (record {
+marks_never wants context before (row_end ∷ marks) refusal are is =
+    marks_never wants context (row_end ∷ before) marks refusal (record {
       placed = are.placed;
       valued = are.valued;
       listed = are.listed;
       styled = are.styled;
     }) is
-marks_never wants grounds before (cell element ∷ marks) refusal are is =
+marks_never wants context before (cell element ∷ marks) refusal are is =
     elim is [
-      | inl refused ↦ cell_never wants grounds before marks element refusal are refused
-      | inr others ↦ marks_never wants grounds (cell element ∷ before) marks refusal (record {
+      | inl refused ↦ cell_never wants context before marks element refusal are refused
+      | inr others ↦ marks_never wants context (cell element ∷ before) marks refusal (record {
         placed = are.placed.1;
-        valued = λ wanted. (cell_answers (placed_value grounds) before marks element
+        valued = λ wanted. (cell_answers (placed_value context) before marks element
             (are.valued wanted)).1;
         listed = λ wanted. (cell_answers placed_formulas before marks element
             (are.listed wanted)).1;
@@ -226,17 +224,17 @@ start_of_section events None s is = absurd (cc)
 start_of_section events (Some after) s is = (after, refl)
 
 -- a part with a sound head and closed data, of which what is wanted isn't refused, can be read
-pub no_part_cause : (wants : Wants) (grounds : Grounds) (events : List Event) (s : PartSection)
+pub no_part_cause : (wants : Wants) (context : ValueContext) (events : List Event) (s : PartSection)
     (area : Option Dimensions) (error : XlsxError)
     → section_in (codes "sheetData") events ≡ Some s → dimensions_in (whole events) ≡ Ok area
-    → has_end s ≡ true → AreSound wants grounds [] (marks (inside_of s))
-    → SheetPartCause wants grounds events error → ⊥
-no_part_cause wants grounds events s area error found dimensions closed are (inl head) =
+    → has_end s ≡ true → AreSound wants context [] (marks (inside_of s))
+    → SheetPartCause wants context events error → ⊥
+no_part_cause wants context events s area error found dimensions closed are (inl head) =
     let after = start_of_section events
     (behind_start (is_named (codes "sheetData" ∷ [])) (whole events)) s found in
     no_head_cause events (whole events) after.0 area error after.1 dimensions head
-no_part_cause wants grounds events s area error found dimensions closed are (inr cause) =
-    no_section_cause (end_in_data wants) (AreDataRefused wants grounds) s error closed
-    (λ refusal is. marks_never wants grounds [] (marks (inside_of s)) refusal are is)
-    (subst (λ (own : Option PartSection). IsSomeAnd own (λ one. DataCause wants grounds one error))
+no_part_cause wants context events s area error found dimensions closed are (inr cause) =
+    no_section_cause (end_in_data wants) (AreDataRefused wants context) s error closed
+    (λ refusal is. marks_never wants context [] (marks (inside_of s)) refusal are is)
+    (subst (λ (own : Option PartSection). IsSomeAnd own (λ one. DataCause wants context one error))
     found cause)

@@ -3,22 +3,22 @@ use Rattle.std.proofs.Common.{◌≡◌, ℕ, suc, List, [], ◌∷◌, ◌++◌
 use Rattle.std.proofs.Common.{length, map}
 use Rattle.std.specs.Prelude.{filter, zip}
 use Rattle.std.proofs.lemmas.List.Elements.{filter-append}
-use Rattle.cell_data.specs.CellValue.{CellValue, value_of_data_ref}
-use Rattle.cell_styles.specs.StyleMap.{StyledCell}
-use Rattle.xlsx_sections.specs.Answers.{prepended}
-use Rattle.xlsx_sections.specs.Refusal.{Refusal}
+use Rattle.cell_data.specs.Words.{CellValue, value_of_data_ref}
+use Rattle.cell_styles.specs.Words.{StyledCell}
+use Rattle.xlsx_sections.specs.Words.{prepended, Refusal}
 use Rattle.xlsx_sections.proofs.Kept.{prepended-nil}
-use Rattle.xlsx_values.specs.Value.{Grounds}
-use Rattle.xlsx_formulas.specs.Formula.{FormulaText, behind_formulas}
+use Rattle.xlsx_values.specs.Words.{ValueContext}
+use Rattle.xlsx_formulas.specs.Words.{FormulaText, behind_formulas}
 use Rattle.xlsx_cells.specs.Finding.{IsMarkRefused}
 use Rattle.xlsx_cells.specs.Marks.{Mark, cell, behind_marks}
 use Rattle.xlsx_cells.specs.Position.{PassesMarks, NoCell, IsPlaced}
-use Rattle.xlsx_cells.specs.Sheet.{answers_from, placed_value, placed_formulas}
-use Rattle.xlsx_cells.specs.Sheet.{values_in, formulas_written}
+use Rattle.xlsx_cells.specs.Sheet.{answers_from, placed_value, placed_formulas, values_in}
+use Rattle.xlsx_cells.specs.Sheet.{formulas_written}
 use Rattle.xlsx_cells.specs.Stream.{Stream, StandsBehind, IsCellRefused, IsRead, TakesCell}
 use Rattle.xlsx_cells.specs.Stream.{marks_ahead, data_ahead}
 use Rattle.xlsx_cells.specs.StyleIds.{placed_id, ids_in}
-use Rattle.xlsx_cells.specs.StyledValues.{with_style, is_used, styled_values, HoldsStyledValues}
+use Rattle.xlsx_cells.specs.StyledValues.{value_with_style, is_used, styled_values}
+use Rattle.xlsx_cells.specs.StyledValues.{HoldsStyledValues}
 use Rattle.xlsx_cells.specs.declared.cell_read.CellRead.{CellRead}
 use Rattle.xlsx_cells.specs.declared.children.Wants.{Wants}
 use Rattle.xlsx_cells.proofs.Collecting.{answer_kept, answers_whole}
@@ -45,15 +45,16 @@ length_further (x ∷ xs) a = ap suc (length_further xs a)
 styled_further : (values : List ((ℕ × ℕ) × CellValue)) (ids : List StyledCell)
     (value : (ℕ × ℕ) × CellValue) (id : StyledCell) → length values ≡ length ids
     → styled_values (values ++ value ∷ []) (ids ++ id ∷ [])
-    ≡ styled_values values ids ++ filter is_used (with_style (value, id) ∷ [])
+    ≡ styled_values values ids ++ filter is_used (value_with_style (value, id) ∷ [])
 styled_further values ids value id same =
-    ap (λ pairs. filter is_used (map with_style pairs)) (zip_further values ids value id same)
-    ∙ ap (filter is_used) (map_further with_style (zip values ids) (value, id))
-    ∙ filter-append is_used (map with_style (zip values ids)) (with_style (value, id) ∷ [])
+    ap (λ pairs. filter is_used (map value_with_style pairs)) (zip_further values ids value id same)
+    ∙ ap (filter is_used) (map_further value_with_style (zip values ids) (value, id))
+    ∙ filter-append is_used (map value_with_style (zip values ids))
+    (value_with_style (value, id) ∷ [])
 
 -- the values of a sheet's data were collected up to here
 pub record HasStyled
-    (wants : Wants) (grounds : Grounds) (old now : Stream)
+    (wants : Wants) (context : ValueContext) (old now : Stream)
     (found : List ((ℕ × ℕ) × (CellValue × ℕ))) : Type 0
   where
     pub before : List Mark
@@ -62,8 +63,8 @@ pub record HasStyled
     pub values : List ((ℕ × ℕ) × CellValue)
     pub ids : List StyledCell
     pub valued :
-        prepended values (answers_from (placed_value grounds) before (marks_ahead now))
-        ≡ values_in grounds (data_ahead old)
+        prepended values (answers_from (placed_value context) before (marks_ahead now))
+        ≡ values_in context (data_ahead old)
     pub written :
         wants.formulas ≡ true →
         (formulas : List ((ℕ × ℕ) × List FormulaText))
@@ -75,19 +76,19 @@ pub record HasStyled
     pub used : found ≡ styled_values values ids
     pub refused :
         (refusal : Refusal) →
-        IsMarkRefused IsPlaced (IsCellRefused wants grounds) before (marks_ahead now) refusal
-        → IsMarkRefused IsPlaced (IsCellRefused wants grounds) [] (marks_ahead old) refusal
+        IsMarkRefused IsPlaced (IsCellRefused wants context) before (marks_ahead now) refusal
+        → IsMarkRefused IsPlaced (IsCellRefused wants context) [] (marks_ahead old) refusal
 
 -- none so far
-pub styled_none : (wants : Wants) (grounds : Grounds) (s : Stream) → StandsBehind [] [] s
-    → HasStyled wants grounds s s []
-styled_none wants grounds s stands = record {
+pub styled_none : (wants : Wants) (context : ValueContext) (s : Stream) → StandsBehind [] [] s
+    → HasStyled wants context s s []
+styled_none wants context s stands = record {
   before = [];
   earlier = [];
   stands = stands;
   values = [];
   ids = [];
-  valued = prepended-nil (values_in grounds (data_ahead s));
+  valued = prepended-nil (values_in context (data_ahead s));
   written = λ wanted. ([], prepended-nil (formulas_written (data_ahead s)));
   styled = prepended-nil (ids_in (data_ahead s));
   same = refl;
@@ -96,13 +97,13 @@ styled_none wants grounds s stands = record {
 }
 
 -- one cell more
-pub styled_cell : (wants : Wants) (keeps : Bool) (grounds : Grounds) (old mid new : Stream)
+pub styled_cell : (wants : Wants) (keeps : Bool) (context : ValueContext) (old mid new : Stream)
     (found : List ((ℕ × ℕ) × (CellValue × ℕ))) (read : CellRead) → wants.values ≡ true
-    → wants.styles ≡ true → (been : HasStyled wants grounds old mid found)
-    → TakesCell NoCell been.before been.earlier mid new (IsRead wants keeps grounds read)
-    → HasStyled wants grounds old new (found
+    → wants.styles ≡ true → (been : HasStyled wants context old mid found)
+    → TakesCell NoCell been.before been.earlier mid new (IsRead wants keeps context read)
+    → HasStyled wants context old new (found
     ++ filter is_used ((read.pos, (value_of_data_ref read.value, read.style_id)) ∷ []))
-styled_cell wants keeps grounds old mid new found read values_wanted ids_wanted been takes =
+styled_cell wants keeps context old mid new found read values_wanted ids_wanted been takes =
     let front = takes.takes.front in
     let behind = behind_marks front.passed been.before in
     let element = takes.element in
@@ -111,7 +112,7 @@ styled_cell wants keeps grounds old mid new found read values_wanted ids_wanted 
     let value : (ℕ × ℕ) × CellValue = (read.pos, value_of_data_ref read.value) in
     let formulas : (ℕ × ℕ) × List FormulaText = (read.pos, takes.holds.written) in
     let id : StyledCell = (read.pos.0, read.pos.1, read.style_id) in
-    let valued : placed_value grounds behind element ≡ Ok value =
+    let valued : placed_value context behind element ≡ Ok value =
     rw (takes.holds.placed, takes.holds.valued values_wanted) refl in
     let styled : placed_id behind element ≡ Ok id =
     rw (takes.holds.placed, takes.holds.styled ids_wanted) refl in
@@ -121,7 +122,7 @@ styled_cell wants keeps grounds old mid new found read values_wanted ids_wanted 
       stands = takes.stands;
       values = been.values ++ value ∷ [];
       ids = been.ids ++ id ∷ [];
-      valued = answer_kept (placed_value grounds) been.values value front.passed been.before
+      valued = answer_kept (placed_value context) been.values value front.passed been.before
           (marks_ahead new) (marks_ahead mid) element _ front.fact marks_same valued been.valued;
       written = λ wanted.
           let (passed, all) = been.written wanted in
@@ -135,22 +136,22 @@ styled_cell wants keeps grounds old mid new found read values_wanted ids_wanted 
           (marks_ahead mid) element _ front.fact marks_same styled been.styled;
       same = length_further been.values value ∙ ap suc been.same
           ∙ sym (length_further been.ids id);
-      used = ap (λ own. own ++ filter is_used (with_style (value, id) ∷ [])) been.used
+      used = ap (λ own. own ++ filter is_used (value_with_style (value, id) ∷ [])) been.used
           ∙ sym (styled_further been.values been.ids value id been.same);
       refused = λ refusal is. been.refused refusal
-          (refused_further (IsCellRefused wants grounds) refusal takes.takes
+          (refused_further (IsCellRefused wants context) refusal takes.takes
           (read.pos, takes.holds.placed) is);
     }
 
 -- all cells
-pub styled_whole : (wants : Wants) (grounds : Grounds) (old now : Stream)
-    (found : List ((ℕ × ℕ) × (CellValue × ℕ))) (been : HasStyled wants grounds old now found)
+pub styled_whole : (wants : Wants) (context : ValueContext) (old now : Stream)
+    (found : List ((ℕ × ℕ) × (CellValue × ℕ))) (been : HasStyled wants context old now found)
     → PassesMarks NoCell been.before (marks_ahead now)
-    → HoldsStyledValues wants grounds (data_ahead old) found
-styled_whole wants grounds old now found been rows = record {
+    → HoldsStyledValues wants context (data_ahead old) found
+styled_whole wants context old now found been rows = record {
   values = been.values;
   ids = been.ids;
-  valued = answers_whole (placed_value grounds) been.values been.before (marks_ahead now) _ rows
+  valued = answers_whole (placed_value context) been.values been.before (marks_ahead now) _ rows
       been.valued;
   styled = answers_whole placed_id been.ids been.before (marks_ahead now) _ rows been.styled;
   used = been.used;

@@ -3,8 +3,8 @@ use Rattle.std.specs.Prelude.{◌≡◌, ◌⊎◌, ⊤, ℕ, List, [], codes}
 use Rattle.part_events.specs.declared.fault.XmlFault.TheVariants.{Break}
 use Rattle.xlsx_error.specs.declared.error.XlsxError.{XlsxError}
 use Rattle.xlsx_error.specs.declared.error.XlsxError.TheVariants.{OutOfMemory, Io, Xml, XmlAttr}
-use Rattle.xlsx_error.specs.declared.error.XlsxError.TheVariants.{XmlEof}
-use Rattle.xlsx_error.specs.declared.error.XlsxError.TheVariants.{Alphanumeric, DimensionCount}
+use Rattle.xlsx_error.specs.declared.error.XlsxError.TheVariants.{XmlEof, Alphanumeric}
+use Rattle.xlsx_error.specs.declared.error.XlsxError.TheVariants.{DimensionCount}
 use Rattle.xlsx_error.specs.declared.error.XlsxError.TheVariants.{RangeWithoutRowComponent}
 use Rattle.xlsx_error.specs.declared.error.XlsxError.TheVariants.{RangeWithoutColumnComponent}
 use Rattle.xlsx_error.specs.declared.error.XlsxError.TheVariants.{ColumnNumberOverflow}
@@ -13,7 +13,7 @@ use Rattle.xlsx_error.specs.declared.error.XlsxError.TheVariants.{Unexpected, Un
 use Rattle.xlsx_error.specs.declared.error.XlsxError.TheVariants.{CellTAttribute, CellError}
 use Rattle.xlsx_error.specs.declared.error.XlsxError.TheVariants.{ParseFloat, Failed}
 
--- those of finding the next cell
+-- the refusals that finding the next cell can have
 abbrev pub IsFindError : XlsxError → Type 0
 IsFindError OutOfMemory = ⊤
 IsFindError Io = ⊤
@@ -28,7 +28,7 @@ IsFindError RowNumberOverflow = ⊤
 IsFindError (DimensionCount count) = ⊤
 IsFindError _ = ⊥
 
--- those of a cell whose style id alone is read: none of what stands in it
+-- the refusals of a cell whose style id alone is read: none of what stands in it
 abbrev pub IsStyledError : XlsxError → Type 0
 IsStyledError (XmlEof element) = (element.now ≡ codes "sheetData") ⊎ (element.now ≡ codes "c")
 IsStyledError error = IsFindError error
@@ -60,7 +60,7 @@ IsCellError (CellError written) = ⊤
 IsCellError (ParseFloat written) = ⊤
 IsCellError _ = ⊥
 
--- those of a step of a stream, which fails from a refusal on
+-- the refusals that a step of a stream of cells can have, which fails from a refusal on
 abbrev pub IsStreamError : XlsxError → Type 0
 IsStreamError Failed = ⊤
 IsStreamError error = IsCellError error

@@ -8,8 +8,8 @@ use Rattle.xlsx_error.specs.declared.error.XlsxError.TheVariants.{RangeWithoutRo
 use Rattle.xlsx_error.specs.declared.error.XlsxError.TheVariants.{RangeWithoutColumnComponent}
 use Rattle.xlsx_error.specs.declared.error.XlsxError.TheVariants.{ColumnNumberOverflow}
 use Rattle.xlsx_error.specs.declared.error.XlsxError.TheVariants.{RowNumberOverflow, DimensionCount}
-use Rattle.part_events.specs.Event.{Event, IsStartAnd}
-use Rattle.xlsx_sections.specs.Refusal.{Refusal, RefusedAs}
+use Rattle.part_events.specs.Words.{Event, IsStartAnd}
+use Rattle.xlsx_sections.specs.Words.{Refusal, RefusedAs}
 use Rattle.xlsx_cells.specs.Marks.{Mark, is_row}
 use Rattle.xlsx_cells.specs.Position.{row_named, row_counter, column_counter}
 use Rattle.xlsx_cells.specs.declared.counters.Counters.{Counters}
@@ -27,7 +27,7 @@ IsGiven {A} answer = (a : A) × (answer ≡ Ok a)
 abbrev pub IsRefused : (Refusal → Type 0) → XlsxError → Type 0
 IsRefused refused error = (last : ℕ) → RefusedAs last refused error
 
--- the same, where memory may be wanting too
+-- a start is refused, wherever it stands, or memory is wanting
 abbrev pub IsStartRefused : (Refusal → Type 0) → XlsxError → Type 0
 IsStartRefused refused OutOfMemory = ⊤
 IsStartRefused refused error = IsRefused refused error

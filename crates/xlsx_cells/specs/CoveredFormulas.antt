@@ -1,11 +1,10 @@
 -- The formulas of a sheet's cells, each beside the area that it covers.
-use Rattle.std.specs.Prelude.{ℕ, List, [], ◌∷◌, Bool, not, map, filter, zip, Option, Result}
-use Rattle.std.specs.Prelude.{Ok, Err}
+use Rattle.std.specs.Prelude.{ℕ, List, [], ◌∷◌, Bool, not, map, filter, zip, Option, Result, Ok}
+use Rattle.std.specs.Prelude.{Err}
 use Rattle.cell_refs.specs.declared.dimensions.Dimensions.{Dimensions}
-use Rattle.part_events.specs.Event.{Event}
-use Rattle.xlsx_sections.specs.Refusal.{Refusal}
-use Rattle.xlsx_formulas.specs.Formula.{FormulaText, covers_in, covered}
-use Rattle.xlsx_formulas.specs.Kept.{text_of_formula}
+use Rattle.part_events.specs.Words.{Event}
+use Rattle.xlsx_sections.specs.Words.{Refusal}
+use Rattle.xlsx_formulas.specs.Words.{FormulaText, covers_in, covered, text_of_formula}
 use Rattle.xlsx_cells.specs.Marks.{Mark, row_start, row_end, cell, marks}
 use Rattle.xlsx_cells.specs.Sheet.{formulas_written, formulas_along, is_empty}
 use Rattle.xlsx_cells.specs.declared.covered_cells.CoveredFormula.{CoveredFormula}
@@ -30,7 +29,8 @@ abbrev pub covered_formulas :
     List ((ℕ × ℕ) × List ℕ) → List (Option Dimensions) → List ((ℕ × ℕ) × (List ℕ × Dimensions))
 covered_formulas formulas covers = filter is_written (map with_covers (zip formulas covers))
 
--- those of cells that stand among these marks and write this, if none is refused
+-- the formulas that count of those that cells among these marks write, with what they cover, if
+-- none is refused
 abbrev pub covered_among :
     List Mark → Result (List ((ℕ × ℕ) × List FormulaText)) Refusal →
     Result (List ((ℕ × ℕ) × (List ℕ × Dimensions))) Refusal

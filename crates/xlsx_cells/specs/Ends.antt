@@ -1,17 +1,13 @@
 -- Where the part of a sheet ends in its data, as a refusal tells it.
 use Rattle.std.specs.Prelude.{ℕ, List, [], ◌∷◌, Bool, ◌||◌, if◌then◌else◌, codes, Option, Some}
-use Rattle.std.specs.Prelude.{None, Result}
-use Rattle.std.specs.Prelude.{Ok, Err}
-use Rattle.attr_text.specs.Attributes.{lookup}
+use Rattle.std.specs.Prelude.{None, Result, Ok, Err}
+use Rattle.attr_text.specs.Words.{lookup}
 use Rattle.attr_text.specs.declared.fault.AttrFault.{AttrFault}
-use Rattle.part_events.specs.Event.{Tag, Event}
-use Rattle.part_events.specs.Section.{Element, is_any, is_named}
-use Rattle.xlsx_sections.specs.Answers.{with_three}
-use Rattle.xlsx_sections.specs.Elements.{end_among}
+use Rattle.part_events.specs.Words.{Tag, Event, Element, is_any, is_named}
+use Rattle.xlsx_sections.specs.Words.{with_three, end_among}
 use Rattle.xlsx_strings.specs.Strings.{end_in_string}
-use Rattle.xlsx_values.specs.CellType.{CellKind, untyped, kind_named}
-use Rattle.xlsx_values.specs.Value.{end_in_value}
-use Rattle.xlsx_cells.specs.Marks.{is_cell}
+use Rattle.xlsx_values.specs.Words.{CellKind, untyped, kind_named, end_in_value}
+use Rattle.xlsx_cells.specs.Marks.{is_cell_start}
 use Rattle.xlsx_cells.specs.declared.children.Wants.{Wants}
 
 -- the kind of a cell, by what was looked up at its start
@@ -47,7 +43,8 @@ end_in_children wants kind inside =
 abbrev pub reads_children : Wants → Bool
 reads_children wants = wants.values || wants.formulas
 
--- a call that wants nothing of a cell's children reads none of them, and skips none
+-- how the end of the part is told in a cell; a call that wants nothing of a cell's children reads
+-- none of them, and skips none
 abbrev pub end_in_contents : Wants → Tag → List Event → Option (List ℕ)
 end_in_contents wants tag inside =
     if reads_children wants then end_in_children wants (kind_of_cell tag) inside
@@ -59,4 +56,4 @@ end_in_cell wants element = end_in_contents wants element.tag element.inside
 
 -- the name of the element in which a sheet's data end, or none where that element is skipped
 abbrev pub end_in_data : Wants → List Event → Option (List ℕ)
-end_in_data wants inside = end_among is_cell (codes "sheetData") (end_in_cell wants) inside
+end_in_data wants inside = end_among is_cell_start (codes "sheetData") (end_in_cell wants) inside

@@ -1,19 +1,16 @@
 -- How the next cell of a sheet's data is found.
 use Rattle.std.specs.Prelude.{◌≡◌, ◌⊎◌, ⊤, ℕ, suc, ◌-◌, ◌<◌, List, [], ◌∷◌, ◌++◌, codes, true}
-use Rattle.std.specs.Prelude.{Option, Some}
-use Rattle.std.specs.Prelude.{None, Result, Ok, Err, length}
+use Rattle.std.specs.Prelude.{Option, Some, None, Result, Ok, Err, length}
 use Rattle.cell_refs.specs.declared.TheConstants.{MAX_ROWS, MAX_COLUMNS}
-use Rattle.part_events.specs.Event.{Tag, Event, start, end}
-use Rattle.part_events.specs.Reading.{Reading, ahead}
-use Rattle.part_events.specs.Section.{Element, unclosed}
-use Rattle.part_events.specs.Walk.{element_at, section_ahead, section_behind, is_closed_ahead}
-use Rattle.part_events.specs.Walk.{behind_section, section_end}
+use Rattle.part_events.specs.Words.{Tag, Event, start, end, Reading, ahead, Element, unclosed}
+use Rattle.part_events.specs.Words.{element_at, section_ahead, section_behind, is_closed_ahead}
+use Rattle.part_events.specs.Words.{behind_section, section_end}
 use Rattle.xlsx_error.specs.declared.error.XlsxError.{XlsxError}
-use Rattle.xlsx_sections.specs.Elements.{FindsElementIn, IfCutOff, end_among}
-use Rattle.xlsx_sections.specs.PartSection.{PartSection, SectionFails, StandsAtStart, inside_of}
-use Rattle.xlsx_sections.specs.Refusal.{Refusal}
+use Rattle.xlsx_sections.specs.Words.{FindsElementIn, IfCutOff, end_among, PartSection}
+use Rattle.xlsx_sections.specs.Words.{SectionFails, StandsAtStart, inside_of, Refusal}
 use Rattle.xlsx_cells.specs.Counting.{AreKept}
-use Rattle.xlsx_cells.specs.Marks.{Mark, row_start, row_end, cell, is_cell, marks, behind_marks}
+use Rattle.xlsx_cells.specs.Marks.{Mark, row_start, row_end, cell, is_cell_start, marks}
+use Rattle.xlsx_cells.specs.Marks.{behind_marks}
 use Rattle.xlsx_cells.specs.Position.{row_named, cell_position, PassesMarks, NoCell}
 use Rattle.xlsx_cells.specs.declared.counters.Counters.{Counters}
 
@@ -21,7 +18,7 @@ use Rattle.xlsx_cells.specs.declared.counters.Counters.{Counters}
 abbrev pub marks_left : ℕ → Reading → List Mark
 marks_left base r = marks (section_ahead base r)
 
--- events of a sheet's data were passed, with such marks
+-- events of a sheet's data were passed, with marks that may be passed
 pub record PassesTo
     (passes : List Mark → Element → Type 0) (before : List Mark) (old new : List Event)
     : Type 0 where
@@ -35,7 +32,7 @@ pub record PassesTo
 abbrev pub element_and : Element → List ℕ → List Event → List Event
 element_and element name others = start element.tag ∷ (element.inside ++ end name ∷ others)
 
--- such events were passed, and the cell behind them was taken
+-- marks were passed, and the element of the cell behind them was taken, whose end has a name
 pub record TakesElement
     (passes : List Mark → Element → Type 0) (before : List Mark) (element : Element)
     (old new : List Event) : Type 0 where
@@ -73,20 +70,20 @@ Finds before None base old new counters = FindsNone before base old new
 Finds before (Some position) base old new counters =
     FindsCell before position base old new counters
 
--- where reading stands then
+-- where reading stands when a cell was looked for: at the cell's start, if one was found
 abbrev pub StandsAtCell : ℕ → Option (ℕ × ℕ) → Reading → Reading → Type 0
 StandsAtCell base None old new = ⊤
 StandsAtCell base (Some position) old new =
-    StandsAtStart is_cell base (Some (new.at - 1)) old new
+    StandsAtStart is_cell_start base (Some (new.at - 1)) old new
     × (position.0 < MAX_ROWS) × (position.1 < MAX_COLUMNS)
 
--- where a cell is found, the last event taken is its start
+-- a cell was looked for: if one is found, the last event taken is its start
 abbrev pub FindsCellElement : ℕ → Option (ℕ × ℕ) → Reading → Reading → Type 0
 FindsCellElement base None old new = ⊤
 FindsCellElement base (Some position) old new =
-    FindsElementIn is_cell base (Some (new.at - 1)) old new
+    FindsElementIn is_cell_start base (Some (new.at - 1)) old new
 
--- behind a row that isn't refused
+-- what holds behind a row that isn't refused, or else the row's refusal is this one
 abbrev pub BehindRow : Result (Option ℕ) Refusal → Refusal → Type 0 → Type 0
 BehindRow (Ok row) refusal others = others
 BehindRow (Err own) refusal others = own ≡ refusal
@@ -107,7 +104,7 @@ IsMarkRefused passes refused before (cell element ∷ marks) refusal =
     ⊎ (passes before element
     × IsMarkRefused passes refused (cell element ∷ before) marks refusal)
 
--- why a step is refused
+-- why a step over the cells of a sheet's data is refused, by whatever marks stand before it
 abbrev pub IsStepRefused :
     (List Mark → Element → Type 0) → (List Mark → Element → Refusal → Type 0) → Counters →
     PartSection → Refusal → Type 0
@@ -124,24 +121,24 @@ abbrev pub open_mark : Option Element → List Mark
 open_mark None = []
 open_mark (Some element) = cell element ∷ []
 
--- no cell is left behind such marks, but the one that no end closes
+-- no cell is left behind marks that may be passed, but the one that no end closes
 pub record LacksCell
     (passes : List Mark → Element → Type 0) (before : List Mark) (inside : List Event)
     : Type 0 where
   pub passed : List Mark
   pub fact : PassesMarks passes before passed
-  pub marks : marks inside ≡ passed ++ open_mark (unclosed is_cell inside)
+  pub marks : marks inside ≡ passed ++ open_mark (unclosed is_cell_start inside)
 
--- a step tells of these only where no whole cell is left for it to take
+-- a step tells of a part's end or a broken nesting only where no whole cell is left for it to take
 abbrev pub IsCutOff :
     (List Mark → Element → Type 0) → Counters → ℕ → Reading → XlsxError → Type 0
 IsCutOff passes counters base old error =
-    IfCutOff (old.source.is_told ≡ true → (before : List Mark) → AreKept before counters →
+    IfCutOff (old.source.is_visible ≡ true → (before : List Mark) → AreKept before counters →
     LacksCell passes before (section_ahead base old)) error
 
 -- when no cell is found; `inner` tells the end of the part in a cell
 abbrev pub FindFails :
     (Element → Option (List ℕ)) → Counters → ℕ → Reading → Reading → XlsxError → Type 0
 FindFails inner counters base old new error =
-    SectionFails (end_among is_cell (codes "sheetData") inner)
+    SectionFails (end_among is_cell_start (codes "sheetData") inner)
     (IsStepRefused NoCell IsMisplaced counters) base old new error

@@ -1,38 +1,33 @@
 -- The head of a sheet's part: what stands before the sheet's data, and what it says of the sheet's
 -- dimensions.
 use Rattle.std.specs.Prelude.{◌≡◌, ⊤, ℕ, List, [], ◌∷◌, Bool, false, if◌then◌else◌, codes, Option}
-use Rattle.std.specs.Prelude.{Some, None}
-use Rattle.std.specs.Prelude.{option_map, string_bytes, Result, Ok, Err}
-use Rattle.attr_text.specs.Attributes.{value_of, local_name_of}
+use Rattle.std.specs.Prelude.{Some, None, option_map, string_bytes, Result, Ok, Err}
+use Rattle.attr_text.specs.Words.{value_of, local_name_of}
 use Rattle.attr_text.specs.declared.fault.AttrFault.{AttrFault}
-use Rattle.cell_refs.specs.A1.{area}
+use Rattle.cell_refs.specs.Words.{area}
 use Rattle.cell_refs.specs.declared.dimensions.Dimensions.{Dimensions}
-use Rattle.part_events.specs.Event.{Tag, Event, start, end, leaf}
-use Rattle.part_events.specs.Nesting.{whole}
-use Rattle.part_events.specs.Reading.{Reading, BreaksAt, ahead, events_of}
-use Rattle.part_events.specs.Section.{behind_start, is_named}
+use Rattle.part_events.specs.Words.{Tag, Event, start, end, leaf, whole, Reading, BreaksAt, ahead}
+use Rattle.part_events.specs.Words.{events_of, behind_start, is_named}
 use Rattle.part_events.specs.declared.fault.XmlFault.TheVariants.{Break}
 use Rattle.xlsx_error.specs.declared.error.XlsxError.{XlsxError}
 use Rattle.xlsx_error.specs.declared.error.XlsxError.TheVariants.{OutOfMemory, Io, Xml, XmlAttr}
-use Rattle.xlsx_error.specs.declared.error.XlsxError.TheVariants.{XmlEof}
-use Rattle.xlsx_error.specs.declared.error.XlsxError.TheVariants.{UnexpectedNode, NotAWorksheet}
-use Rattle.xlsx_error.specs.declared.error.XlsxError.TheVariants.{Alphanumeric, DimensionCount}
+use Rattle.xlsx_error.specs.declared.error.XlsxError.TheVariants.{XmlEof, UnexpectedNode}
+use Rattle.xlsx_error.specs.declared.error.XlsxError.TheVariants.{NotAWorksheet, Alphanumeric}
+use Rattle.xlsx_error.specs.declared.error.XlsxError.TheVariants.{DimensionCount}
 use Rattle.xlsx_error.specs.declared.error.XlsxError.TheVariants.{RangeWithoutRowComponent}
 use Rattle.xlsx_error.specs.declared.error.XlsxError.TheVariants.{RangeWithoutColumnComponent}
 use Rattle.xlsx_error.specs.declared.error.XlsxError.TheVariants.{ColumnNumberOverflow}
 use Rattle.xlsx_error.specs.declared.error.XlsxError.TheVariants.{RowNumberOverflow}
-use Rattle.xlsx_sections.specs.Answers.{last_answer}
-use Rattle.xlsx_sections.specs.Failing.{FailsBy}
-use Rattle.xlsx_sections.specs.Placed.{some_placed}
-use Rattle.xlsx_sections.specs.Refusal.{Refusal, plain, RefusedAs, lookup_fault, lacks_area}
+use Rattle.xlsx_sections.specs.Words.{last_answer, FailsBy, some_placed, Refusal, plain, RefusedAs}
+use Rattle.xlsx_sections.specs.Words.{lookup_fault, lacks_area}
 use Rattle.xlsx_cells.specs.Counting.{IsRefused}
 use Rattle.xlsx_cells.specs.declared.head.Head.{Head}
 
--- a start begins the data of a sheet
+-- a start of the element `sheetData`, the data of a sheet
 abbrev pub is_sheet_data : Tag → Bool
 is_sheet_data tag = is_named (codes "sheetData" ∷ []) tag
 
--- a start tells the area of a sheet's data
+-- a start of the element `dimension`, the area of a sheet's data
 abbrev pub is_dimension : Tag → Bool
 is_dimension tag = is_named (codes "dimension" ∷ []) tag
 
@@ -59,7 +54,7 @@ area_looked_up (Err fault) = Err (plain (lookup_fault fault))
 abbrev pub dimension_area : Tag → Result (Option Dimensions) Refusal
 dimension_area tag = area_looked_up (value_of (codes "ref") tag.attributes)
 
--- what a start says of the sheet's dimensions, where it is there for that
+-- what a start says of the sheet's dimensions, where it is one of these
 abbrev pub dimensions_by : Tag → Result (Option Dimensions) Refusal
 dimensions_by tag = if is_dimension tag then dimension_area tag else Ok None
 
@@ -78,7 +73,7 @@ abbrev pub dimensions_or : Option Dimensions → Dimensions
 dimensions_or (Some found) = found
 dimensions_or None = record { start = (0, 0); end = (0, 0) }
 
--- these are the sheet's dimensions, as its head says them
+-- an area is the sheet's dimensions, as its head says them
 abbrev pub AreDimensions : List Event → Dimensions → Type 0
 AreDimensions events area =
     (found : Option Dimensions) × (dimensions_in events ≡ Ok found) × (area ≡ dimensions_or found)
@@ -88,7 +83,7 @@ abbrev pub first_other : List Tag → Option Tag
 first_other [] = None
 first_other (tag ∷ tags) = if is_dimension tag then first_other tags else Some tag
 
--- its local name
+-- the local name of the first start that is no dimension: what the part is, if it is no worksheet
 abbrev pub other_in : List Event → Option (List ℕ)
 other_in events = option_map (λ tag. local_name_of tag.name) (first_other (head_starts events))
 
@@ -106,7 +101,8 @@ other_at (leaf kind) = None
 abbrev pub other_name : Head → Option (List ℕ)
 other_name head = option_map string_bytes head.other
 
--- a start before the data is refused, wherever it stands; want of memory may come at any of them
+-- a start in the head of a sheet's part is refused, wherever it stands; want of memory may come at
+-- any start
 abbrev pub IsHeadStartRefused : Result (Option Dimensions) Refusal → XlsxError → Type 0
 IsHeadStartRefused answer OutOfMemory = ⊤
 IsHeadStartRefused answer error = IsRefused (λ refusal. answer ≡ Err refusal) error
@@ -140,17 +136,17 @@ HeadCause events ahead (NotAWorksheet name) =
 HeadCause events ahead error =
     RefusedAs 0 (λ refusal. dimensions_in ahead ≡ Err refusal) error
 
--- where an error tells that the part is no worksheet
+-- a fact, where an error tells that the part is no worksheet
 abbrev pub IfNoWorksheet : Type 0 → XlsxError → Type 0
 IfNoWorksheet fact (NotAWorksheet name) = fact
 IfNoWorksheet fact _ = ⊤
 
--- when the head can't be read; want of memory may come at any time
+-- when the head of a sheet's part can't be read; want of memory may come at any time
 abbrev pub HeadFails : Reading → Reading → XlsxError → Type 0
 HeadFails old new error =
     FailsBy (HeadCause (events_of old) (ahead old)) old.source new.source error
 
--- the refusals that reading the head can have, whatever the package tells
+-- the refusals that reading the head of a sheet's part can have, whatever the package tells
 abbrev pub IsHeadError : XlsxError → Type 0
 IsHeadError OutOfMemory = ⊤
 IsHeadError Io = ⊤

@@ -17,3 +17,4 @@ pub mod StyleIds
 pub mod StyleSteps
 pub mod StyledValues
 pub mod WholeReadings
+pub mod Words

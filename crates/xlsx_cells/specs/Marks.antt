@@ -2,15 +2,14 @@
 use Rattle.std.specs.Prelude.{ℕ, zero, suc, List, [], ◌∷◌, Bool, if◌then◌else◌, codes, Option, Some}
 use Rattle.std.specs.Prelude.{None}
 use Rattle.std.specs.Str.{bytes_eq}
-use Rattle.attr_text.specs.Attributes.{local_name_of}
-use Rattle.part_events.specs.Event.{Tag, Event, start, end, leaf}
-use Rattle.part_events.specs.Section.{Element, element_of, is_named}
+use Rattle.attr_text.specs.Words.{local_name_of}
+use Rattle.part_events.specs.Words.{Tag, Event, start, end, leaf, Element, element_of, is_named}
 
--- a start is a cell
-abbrev pub is_cell : Tag → Bool
-is_cell tag = is_named (codes "c" ∷ []) tag
+-- a start of the element `c`, a cell
+abbrev pub is_cell_start : Tag → Bool
+is_cell_start tag = is_named (codes "c" ∷ []) tag
 
--- a start is a row
+-- a start of the element `row`
 abbrev pub is_row : Tag → Bool
 is_row tag = is_named (codes "row" ∷ []) tag
 
@@ -28,7 +27,7 @@ pub data Mark : Type 0 where
 abbrev pub marks_from : ℕ → List Event → List Mark
 marks_from within [] = []
 marks_from zero (start tag ∷ events) =
-    if is_cell tag then cell (element_of tag events) ∷ marks_from 1 events
+    if is_cell_start tag then cell (element_of tag events) ∷ marks_from 1 events
     else (if is_row tag then row_start tag ∷ marks_from 0 events else marks_from 0 events)
 marks_from (suc within) (start tag ∷ events) = marks_from (suc (suc within)) events
 marks_from zero (end name ∷ events) =
@@ -47,7 +46,7 @@ behind_marks (mark ∷ passed) before = behind_marks passed (mark ∷ before)
 
 -- the start of a cell that an event is
 abbrev pub cell_start : Event → Option Tag
-cell_start (start tag) = if is_cell tag then Some tag else None
+cell_start (start tag) = if is_cell_start tag then Some tag else None
 cell_start (end name) = None
 cell_start (leaf kind) = None
 

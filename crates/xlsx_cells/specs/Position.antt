@@ -2,17 +2,15 @@
 -- first.
 use Rattle.std.specs.Prelude.{◌≡◌, ℕ, suc, ◌+◌, nat_le, List, [], ◌∷◌, if◌then◌else◌, codes, Option}
 use Rattle.std.specs.Prelude.{Some, None, Result, Ok, Err}
-use Rattle.attr_text.specs.Attributes.{value_of}
-use Rattle.cell_refs.specs.A1.{corner, row_of}
+use Rattle.attr_text.specs.Words.{value_of}
+use Rattle.cell_refs.specs.Words.{corner, row_of}
 use Rattle.cell_refs.specs.declared.TheConstants.{MAX_ROWS, MAX_COLUMNS}
 use Rattle.cell_refs.specs.declared.error.RefError.TheVariants as ref
-use Rattle.part_events.specs.Event.{Tag}
-use Rattle.part_events.specs.Section.{Element}
-use Rattle.xlsx_sections.specs.Placed.{named_by}
-use Rattle.xlsx_sections.specs.Refusal.{Refusal, plain, misplaced}
+use Rattle.part_events.specs.Words.{Tag, Element}
+use Rattle.xlsx_sections.specs.Words.{named_by, Refusal, plain, misplaced}
 use Rattle.xlsx_cells.specs.Marks.{Mark, row_start, row_end, cell}
 
--- the row that the start of a row names, and the position that the start of a cell names
+-- the row that the start of a row names
 abbrev pub row_named : Tag → Result (Option ℕ) Refusal
 row_named tag = named_by row_of (value_of (codes "r") tag.attributes)
 
@@ -35,7 +33,7 @@ row_counter ends (row_start tag ∷ before) =
 row_counter ends (row_end ∷ before) = row_counter (suc ends) before
 row_counter ends (cell element ∷ before) = row_counter ends before
 
--- behind a cell that names its position, its column, and one more for it and each cell since; else
+-- the column behind a cell that names its position, one more for it and for each cell since; else
 -- what is found further back
 abbrev pub or_further_column : ℕ → Result (Option (ℕ × ℕ)) Refusal → ℕ → ℕ
 or_further_column since (Ok (Some position)) further = position.1 + 1 + since
@@ -66,7 +64,7 @@ or_implied before (Ok None) =
     implied_position (row_counter 0 before) (column_counter 0 before)
 or_implied before (Err refusal) = Err refusal
 
--- the position of a cell
+-- the position of a cell, which it names or which follows from the marks before it
 abbrev pub cell_position : List Mark → Tag → Result (ℕ × ℕ) Refusal
 cell_position before tag = or_implied before (position_named tag)
 
@@ -81,7 +79,7 @@ PassesMarks passes before (row_end ∷ passed) = PassesMarks passes (row_end ∷
 PassesMarks passes before (cell element ∷ passed) =
     passes before element × PassesMarks passes (cell element ∷ before) passed
 
--- no cell is passed
+-- no cell may be passed, so that the next one is taken
 abbrev pub NoCell : List Mark → Element → Type 0
 NoCell before element = ⊥
 

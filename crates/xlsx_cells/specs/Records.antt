@@ -1,7 +1,7 @@
 -- What single calls answer of a cell, apart from where its texts lie in memory.
 use Rattle.std.specs.Prelude.{ℕ, List, Option, option_map, string_bytes}
-use Rattle.cell_data.specs.CellValue.{CellValue, value_of_data_ref}
-use Rattle.xlsx_formulas.specs.Described.{Description, description_seen}
+use Rattle.cell_data.specs.Words.{CellValue, value_of_data_ref}
+use Rattle.xlsx_formulas.specs.Words.{Description, description_seen}
 use Rattle.xlsx_cells.specs.declared.cell_records.XlsxCellFormula.{XlsxCellFormula}
 use Rattle.xlsx_cells.specs.declared.cell_records.XlsxCellFormulaMetadataRecord.{
   XlsxCellFormulaMetadataRecord,

@@ -1,14 +1,12 @@
 -- What a sheet's data say.
 use Rattle.std.specs.Prelude.{ℕ, List, [], ◌∷◌, Bool, true, false, if◌then◌else◌, Result, Ok, Err}
 use Rattle.std.specs.Prelude.{Option, map}
-use Rattle.part_events.specs.Event.{Event}
-use Rattle.part_events.specs.Section.{Element}
+use Rattle.part_events.specs.Words.{Event, Element}
 use Rattle.cell_data.specs.CellValue as value
-use Rattle.cell_data.specs.CellValue.{CellValue}
-use Rattle.xlsx_sections.specs.Answers.{and_others}
-use Rattle.xlsx_sections.specs.Refusal.{Refusal, in_element}
-use Rattle.xlsx_values.specs.Value.{Grounds, cell_value, resolved}
-use Rattle.xlsx_formulas.specs.Formula.{FormulaText, formulas_in, cell_formula, behind_formulas}
+use Rattle.cell_data.specs.Words.{CellValue}
+use Rattle.xlsx_sections.specs.Words.{and_others, Refusal, in_element}
+use Rattle.xlsx_values.specs.Words.{ValueContext, cell_value, resolved}
+use Rattle.xlsx_formulas.specs.Words.{FormulaText, formulas_in, cell_formula, behind_formulas}
 use Rattle.xlsx_cells.specs.Marks.{Mark, row_start, row_end, cell, marks}
 use Rattle.xlsx_cells.specs.Position.{row_named, cell_position}
 
@@ -37,26 +35,26 @@ at_position (Ok position) (Err refusal) = Err refusal
 at_position (Err refusal) answer = Err refusal
 
 -- the position and the value of a cell
-abbrev pub placed_value : Grounds → List Mark → Element → Result ((ℕ × ℕ) × CellValue) Refusal
-placed_value grounds before element =
+abbrev pub placed_value : ValueContext → List Mark → Element → Result ((ℕ × ℕ) × CellValue) Refusal
+placed_value context before element =
     at_position (cell_position before element.tag)
-    (in_element element (cell_value grounds element.tag element.inside))
+    (in_element element (cell_value context element.tag element.inside))
 
--- its position and the formulas that it writes
+-- the position of a cell, and the formulas that it writes
 abbrev pub placed_formulas : List Mark → Element → Result ((ℕ × ℕ) × List FormulaText) Refusal
 placed_formulas before element =
     at_position (cell_position before element.tag)
     (in_element element (formulas_in element.inside))
 
 -- the values of a sheet's cells, in order
-abbrev pub values_in : Grounds → List Event → Result (List ((ℕ × ℕ) × CellValue)) Refusal
-values_in grounds inside = answers_from (placed_value grounds) [] (marks inside)
+abbrev pub values_in : ValueContext → List Event → Result (List ((ℕ × ℕ) × CellValue)) Refusal
+values_in context inside = answers_from (placed_value context) [] (marks inside)
 
--- and what formulas they write
+-- the formulas that a sheet's cells write, each list with the position of its cell, in order
 abbrev pub formulas_written : List Event → Result (List ((ℕ × ℕ) × List FormulaText)) Refusal
 formulas_written inside = answers_from placed_formulas [] (marks inside)
 
--- the formula of each cell, behind these
+-- the formula of each cell, behind the formulas of those before it
 abbrev pub formulas_along :
     List FormulaText → List ((ℕ × ℕ) × List FormulaText) → List ((ℕ × ℕ) × List ℕ)
 formulas_along earlier [] = []
@@ -64,7 +62,7 @@ formulas_along earlier (first ∷ others) =
     (first.0, cell_formula earlier first.0 first.1)
     ∷ formulas_along (behind_formulas first.1 earlier) others
 
--- a value counts unless it is empty, and so does a formula
+-- the value of a cell is empty, so that it doesn't count
 abbrev pub is_nothing : CellValue → Bool
 is_nothing value.nothing = true
 is_nothing (value.integer n) = false
@@ -76,7 +74,7 @@ is_nothing (value.time days kind is_1904) = false
 is_nothing (value.iso_time written) = false
 is_nothing (value.failure error) = false
 
--- a text is empty
+-- the text of a formula is empty, so that it doesn't count
 abbrev pub is_empty : List ℕ → Bool
 is_empty [] = true
 is_empty (b ∷ bs) = false
@@ -91,7 +89,7 @@ used_values (first ∷ others) =
 abbrev pub with_texts : List (List ℕ) → List ((ℕ × ℕ) × CellValue) → List ((ℕ × ℕ) × CellValue)
 with_texts strings values = map (λ own. (own.0, resolved strings own.1)) values
 
--- the formulas that count
+-- the formulas that count among those of cells: those that aren't empty
 abbrev pub used_formulas : List ((ℕ × ℕ) × List ℕ) → List ((ℕ × ℕ) × List ℕ)
 used_formulas [] = []
 used_formulas (first ∷ others) =

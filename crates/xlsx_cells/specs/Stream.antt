@@ -1,32 +1,28 @@
 -- A stream of cells: where it stands, and what its steps do.
-use Rattle.std.specs.Prelude.{◌≡◌, ◌⊎◌, ℕ, suc, ◌≤◌, ◌<◌, List, [], ◌∷◌, length, Bool, ◌||◌}
-use Rattle.std.specs.Prelude.{true, false, Option, Some, None, Ok, Err, string_bytes}
+use Rattle.std.specs.Prelude.{◌≡◌, ◌⊎◌, ℕ, suc, ◌≤◌, ◌<◌, List, [], ◌∷◌, length, Bool, ◌||◌, true}
+use Rattle.std.specs.Prelude.{false, Option, Some, None, Ok, Err, string_bytes}
 use Rattle.std.specs.List.{last_or}
 use Rattle.cell_refs.specs.declared.TheConstants.{MAX_ROWS, MAX_COLUMNS}
 use Rattle.cell_refs.specs.declared.dimensions.Dimensions.{Dimensions}
-use Rattle.part_events.specs.Event.{Tag, Event}
-use Rattle.part_events.specs.Reading.{Reading, IsReading, ahead}
-use Rattle.part_events.specs.Section.{Element}
-use Rattle.part_events.specs.Walk.{section_ahead, is_closed_ahead, behind_section, section_end}
-use Rattle.cell_data.specs.CellValue.{value_of_data_ref}
+use Rattle.part_events.specs.Words.{Tag, Event, Reading, IsReading, ahead, Element, section_ahead}
+use Rattle.part_events.specs.Words.{is_closed_ahead, behind_section, section_end}
+use Rattle.cell_data.specs.Words.{value_of_data_ref}
 use Rattle.cell_data.specs.declared.value.DataRef.{DataRef}
 use Rattle.cell_data.specs.declared.value.DataRef.TheVariants.{Empty}
 use Rattle.xlsx_error.specs.declared.error.XlsxError.{XlsxError}
 use Rattle.xlsx_error.specs.declared.error.XlsxError.TheVariants.{Failed}
-use Rattle.xlsx_sections.specs.Elements.{KeepsElements}
-use Rattle.xlsx_sections.specs.PartSection.{PartSection, SectionFails, inside_of}
-use Rattle.xlsx_sections.specs.Refusal.{Refusal, in_element}
-use Rattle.xlsx_values.specs.Book.{grounds_of}
-use Rattle.xlsx_values.specs.Value.{Grounds, cell_value}
-use Rattle.xlsx_formulas.specs.Formula.{FormulaText, formulas_in, cell_formula, behind_formulas}
-use Rattle.xlsx_formulas.specs.Formula.{covers_in, covered}
-use Rattle.xlsx_formulas.specs.Kept.{AreMasters, last_seen, covers_seen, text_of_formula}
-use Rattle.xlsx_formulas.specs.declared.masters.Masters.{Masters}
+use Rattle.xlsx_sections.specs.Words.{KeepsElements, PartSection, SectionFails, inside_of, Refusal}
+use Rattle.xlsx_sections.specs.Words.{in_element}
+use Rattle.xlsx_values.specs.Words.{context_of, ValueContext, cell_value}
+use Rattle.xlsx_formulas.specs.Words.{FormulaText, formulas_in, cell_formula, behind_formulas}
+use Rattle.xlsx_formulas.specs.Words.{covers_in, covered, AreMasters, last_seen, covers_seen}
+use Rattle.xlsx_formulas.specs.Words.{text_of_formula}
+use Rattle.xlsx_formulas.specs.declared.shared_formulas.SharedFormulas.{SharedFormulas}
 use Rattle.xlsx_cells.specs.Children.{kept_by, StandsAtElement, ReadsCellFormulas}
 use Rattle.xlsx_cells.specs.Counting.{AreKept}
 use Rattle.xlsx_cells.specs.Ends.{end_in_contents, end_in_data}
 use Rattle.xlsx_cells.specs.Finding.{IsStepRefused, IsCutOff, TakesElement}
-use Rattle.xlsx_cells.specs.Marks.{Mark, cell, is_cell, marks, behind_marks}
+use Rattle.xlsx_cells.specs.Marks.{Mark, cell, is_cell_start, marks, behind_marks}
 use Rattle.xlsx_cells.specs.Position.{cell_position, PassesMarks, NoCell}
 use Rattle.xlsx_cells.specs.StyleIds.{id_named}
 use Rattle.xlsx_cells.specs.declared.children.Asked.{Asked}
@@ -44,7 +40,7 @@ pub record Stream : Type 0 where
   pub reading : Reading
   pub base : ℕ
   pub counters : Counters
-  pub masters : Masters
+  pub masters : SharedFormulas
   pub is_done : Bool
   pub is_failed : Bool
 
@@ -59,20 +55,20 @@ stream reading sheet = record {
   is_failed = sheet.failed;
 }
 
--- It may be asked for the next cell. Behind a refusal nothing has to hold, and behind the end of
--- the data reading may stand outside them.
+-- A stream may be asked for the next cell. Behind a refusal nothing has to hold, and behind the end
+-- of the data reading may stand outside them.
 pub record IsStreaming (s : Stream) : Type 0 where
   pub reading : s.is_failed ≡ false → IsReading s.reading
   pub within : s.is_failed ≡ false → s.is_done ≡ false → s.base ≤ length s.reading.names
 
--- it stands in the sheet's data, outside cells, and no call was refused
+-- a stream stands in the sheet's data, outside cells, and no call was refused
 pub record IsGoing (s : Stream) : Type 0 where
   pub reading : IsReading s.reading
   pub within : s.base ≤ length s.reading.names
   pub done : s.is_done ≡ false
   pub failed : s.is_failed ≡ false
 
--- what is ahead of it in the sheet's data, and whether these are closed
+-- the events that a stream has ahead in the sheet's data
 abbrev pub data_ahead : Stream → List Event
 data_ahead s = section_ahead s.base s.reading
 
@@ -84,45 +80,45 @@ marks_ahead s = marks (data_ahead s)
 abbrev pub are_closed_ahead : Stream → Bool
 are_closed_ahead s = is_closed_ahead s.base s.reading
 
--- what it keeps is what looking back over these marks and these formulas finds
+-- what a stream keeps is what looking back over these marks and these formulas finds
 pub record StandsBehind (before : List Mark) (earlier : List FormulaText) (s : Stream) : Type 0
   where
     pub counters : AreKept before s.counters
     pub masters : AreMasters earlier s.masters
 
 -- why the start of a cell is refused, whatever stands in it
-abbrev pub IsHeadRefused : Wants → Grounds → Tag → Refusal → Type 0
-IsHeadRefused wants grounds tag refusal =
+abbrev pub IsHeadRefused : Wants → ValueContext → Tag → Refusal → Type 0
+IsHeadRefused wants context tag refusal =
     ((wants.values ≡ true)
-    × ((inside : List Event) → cell_value grounds tag inside ≡ Err refusal))
+    × ((inside : List Event) → cell_value context tag inside ≡ Err refusal))
     ⊎ ((wants.styles ≡ true) × (id_named tag ≡ Err refusal))
 
 -- why what stands in a cell is refused
-abbrev pub IsContentRefused : Wants → Grounds → Tag → PartSection → Refusal → Type 0
-IsContentRefused wants grounds tag s refusal =
-    ((wants.values ≡ true) × (cell_value grounds tag (inside_of s) ≡ Err refusal))
+abbrev pub IsContentRefused : Wants → ValueContext → Tag → PartSection → Refusal → Type 0
+IsContentRefused wants context tag s refusal =
+    ((wants.values ≡ true) × (cell_value context tag (inside_of s) ≡ Err refusal))
     ⊎ (((wants.formulas ≡ true) × (formulas_in (inside_of s) ≡ Err refusal))
     ⊎ ((wants.styles ≡ true) × (id_named tag ≡ Err refusal)))
 
 -- when the cell at whose start a reader stands can't be read
-abbrev pub CellFails : Wants → Grounds → Tag → Reading → Reading → XlsxError → Type 0
-CellFails wants grounds tag old new error =
-    SectionFails (end_in_contents wants tag) (IsContentRefused wants grounds tag)
+abbrev pub CellFails : Wants → ValueContext → Tag → Reading → Reading → XlsxError → Type 0
+CellFails wants context tag old new error =
+    SectionFails (end_in_contents wants tag) (IsContentRefused wants context tag)
     (length old.names) old new error
 
 -- why a cell is refused, by the marks before it
-abbrev pub IsCellRefused : Wants → Grounds → List Mark → Element → Refusal → Type 0
-IsCellRefused wants grounds before element refusal =
+abbrev pub IsCellRefused : Wants → ValueContext → List Mark → Element → Refusal → Type 0
+IsCellRefused wants context before element refusal =
     (cell_position before element.tag ≡ Err refusal)
     ⊎ (((wants.values ≡ true)
-    × (in_element element (cell_value grounds element.tag element.inside) ≡ Err refusal))
+    × (in_element element (cell_value context element.tag element.inside) ≡ Err refusal))
     ⊎ (((wants.formulas ≡ true)
     × (in_element element (formulas_in element.inside) ≡ Err refusal))
     ⊎ ((wants.styles ≡ true)
     × (in_element element (id_named element.tag) ≡ Err refusal))))
 
--- when a step is refused that passes such cells: after a refusal, or where the next cell that it
--- takes can't be read
+-- when a step is refused that may pass cells: after a refusal, or where the next cell that it takes
+-- can't be read
 abbrev pub PassingFails :
     (List Mark → Element → Type 0) → (List Mark → Element → Refusal → Type 0) → Wants → Stream →
     Reading → XlsxError → Type 0
@@ -134,23 +130,23 @@ PassingFails passes refused wants old new error =
     × IsCutOff passes old.counters old.base old.reading error
 
 -- why the next cell is refused
-abbrev pub NextCellFails : Wants → Grounds → Stream → Reading → XlsxError → Type 0
-NextCellFails wants grounds old new error =
-    PassingFails NoCell (IsCellRefused wants grounds) wants old new error
+abbrev pub NextCellFails : Wants → ValueContext → Stream → Reading → XlsxError → Type 0
+NextCellFails wants context old new error =
+    PassingFails NoCell (IsCellRefused wants context) wants old new error
 
--- behind the end of the data and behind a refusal nothing is read
+-- a step reads nothing behind the end of the data and behind a refusal
 abbrev pub RestsAtEnd : Stream → Stream → Type 0
 RestsAtEnd old new = (old.is_failed || old.is_done) ≡ true → new ≡ old
 
 -- what is read of a cell, seen by the marks before it; `kept` are those of its formulas that are
 -- kept
 pub record IsRead
-    (wants : Wants) (keeps : Bool) (grounds : Grounds) (read : CellRead) (before : List Mark)
+    (wants : Wants) (keeps : Bool) (context : ValueContext) (read : CellRead) (before : List Mark)
     (element : Element) (kept : List FormulaText) : Type 0 where
   pub placed : cell_position before element.tag ≡ Ok read.pos
   pub valued :
       wants.values ≡ true →
-      cell_value grounds element.tag element.inside ≡ Ok (value_of_data_ref read.value)
+      cell_value context element.tag element.inside ≡ Ok (value_of_data_ref read.value)
   pub styled : wants.styles ≡ true → id_named element.tag ≡ Ok read.style_id
   pub written : List FormulaText
   pub listed : wants.formulas ≡ true → formulas_in element.inside ≡ Ok written
@@ -168,21 +164,21 @@ pub record LacksUnwanted (wants : Wants) (read : CellRead) : Type 0 where
 -- What was read of a cell at this place, at whose start a reader stands. `before` and `behind` are
 -- the masters.
 pub record ReadsCell
-    (asked : Asked) (place : ℕ × ℕ) (r : Reading) (before behind : Masters) (read : CellRead)
+    (asked : Asked) (place : ℕ × ℕ) (r : Reading) (before behind : SharedFormulas) (read : CellRead)
     : Type 0 where
   pub pos : read.pos ≡ place
   pub value :
-      r.source.is_told ≡ true → asked.wants.values ≡ true → (element : Element) →
+      r.source.is_visible ≡ true → asked.wants.values ≡ true → (element : Element) →
       StandsAtElement element r →
-      cell_value (grounds_of asked.book) element.tag element.inside
+      cell_value (context_of asked.book) element.tag element.inside
       ≡ Ok (value_of_data_ref read.value)
   pub formula :
-      r.source.is_told ≡ true → asked.wants.formulas ≡ true → (element : Element) →
+      r.source.is_visible ≡ true → asked.wants.formulas ≡ true → (element : Element) →
       StandsAtElement element r →
       ReadsCellFormulas asked.keeps_masters element.inside before
       (record { masters = behind; last = last_seen read.formula })
   pub covers :
-      r.source.is_told ≡ true → asked.wants.formulas ≡ true → (element : Element) →
+      r.source.is_visible ≡ true → asked.wants.formulas ≡ true → (element : Element) →
       StandsAtElement element r → covers_seen read.formula ≡ covers_in element.inside
   pub same : asked.wants.formulas ≡ false → behind ≡ before
   pub styled :
@@ -208,7 +204,7 @@ seen_with_text own = record {
   style_id = own.style_id;
 }
 
--- the same where it isn't written out yet
+-- a cell with the text of its formula, which isn't written out yet
 abbrev pub seen_with_formula : CellWithFormula → WrittenCell
 seen_with_formula own = record {
   pos = own.pos;
@@ -218,14 +214,14 @@ seen_with_formula own = record {
   style_id = own.style_id;
 }
 
--- what is read of it with the text of its formula, seen by the formulas before it, too
+-- what is read of a cell with the text of its formula, seen by the formulas before it, too
 pub record IsWritten
-    (wants : Wants) (grounds : Grounds) (earlier : List FormulaText) (own : WrittenCell)
+    (wants : Wants) (context : ValueContext) (earlier : List FormulaText) (own : WrittenCell)
     (before : List Mark) (element : Element) (kept : List FormulaText) : Type 0 where
   pub placed : cell_position before element.tag ≡ Ok own.pos
   pub valued :
       wants.values ≡ true →
-      cell_value grounds element.tag element.inside ≡ Ok (value_of_data_ref own.value)
+      cell_value context element.tag element.inside ≡ Ok (value_of_data_ref own.value)
   pub styled : wants.styles ≡ true → id_named element.tag ≡ Ok own.style_id
   pub listed : wants.formulas ≡ true → formulas_in element.inside ≡ Ok kept
   pub found :
@@ -241,7 +237,7 @@ pub record LacksUnwantedText (wants : Wants) (own : WrittenCell) : Type 0 where
   pub covers : wants.formulas ≡ false → own.covers ≡ covered own.pos None
   pub style : wants.styles ≡ false → own.style_id ≡ 0
 
--- behind such marks a cell was taken, of which a fact holds
+-- behind marks that may be passed a cell was taken, of which a fact holds
 pub record TakesCell
     (passes : List Mark → Element → Type 0) (before : List Mark) (earlier : List FormulaText)
     (old new : Stream) (fact : List Mark → Element → List FormulaText → Type 0) : Type 0 where
@@ -254,7 +250,8 @@ pub record TakesCell
       StandsBehind (cell element ∷ behind_marks takes.front.passed before)
       (behind_formulas kept earlier) new
 
--- no cell is left behind such marks, the sheet's data are closed, and their end was taken
+-- no cell is left behind marks that may be passed, the sheet's data are closed, and their end was
+-- taken
 pub record EndsData
     (passes : List Mark → Element → Type 0) (before : List Mark) (old new : Stream) : Type 0 where
   pub rows : PassesMarks passes before (marks_ahead old)
@@ -262,7 +259,7 @@ pub record EndsData
   pub left : behind_section old.base old.reading ≡ ahead new.reading
   pub ends : new.reading.at ≡ suc (section_end old.base old.reading)
 
--- What a step answers that passes such cells; `fact` says what its answer is of the cell.
+-- What a step answers that may pass cells; `fact` says what its answer is of the cell.
 abbrev pub TakesEach :
     {A : Type 0} → (List Mark → Element → Type 0) →
     (A → List Mark → Element → List FormulaText → Type 0) → List Mark → List FormulaText →
@@ -272,17 +269,17 @@ TakesEach passes fact before earlier None old new =
 TakesEach passes fact before earlier (Some own) old new =
     TakesCell passes before earlier old new (fact own)
 
--- a cell at this position was taken, and it stands behind it
+-- a cell at this position was taken, and the stream stands behind it
 pub record PassesCell (pos : ℕ × ℕ) (old new : Stream) : Type 0 where
   pub going : IsGoing old
   pub goes_on : IsGoing new
   pub base : new.base ≡ old.base
   pub further : old.reading.at < new.reading.at
-  pub elements : KeepsElements is_cell old.base old.reading new.reading
+  pub elements : KeepsElements is_cell_start old.base old.reading new.reading
   pub row : pos.0 < MAX_ROWS
   pub column : pos.1 < MAX_COLUMNS
 
--- where it stands by its answer, whose position is told by `position`
+-- where a stream stands behind a step by its answer, whose position is told by `position`
 abbrev pub StandsTo : {A : Type 0} → (A → ℕ × ℕ) → Option A → Stream → Stream → Type 0
 StandsTo position None old new = new.is_done ≡ true
 StandsTo position (Some own) old new = PassesCell (position own) old new

@@ -1,13 +1,12 @@
 -- The style ids of a sheet's cells.
 use Rattle.std.specs.Prelude.{◌≡◌, ◌⊎◌, ℕ, List, [], Result, Ok, Err, Option, filter, codes}
 use Rattle.std.specs.Option.{unwrap_or}
-use Rattle.attr_text.specs.Attributes.{value_of}
+use Rattle.attr_text.specs.Words.{value_of}
 use Rattle.attr_text.specs.declared.fault.AttrFault.{AttrFault}
-use Rattle.part_events.specs.Event.{Tag, Event}
-use Rattle.part_events.specs.Section.{Element}
-use Rattle.cell_styles.specs.StyleMap.{StyledCell, is_explicit}
-use Rattle.xlsx_sections.specs.Refusal.{Refusal, plain, lookup_fault, in_element}
-use Rattle.xlsx_values.specs.Value.{style_number}
+use Rattle.part_events.specs.Words.{Tag, Event, Element}
+use Rattle.cell_styles.specs.Words.{StyledCell, is_explicit}
+use Rattle.xlsx_sections.specs.Words.{Refusal, plain, lookup_fault, in_element}
+use Rattle.xlsx_values.specs.Words.{style_number}
 use Rattle.xlsx_cells.specs.Marks.{Mark, marks}
 use Rattle.xlsx_cells.specs.Position.{cell_position}
 use Rattle.xlsx_cells.specs.Sheet.{answers_from}
@@ -32,7 +31,7 @@ abbrev pub placed_id : List Mark → Element → Result StyledCell Refusal
 placed_id before element =
     with_id (cell_position before element.tag) (in_element element (id_named element.tag))
 
--- why they are refused
+-- why the position or the style id of a cell is refused
 abbrev pub IsIdRefused : List Mark → Element → Refusal → Type 0
 IsIdRefused before element refusal =
     (cell_position before element.tag ≡ Err refusal)

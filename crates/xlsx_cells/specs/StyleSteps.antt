@@ -1,11 +1,10 @@
 -- How the next cell with a style id that counts is taken: one above 0 and below the number of
 -- styles. Cells without one are passed.
 use Rattle.std.specs.Prelude.{◌≡◌, ℕ, List, [], false, Ok}
-use Rattle.part_events.specs.Reading.{Reading}
-use Rattle.part_events.specs.Section.{Element}
+use Rattle.part_events.specs.Words.{Reading, Element}
 use Rattle.xlsx_error.specs.declared.error.XlsxError.{XlsxError}
-use Rattle.cell_styles.specs.StyleMap.{StyledCell, is_explicit}
-use Rattle.xlsx_formulas.specs.Formula.{FormulaText}
+use Rattle.cell_styles.specs.Words.{StyledCell, is_explicit}
+use Rattle.xlsx_formulas.specs.Words.{FormulaText}
 use Rattle.xlsx_cells.specs.CellsReader.{styles_alone}
 use Rattle.xlsx_cells.specs.Marks.{Mark}
 use Rattle.xlsx_cells.specs.Stream.{Stream, PassingFails}
@@ -24,7 +23,7 @@ IsStyled own before element kept = (placed_id before element ≡ Ok own) × (kep
 abbrev pub styled_position : StyledCell → ℕ × ℕ
 styled_position own = (own.0, own.1)
 
--- when such a step is refused
+-- when a step is refused that takes the next cell with a style id that counts
 abbrev pub StyledFails : ℕ → Stream → Reading → XlsxError → Type 0
 StyledFails count old new error =
     PassingFails (IsUnstyled count) IsIdRefused styles_alone old new error

@@ -1,11 +1,8 @@
 ghost use Rattle.std.specs.Prelude.{◌≡◌, List, true, false, Ok, Err, IfOk, IfErr};
 ghost use Rattle.std.specs.Option.{option_copied, unwrap_or};
-ghost use Rattle.part_events.specs.Event.{Event, tag_of};
-ghost use Rattle.part_events.specs.Reading.{IsReadingElement, ReadsElement};
-ghost use Rattle.part_events.specs.Section.{Element};
+ghost use Rattle.part_events.specs.Words.{Event, tag_of, IsReadingElement, ReadsElement, Element};
 ghost use Rattle.xlsx_error.specs.declared.error.XlsxError.TheVariants.{Io};
-ghost use Rattle.xlsx_values.specs.Book.{kind_of, grounds_of};
-ghost use Rattle.xlsx_values.specs.Value.{cell_value, value_in, style_number};
+ghost use Rattle.xlsx_values.specs.Words.{kind_of, context_of, cell_value, value_in, style_number};
 ghost use Rattle.xlsx_cells.specs.Children.{StandsAtElement};
 ghost use Rattle.xlsx_cells.specs.Counting.{IsStartRefused, IsRefused, IsPositionError};
 ghost use Rattle.xlsx_cells.specs.Ends.{kind_of_cell, reads_children};
@@ -20,7 +17,7 @@ use cell_refs::Dimensions;
 use part_events::{Package, StartTag, XlReader};
 use std::alloc::Global;
 use xlsx_error::XlsxError;
-use xlsx_formulas::{CellFormula, Formula, Masters};
+use xlsx_formulas::{CellFormula, Formula, SharedFormulas};
 use xlsx_sections::{skip_element_in, start_tag};
 use xlsx_values::{CellType, cell_type, format_of_style, style_number};
 
@@ -112,8 +109,8 @@ fn start_of(
 ) -> Result<CellStart, XlsxError>
     ensures pos { IfOk result (λ start. start.pos ≡ pos) }
     ensures value { asked.entry.wants.values ≡ true → IfOk result (λ start.
-        (inside : List Event) → cell_value (grounds_of asked.entry.book) (tag_of tag.entry) inside
-        ≡ value_in (grounds_of asked.entry.book) start.format (kind_of start.typ) inside) }
+        (inside : List Event) → cell_value (context_of asked.entry.book) (tag_of tag.entry) inside
+        ≡ value_in (context_of asked.entry.book) start.format (kind_of start.typ) inside) }
     ensures typ { asked.entry.wants.values ≡ true →
         IfOk result (λ start. kind_of_cell (tag_of tag.entry) ≡ kind_of start.typ) }
     ensures styled { asked.entry.wants.styles ≡ true →
@@ -121,7 +118,7 @@ fn start_of(
     ensures unstyled { asked.entry.wants.styles ≡ false →
         IfOk result (λ start. start.style_id ≡ 0) }
     ensures err { IfErr result (IsStartRefused (IsHeadRefused asked.entry.wants
-        (grounds_of asked.entry.book) (tag_of tag.entry))) }
+        (context_of asked.entry.book) (tag_of tag.entry))) }
     ensures kind { IfErr result IsCellError }
     ensures plain { asked.entry.wants.values ≡ false → IfErr result IsPositionError }
 {
@@ -142,14 +139,14 @@ pub fn read_cell<P: Package>(
     xml: &mut XlReader<P>,
     asked: Asked<'_>,
     pos: (u32, u32),
-    masters: &mut Masters,
+    masters: &mut SharedFormulas,
 ) -> Result<CellRead, XlsxError>
     requires element { IsReadingElement xml.old }
     ensures reads { ReadsElement Io result xml.old xml.new }
     ensures cell { IfOk result (ReadsCell asked.entry pos xml.old masters.old masters.new) }
-    ensures err { let grounds = grounds_of asked.entry.book in
+    ensures err { let context = context_of asked.entry.book in
         IfErr result (λ error. (element : Element) → StandsAtElement element xml.old →
-        CellFails asked.entry.wants grounds element.tag xml.old xml.new error) }
+        CellFails asked.entry.wants context element.tag xml.old xml.new error) }
     ensures kind { IfErr result IsCellError }
     ensures plain { reads_children asked.entry.wants ≡ false → IfErr result IsStyledError }
 {

@@ -1,10 +1,9 @@
 ghost use Rattle.std.specs.Prelude.{◌≡◌, map, string_bytes, true, false, IfOk, IfErr, IfSome};
 ghost use Rattle.std.specs.Prelude.{length, option_map, slice_get};
-ghost use Rattle.part_events.specs.Lending.{LentFails};
-ghost use Rattle.part_events.specs.Reading.{IsReading};
-ghost use Rattle.cell_styles.specs.StyleMap.{is_explicit};
+ghost use Rattle.part_events.specs.Words.{LentFails, IsReading};
+ghost use Rattle.cell_styles.specs.Words.{is_explicit};
 ghost use Rattle.xlsx_error.specs.declared.error.XlsxError.TheVariants.{Io};
-ghost use Rattle.xlsx_values.specs.Book.{grounds_of};
+ghost use Rattle.xlsx_values.specs.Words.{context_of};
 ghost use Rattle.xlsx_cells.specs.CellErrors.{IsStreamError, IsStyledStreamError};
 ghost use Rattle.xlsx_cells.specs.CellsReader.{written_text};
 ghost use Rattle.xlsx_cells.specs.Head.{IsHeadError};
@@ -23,7 +22,7 @@ use cell_styles::Style;
 use part_events::{Package, XlReader};
 use xlsx_error::XlsxError;
 use xlsx_formulas::metadata_of;
-use xlsx_values::Book;
+use xlsx_values::ValueContext;
 
 /// A text that isn't empty.
 fn written_text(text: String) -> Option<String>
@@ -77,13 +76,12 @@ impl<P: Package, S: Drop> Drop for XlsxCellReader<'_, P, S> {
 }
 
 impl<'a, P: Package> XlsxCellReader<'a, P> {
-    ghost use Rattle.xlsx_cells.specs.CellsReader.{stream_by, reference_of, grounds_by, area_held};
+    ghost use Rattle.xlsx_cells.specs.CellsReader.{stream_by, reference_of, context_by, area_held};
     ghost use Rattle.xlsx_cells.specs.CellsReader.{KeepsHold, EntersCells, EnterCellsFails};
     ghost use Rattle.xlsx_cells.specs.CellsReader.{IsValued, IsFormula, values_alone};
-    ghost use Rattle.xlsx_cells.specs.CellsReader.{formulas_alone, styles_held};
-    ghost use Rattle.xlsx_cells.specs.CellsReader.{values_and_styles, values_and_formulas};
-    ghost use Rattle.xlsx_cells.specs.CellsReader.{IsValuedStyle, IsValuedFormula};
-    ghost use Rattle.xlsx_cells.specs.CellsReader.{IsValuedMetadata};
+    ghost use Rattle.xlsx_cells.specs.CellsReader.{formulas_alone, styles_held, values_and_styles};
+    ghost use Rattle.xlsx_cells.specs.CellsReader.{values_and_formulas, IsValuedStyle};
+    ghost use Rattle.xlsx_cells.specs.CellsReader.{IsValuedFormula, IsValuedMetadata};
     ghost use Rattle.xlsx_cells.specs.StyleSteps.{IsUnstyled, IsStyled, styled_position};
     ghost use Rattle.xlsx_cells.specs.StyleSteps.{StyledFails};
 
@@ -107,7 +105,7 @@ impl<'a, P: Package> XlsxCellReader<'a, P> {
         requires first { xml.old.at ≡ 0 }
         ensures same_reference { IfOk result (λ reader.
             reference_of reader ≡ xml.entry.ghost_name) }
-        ensures grounds { IfOk result (λ reader. grounds_by reader ≡ (record {
+        ensures context { IfOk result (λ reader. context_by reader ≡ (record {
           strings = map string_bytes strings.now;
           formats = formats.now;
           is_1904 = is_1904;
@@ -152,7 +150,7 @@ impl<'a, P: Package> XlsxCellReader<'a, P> {
         requires { IsStreaming (stream xml.old sheet) }
         ensures same_reference { reference_of result ≡ xml.entry.ghost_name }
         ensures same { result.xml.now ≡ xml.old }
-        ensures grounds { grounds_by result ≡ (record {
+        ensures context { context_by result ≡ (record {
           strings = map string_bytes strings.now;
           formats = formats.now;
           is_1904 = is_1904;
@@ -190,16 +188,16 @@ impl<'a, P: Package> XlsxCellReader<'a, P> {
     /// The shared string at this index, counted from 0.
     pub fn shared_string(&self, index: usize) -> Option<&'a str>
         ensures { option_map (λ text. text.now) result
-            ≡ slice_get (grounds_by self.now).strings index }
+            ≡ slice_get (context_by self.now).strings index }
     {
         Some(self.strings.get(index)?.as_str())
     }
 
     /// What the values of cells rest on.
-    fn book(&self) -> Book<'a>
-        ensures { grounds_of result ≡ grounds_by self.now }
+    fn book(&self) -> ValueContext<'a>
+        ensures { context_of result ≡ context_by self.now }
     {
-        Book {
+        ValueContext {
             strings: self.strings,
             formats: self.formats,
             is_1904: self.is_1904,
@@ -209,7 +207,7 @@ impl<'a, P: Package> XlsxCellReader<'a, P> {
     /// What is asked for by a call that wants this.
     fn asked(&self, wants: Wants, keeps_masters: bool) -> Asked<'a>
         ensures wants { result.wants ≡ wants }
-        ensures grounds { grounds_of result.book ≡ grounds_by self.now }
+        ensures context { context_of result.book ≡ context_by self.now }
         ensures keeps { result.keeps_masters ≡ keeps_masters }
     {
         Asked {
@@ -240,9 +238,9 @@ impl<'a, P: Package> XlsxCellReader<'a, P> {
         requires { IsStreaming (stream_by self.old) }
         ensures hold { KeepsHold self.old self.new }
         ensures step { TakesStep (λ own. own.pos) result (stream_by self.old) (stream_by self.new) }
-        ensures takes { TakesNext NoCell (λ earlier. IsValued (grounds_by self.old)) result
+        ensures takes { TakesNext NoCell (λ earlier. IsValued (context_by self.old)) result
             (stream_by self.old) (stream_by self.new) }
-        ensures err { IfErr result (NextCellFails values_alone (grounds_by self.old)
+        ensures err { IfErr result (NextCellFails values_alone (context_by self.old)
             (stream_by self.old) (stream_by self.new).reading) }
         ensures kind { IfErr result IsStreamError }
     {
@@ -267,7 +265,7 @@ impl<'a, P: Package> XlsxCellReader<'a, P> {
         ensures step { TakesStep (λ own. own.pos) result (stream_by self.old) (stream_by self.new) }
         ensures takes { TakesNext NoCell IsFormula result
             (stream_by self.old) (stream_by self.new) }
-        ensures err { IfErr result (NextCellFails formulas_alone (grounds_by self.old)
+        ensures err { IfErr result (NextCellFails formulas_alone (context_by self.old)
             (stream_by self.old) (stream_by self.new).reading) }
         ensures kind { IfErr result IsStreamError }
     {
@@ -288,9 +286,9 @@ impl<'a, P: Package> XlsxCellReader<'a, P> {
         ensures hold { KeepsHold self.old self.new }
         ensures step { TakesStep (λ own. own.0.pos) result
             (stream_by self.old) (stream_by self.new) }
-        ensures takes { TakesNext NoCell (λ earlier. IsValuedStyle (grounds_by self.old)) result
+        ensures takes { TakesNext NoCell (λ earlier. IsValuedStyle (context_by self.old)) result
             (stream_by self.old) (stream_by self.new) }
-        ensures err { IfErr result (NextCellFails values_and_styles (grounds_by self.old)
+        ensures err { IfErr result (NextCellFails values_and_styles (context_by self.old)
             (stream_by self.old) (stream_by self.new).reading) }
         ensures kind { IfErr result IsStreamError }
     {
@@ -315,9 +313,9 @@ impl<'a, P: Package> XlsxCellReader<'a, P> {
         requires { IsStreaming (stream_by self.old) }
         ensures hold { KeepsHold self.old self.new }
         ensures step { TakesStep (λ own. own.pos) result (stream_by self.old) (stream_by self.new) }
-        ensures takes { TakesNext NoCell (IsValuedFormula (grounds_by self.old)) result
+        ensures takes { TakesNext NoCell (IsValuedFormula (context_by self.old)) result
             (stream_by self.old) (stream_by self.new) }
-        ensures err { IfErr result (NextCellFails values_and_formulas (grounds_by self.old)
+        ensures err { IfErr result (NextCellFails values_and_formulas (context_by self.old)
             (stream_by self.old) (stream_by self.new).reading) }
         ensures kind { IfErr result IsStreamError }
     {
@@ -349,9 +347,9 @@ impl<'a, P: Package> XlsxCellReader<'a, P> {
         requires { IsStreaming (stream_by self.old) }
         ensures hold { KeepsHold self.old self.new }
         ensures step { TakesStep (λ own. own.pos) result (stream_by self.old) (stream_by self.new) }
-        ensures takes { TakesNext NoCell (λ earlier. IsValuedMetadata (grounds_by self.old)) result
+        ensures takes { TakesNext NoCell (λ earlier. IsValuedMetadata (context_by self.old)) result
             (stream_by self.old) (stream_by self.new) }
-        ensures err { IfErr result (NextCellFails values_and_formulas (grounds_by self.old)
+        ensures err { IfErr result (NextCellFails values_and_formulas (context_by self.old)
             (stream_by self.old) (stream_by self.new).reading) }
         ensures kind { IfErr result IsStreamError }
     {

@@ -1,18 +1,13 @@
 ghost use Rattle.std.specs.Prelude.{◌≡◌, true, false, Ok, IfOk, OnOk, IfErr};
-ghost use Rattle.part_events.specs.Event.{tag_of};
-ghost use Rattle.part_events.specs.Reading.{IsReadingElement, ReadsElement};
-ghost use Rattle.part_events.specs.Section.{Element};
+ghost use Rattle.part_events.specs.Words.{tag_of, IsReadingElement, ReadsElement, Element};
 ghost use Rattle.xlsx_error.specs.declared.error.XlsxError.TheVariants.{Io};
 ghost use Rattle.cell_data.specs.declared.format.CellFormat.{CellFormat};
-ghost use Rattle.xlsx_values.specs.CellType.{CellKind};
-ghost use Rattle.xlsx_values.specs.Value.{Grounds};
-ghost use Rattle.xlsx_sections.specs.Answers.{or_earlier};
-ghost use Rattle.xlsx_formulas.specs.Formula.{covers_of};
-ghost use Rattle.xlsx_formulas.specs.Kept.{last_seen, covers_seen};
+ghost use Rattle.xlsx_values.specs.Words.{CellKind, ValueContext as ContextSaid};
+ghost use Rattle.xlsx_sections.specs.Words.{or_earlier};
+ghost use Rattle.xlsx_formulas.specs.Words.{covers_of, last_seen, covers_seen};
 ghost use Rattle.xlsx_cells.specs.Children.{StandsAtElement, value_kept, IsNamedAs, value_name};
-ghost use Rattle.xlsx_cells.specs.Children.{ChildFails, ChildFailsBy, ContentsFail};
-ghost use Rattle.xlsx_cells.specs.Children.{LastStep, ReadsFormula, child_said};
-ghost use Rattle.xlsx_cells.specs.Children.{TakesChild, ReadsContents};
+ghost use Rattle.xlsx_cells.specs.Children.{ChildFails, ChildFailsBy, ContentsFail, LastStep};
+ghost use Rattle.xlsx_cells.specs.Children.{ReadsFormula, child_said, TakesChild, ReadsContents};
 ghost use Rattle.xlsx_cells.specs.declared.children.ChildName.TheVariants.{Formula};
 ghost use Rattle.xlsx_cells.specs.CellErrors.{IsCellError};
 ghost use Rattle.xlsx_cells.specs.Ends.{reads_children};
@@ -20,9 +15,9 @@ ghost use Rattle.xlsx_cells.specs.Ends.{reads_children};
 use cell_data::{CellFormat, DataRef};
 use part_events::{Package, StartTag, XlReader};
 use xlsx_error::XlsxError;
-use xlsx_formulas::{Masters, read_formula};
+use xlsx_formulas::{SharedFormulas, read_formula};
 use xlsx_sections::{next_child_in, skip_element_in, start_tag};
-use xlsx_values::{Book, CellType, read_inline, read_value};
+use xlsx_values::{CellType, ValueContext, read_inline, read_value};
 
 /// What is wanted of each cell beside its position.
 #[derive(Clone, Copy, Debug, PartialEq, Eq)]
@@ -100,7 +95,7 @@ pub struct CellContents {
 #[derive(Clone, Copy)]
 pub struct Asked<'a> {
     pub wants: Wants,
-    pub book: Book<'a>,
+    pub book: ValueContext<'a>,
     /// How many styles there are: a style id counts above 0 and below this.
     pub style_count: usize,
     /// Whether the formulas of groups are kept, where formulas are wanted, for later cells.
@@ -132,25 +127,26 @@ fn child_name(tag: StartTag<'_>) -> ChildName
 fn keep_formula<P: Package>(
     xml: &mut XlReader<P>,
     asked: Asked<'_>,
-    masters: &mut Masters,
+    masters: &mut SharedFormulas,
     last: &mut Option<xlsx_formulas::Formula>,
 ) -> Result<(), XlsxError>
     requires element { IsReadingElement xml.old }
     ensures reads { ReadsElement Io result xml.old xml.new }
-    ensures formula { xml.old.source.is_told ≡ true → asked.entry.wants.formulas ≡ true →
+    ensures formula { xml.old.source.is_visible ≡ true → asked.entry.wants.formulas ≡ true →
         let before : LastStep = record { masters = masters.old; last = last_seen last.old } in
         let after : LastStep = record { masters = masters.new; last = last_seen last.new } in
         (element : Element) → StandsAtElement element xml.old → IsNamedAs Formula element.tag →
         OnOk result (ReadsFormula asked.entry.keeps_masters element.tag element.inside before
         after) }
-    ensures covers { xml.old.source.is_told ≡ true → asked.entry.wants.formulas ≡ true →
+    ensures covers { xml.old.source.is_visible ≡ true → asked.entry.wants.formulas ≡ true →
         (element : Element) → StandsAtElement element xml.old →
         OnOk result (covers_seen last.new ≡ covers_of element.tag) }
     ensures same { asked.entry.wants.formulas ≡ false → OnOk result (masters.new ≡ masters.old) }
     ensures unlisted { asked.entry.wants.formulas ≡ false → OnOk result (last.new ≡ last.old) }
-    ensures err { IfErr result (λ error. (grounds : Grounds) (format : CellFormat) (kind : CellKind)
+    ensures err { IfErr result (λ error. (context : ContextSaid) (format : CellFormat)
+        (kind : CellKind)
         (element : Element) → StandsAtElement element xml.old → IsNamedAs Formula element.tag →
-        ChildFails asked.entry.wants grounds format kind element.tag xml.old xml.new error) }
+        ChildFails asked.entry.wants context format kind element.tag xml.old xml.new error) }
     ensures kind { IfErr result IsCellError }
 {
     if !asked.wants.formulas {
@@ -175,7 +171,7 @@ fn keep_value<P: Package>(
 ) -> Result<(), XlsxError>
     requires element { IsReadingElement xml.old }
     ensures reads { ReadsElement Io result xml.old xml.new }
-    ensures value { xml.old.source.is_told ≡ true → asked.entry.wants.values ≡ true →
+    ensures value { xml.old.source.is_visible ≡ true → asked.entry.wants.values ≡ true →
         (element : Element) → StandsAtElement element xml.old →
         IsNamedAs (value_name is_inline) element.tag →
         OnOk result (or_earlier (value_kept value.old) (child_said asked.entry start.now element)
@@ -205,7 +201,7 @@ fn read_child<P: Package>(
     xml: &mut XlReader<P>,
     asked: Asked<'_>,
     start: &CellStart,
-    masters: &mut Masters,
+    masters: &mut SharedFormulas,
     latest: &mut CellContents,
 ) -> Result<(), XlsxError>
     requires element { IsReadingElement xml.old }
@@ -240,7 +236,7 @@ pub fn read_children<P: Package>(
     xml: &mut XlReader<P>,
     asked: Asked<'_>,
     start: &CellStart,
-    masters: &mut Masters,
+    masters: &mut SharedFormulas,
 ) -> Result<CellContents, XlsxError>
     requires element { IsReadingElement xml.old }
     requires wanted { reads_children asked.wants ≡ true }

@@ -1,8 +1,7 @@
 ghost use Rattle.std.specs.Prelude.{◌≡◌, ◌+◌, ◌<◌, ℕ, [], ◌∷◌, List, Option, Some, None, Ok, Err};
 ghost use Rattle.std.specs.Prelude.{IfOk, OnOk, IfErr};
 ghost use Rattle.cell_refs.specs.declared.TheConstants.{MAX_ROWS, MAX_COLUMNS};
-ghost use Rattle.part_events.specs.Event.{tag_of};
-ghost use Rattle.part_events.specs.Section.{Element};
+ghost use Rattle.part_events.specs.Words.{tag_of, Element};
 ghost use Rattle.xlsx_cells.specs.Counting.{AreKept, IsGiven, IsRefused, IsPositionError};
 ghost use Rattle.xlsx_cells.specs.Marks.{Mark, row_start, row_end, cell};
 ghost use Rattle.xlsx_cells.specs.Position.{row_named, position_named, column_counter};

@@ -1,11 +1,10 @@
 ghost use Rattle.std.specs.Prelude.{◌≡◌, ◌<◌, ◌++◌, [], ◌∷◌, filter, true, Ok, IfOk, OnOk, IfErr};
 ghost use Rattle.cell_refs.specs.declared.TheConstants.{MAX_ROWS, MAX_COLUMNS};
-ghost use Rattle.cell_data.specs.Cells.{AreInSheet};
-ghost use Rattle.cell_data.specs.Gathered.{cells_gathered};
-ghost use Rattle.part_events.specs.Reading.{ReadsPart};
+ghost use Rattle.cell_data.specs.Words.{AreInSheet, cells_gathered};
+ghost use Rattle.part_events.specs.Words.{ReadsPart};
 ghost use Rattle.xlsx_error.specs.declared.error.XlsxError.TheVariants.{Io, OutOfMemory};
-ghost use Rattle.xlsx_sections.specs.Elements.{ReachesEnd};
-ghost use Rattle.xlsx_values.specs.Book.{grounds_of};
+ghost use Rattle.xlsx_sections.specs.Words.{ReachesEnd};
+ghost use Rattle.xlsx_values.specs.Words.{context_of};
 ghost use Rattle.xlsx_cells.specs.CellErrors.{IsCellError};
 ghost use Rattle.xlsx_cells.specs.CoveredFormulas.{is_written, covered_in, covered_meaning};
 ghost use Rattle.xlsx_cells.specs.CoveredFormulas.{covered_entries};
@@ -66,13 +65,13 @@ pub fn collect_covered<P: Package>(
     requires fresh { StandsBehind [] [] (stream xml.old sheet.old) }
     ensures reads { ReadsPart Io result xml.old xml.new }
     ensures ends { let base = (stream xml.old sheet.old).base in
-        xml.old.source.is_told ≡ true → OnOk result (ReachesEnd base xml.old xml.new) }
+        xml.old.source.is_visible ≡ true → OnOk result (ReachesEnd base xml.old xml.new) }
     ensures inside { IfOk result (λ cells. AreInSheet (cells_gathered cells)) }
     ensures cells { let old = stream xml.old sheet.old in
-        xml.old.source.is_told ≡ true → IfOk result (λ cells.
+        xml.old.source.is_visible ≡ true → IfOk result (λ cells.
         covered_in (data_ahead old) ≡ Ok (covered_entries (cells_gathered cells))) }
-    ensures err { let grounds = grounds_of asked.entry.book in
-        IfErr result (DataFails asked.entry.wants grounds
+    ensures err { let context = context_of asked.entry.book in
+        IfErr result (DataFails asked.entry.wants context
         (stream xml.old sheet.old) (stream xml.new sheet.new)) }
     ensures kind { IfErr result IsCellError }
 {

@@ -1,8 +1,6 @@
-ghost use Rattle.std.specs.Prelude.{◌≡◌, ◌≤◌, ℕ, List, length, true, Option, option_map};
-ghost use Rattle.std.specs.Prelude.{IfOk, OnOk, IfErr};
-ghost use Rattle.part_events.specs.Event.{tag_of, event_of};
-ghost use Rattle.part_events.specs.Reading.{IsReading, ReadsPart};
-ghost use Rattle.part_events.specs.Section.{Element};
+ghost use Rattle.std.specs.Prelude.{◌≡◌, ◌≤◌, ℕ, List, length, true, Option, option_map, IfOk};
+ghost use Rattle.std.specs.Prelude.{OnOk, IfErr};
+ghost use Rattle.part_events.specs.Words.{tag_of, event_of, IsReading, ReadsPart, Element};
 ghost use Rattle.xlsx_error.specs.declared.error.XlsxError.TheVariants.{Io};
 ghost use Rattle.xlsx_cells.specs.Counting.{AreKept, IsRefused, IsRowRefused, IsPositionError};
 ghost use Rattle.xlsx_cells.specs.CellErrors.{IsFindError};
@@ -67,9 +65,9 @@ pub fn find_cell<P: Package>(
     requires within { base ≤ length xml.old.names }
     ensures reads { ReadsPart Io result xml.old xml.new }
     ensures stands { IfOk result (λ found. StandsAtCell base found xml.old xml.new) }
-    ensures element { xml.old.source.is_told ≡ true →
+    ensures element { xml.old.source.is_visible ≡ true →
         IfOk result (λ found. FindsCellElement base found xml.old xml.new) }
-    ensures finds { xml.old.source.is_told ≡ true → (before : List Mark) →
+    ensures finds { xml.old.source.is_visible ≡ true → (before : List Mark) →
         AreKept before counters.old →
         IfOk result (λ found. Finds before found base xml.old xml.new counters.new) }
     ensures err { IfErr result (λ error. (inner : Element → Option (List ℕ)) →

@@ -1,12 +1,9 @@
-ghost use Rattle.std.specs.Prelude.{◌≡◌, ◌<◌, length, true, Some, None, Ok, IfOk, OnOk};
-ghost use Rattle.std.specs.Prelude.{IfErr};
+ghost use Rattle.std.specs.Prelude.{◌≡◌, ◌<◌, length, true, Some, None, Ok, IfOk, OnOk, IfErr};
 ghost use Rattle.std.specs.Option.{option_or};
-ghost use Rattle.part_events.specs.Event.{tag_of, event_of};
-ghost use Rattle.part_events.specs.Reading.{IsReading, IsAtElement};
-ghost use Rattle.part_events.specs.Reading.{ReadsPart, ahead, events_of};
-ghost use Rattle.part_events.specs.Section.{behind_start};
+ghost use Rattle.part_events.specs.Words.{tag_of, event_of, IsReading, IsAtElement, ReadsPart};
+ghost use Rattle.part_events.specs.Words.{ahead, events_of, behind_start};
 ghost use Rattle.xlsx_error.specs.declared.error.XlsxError.TheVariants.{Io};
-ghost use Rattle.xlsx_sections.specs.Answers.{or_earlier};
+ghost use Rattle.xlsx_sections.specs.Words.{or_earlier};
 ghost use Rattle.xlsx_cells.specs.Counting.{IsRefused};
 ghost use Rattle.xlsx_cells.specs.Head.{is_sheet_data, starts_data, dimension_area, dimensions_by};
 ghost use Rattle.xlsx_cells.specs.Head.{dimensions_at, AreDimensions, other_by, other_at};
@@ -124,12 +121,12 @@ pub fn enter_data<P: Package>(xml: &mut XlReader<P>) -> Result<Dimensions, XlsxE
     ensures reads { ReadsPart Io result xml.old xml.new }
     ensures element { OnOk result (IsAtElement xml.new) }
     ensures deep { OnOk result (0 < length xml.new.names) }
-    ensures found { xml.old.source.is_told ≡ true →
+    ensures found { xml.old.source.is_visible ≡ true →
         OnOk result (behind_start is_sheet_data (ahead xml.old) ≡ Some (ahead xml.new)) }
-    ensures dimensions { xml.old.source.is_told ≡ true →
+    ensures dimensions { xml.old.source.is_visible ≡ true →
         IfOk result (AreDimensions (ahead xml.old)) }
     ensures err { IfErr result (HeadFails xml.old xml.new) }
-    ensures lacks { xml.old.source.is_told ≡ true →
+    ensures lacks { xml.old.source.is_visible ≡ true →
         IfErr result (IfNoWorksheet (xml.new.at ≡ length (events_of xml.old))) }
     ensures kind { IfErr result IsHeadError }
 {

@@ -1,16 +1,14 @@
 ghost use Rattle.std.specs.Prelude.{◌≡◌, ◌<◌, ◌++◌, [], ◌∷◌, true, false, IfOk, OnOk, IfErr, All};
 ghost use Rattle.std.specs.Prelude.{filter};
 ghost use Rattle.cell_refs.specs.declared.TheConstants.{MAX_ROWS, MAX_COLUMNS};
-ghost use Rattle.cell_data.specs.CellValue.{value_of_data_ref};
+ghost use Rattle.cell_data.specs.Words.{value_of_data_ref, AreInSheet, cells_gathered};
 ghost use Rattle.xlsx_cells.specs.Sheet.{used_values, used_formulas};
-ghost use Rattle.part_events.specs.Reading.{ReadsPart};
-ghost use Rattle.cell_data.specs.Cells.{AreInSheet};
-ghost use Rattle.cell_data.specs.Gathered.{cells_gathered};
+ghost use Rattle.part_events.specs.Words.{ReadsPart};
 ghost use Rattle.xlsx_error.specs.declared.error.XlsxError.TheVariants.{Io, OutOfMemory};
-ghost use Rattle.xlsx_sections.specs.Elements.{ReachesEnd};
-ghost use Rattle.cell_styles.specs.StyleMap.{IsOnSheet, is_explicit};
-ghost use Rattle.xlsx_values.specs.Book.{grounds_of};
-ghost use Rattle.xlsx_formulas.specs.Kept.{text_of_formula};
+ghost use Rattle.xlsx_sections.specs.Words.{ReachesEnd};
+ghost use Rattle.cell_styles.specs.Words.{IsOnSheet, is_explicit};
+ghost use Rattle.xlsx_values.specs.Words.{context_of};
+ghost use Rattle.xlsx_formulas.specs.Words.{text_of_formula};
 ghost use Rattle.xlsx_cells.specs.Ends.{reads_children};
 ghost use Rattle.xlsx_cells.specs.CellErrors.{IsCellError, IsStyledError};
 ghost use Rattle.xlsx_cells.specs.SheetPart.{DataFails, CollectsCells, value_entries};
@@ -130,10 +128,10 @@ pub fn collect<P: Package>(
     requires fresh { StandsBehind [] [] (stream xml.old sheet.old) }
     ensures reads { ReadsPart Io result xml.old xml.new }
     ensures ends { let base = (stream xml.old sheet.old).base in
-        xml.old.source.is_told ≡ true → OnOk result (ReachesEnd base xml.old xml.new) }
+        xml.old.source.is_visible ≡ true → OnOk result (ReachesEnd base xml.old xml.new) }
     ensures cells { IfOk result (CollectsCells asked.entry (stream xml.old sheet.old)) }
-    ensures err { let grounds = grounds_of asked.entry.book in
-        IfErr result (DataFails asked.entry.wants grounds
+    ensures err { let context = context_of asked.entry.book in
+        IfErr result (DataFails asked.entry.wants context
         (stream xml.old sheet.old) (stream xml.new sheet.new)) }
     ensures kind { IfErr result IsCellError }
     ensures plain { reads_children asked.entry.wants ≡ false → IfErr result IsStyledError }

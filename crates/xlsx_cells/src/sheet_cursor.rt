@@ -1,20 +1,19 @@
 ghost use Rattle.std.specs.Prelude.{◌≡◌, [], length, true, false, IfOk, IfErr, IfSome, IfNone};
-ghost use Rattle.part_events.specs.Package.{LeavesPackage, CountsUp, event_count};
+ghost use Rattle.part_events.specs.Words.{LeavesPackage, CountsUp, event_count};
 ghost use Rattle.xlsx_cells.specs.Head.{IsHeadError, IfNoWorksheet};
 ghost use Rattle.xlsx_cells.specs.SheetPart.{EntersData, OpenDataFails};
-ghost use Rattle.cell_styles.specs.StyleMap.{is_explicit};
+ghost use Rattle.cell_styles.specs.Words.{is_explicit};
 ghost use Rattle.xlsx_error.specs.declared.error.XlsxError.TheVariants.{Io};
-ghost use Rattle.xlsx_sections.specs.PartSection.{HasNoPart};
-ghost use Rattle.xlsx_values.specs.Book.{grounds_of};
-ghost use Rattle.xlsx_formulas.specs.Kept.{AreMasters};
+ghost use Rattle.xlsx_sections.specs.Words.{HasNoPart};
+ghost use Rattle.xlsx_values.specs.Words.{context_of};
+ghost use Rattle.xlsx_formulas.specs.Words.{AreMasters};
 ghost use Rattle.xlsx_cells.specs.Counting.{AreKept};
 ghost use Rattle.xlsx_cells.specs.Ends.{reads_children};
 ghost use Rattle.xlsx_cells.specs.CellErrors.{IsStreamError, IsStyledStreamError};
 ghost use Rattle.xlsx_cells.specs.Position.{NoCell};
 ghost use Rattle.xlsx_cells.specs.Steps.{TakesStep, TakesNext, AskedStepFails};
-ghost use Rattle.xlsx_cells.specs.Stream.{stream, IsStreaming, IsRead, IsWritten};
-ghost use Rattle.xlsx_cells.specs.Stream.{LacksUnwanted, LacksUnwantedText};
-ghost use Rattle.xlsx_cells.specs.Stream.{seen_with_text, seen_with_formula};
+ghost use Rattle.xlsx_cells.specs.Stream.{stream, IsStreaming, IsRead, IsWritten, LacksUnwanted};
+ghost use Rattle.xlsx_cells.specs.Stream.{LacksUnwantedText, seen_with_text, seen_with_formula};
 ghost use Rattle.xlsx_cells.specs.StyleSteps.{IsUnstyled, IsStyled, styled_position, StyledFails};
 
 use crate::cell_read::{CellRead, CellText, CellWithFormula, read_cell};
@@ -25,8 +24,8 @@ use crate::head::enter_data;
 use cell_refs::Dimensions;
 use part_events::{Package, XlReader};
 use xlsx_error::XlsxError;
-use xlsx_formulas::{Masters, covered_area};
-use xlsx_values::Book;
+use xlsx_formulas::{SharedFormulas, covered_area};
+use xlsx_values::ValueContext;
 
 /// What reading keeps of a sheet's data beside the reader that stands in them: what counts of the
 /// cells that were taken. After the end of the data each call answers None, and after a refusal
@@ -49,7 +48,7 @@ use xlsx_values::Book;
 pub struct SheetCursor {
     base: usize,
     counters: Counters,
-    masters: Masters,
+    masters: SharedFormulas,
     done: bool,
     /// Whether a call was refused, or is under way.
     failed: bool,
@@ -67,7 +66,7 @@ impl SheetCursor {
         SheetCursor {
             base: xml.depth(),
             counters: Counters::new(),
-            masters: Masters::new(xml.alloc()),
+            masters: SharedFormulas::new(xml.alloc()),
             done: false,
             failed: false,
         }
@@ -94,7 +93,7 @@ impl SheetCursor {
         ensures step { TakesStep (λ read. read.pos) result
             (stream xml.old self.old) (stream xml.new self.new) }
         ensures takes { let wants = asked.entry.wants in
-            let fact = IsRead wants asked.entry.keeps_masters (grounds_of asked.entry.book) in
+            let fact = IsRead wants asked.entry.keeps_masters (context_of asked.entry.book) in
             TakesNext NoCell (λ earlier. fact) result
             (stream xml.old self.old) (stream xml.new self.new) }
         ensures unwanted { IfOk result (λ found. IfSome found (LacksUnwanted asked.entry.wants)) }
@@ -133,7 +132,7 @@ impl SheetCursor {
         requires { IsStreaming (stream xml.old self.old) }
         ensures step { TakesStep (λ own. own.pos) result
             (stream xml.old self.old) (stream xml.new self.new) }
-        ensures takes { let fact = IsWritten asked.entry.wants (grounds_of asked.entry.book) in
+        ensures takes { let fact = IsWritten asked.entry.wants (context_of asked.entry.book) in
             TakesNext NoCell (λ earlier own. fact earlier (seen_with_formula own)) result
             (stream xml.old self.old) (stream xml.new self.new) }
         ensures unwanted { IfOk result (λ found.
@@ -177,7 +176,7 @@ impl SheetCursor {
         requires { IsStreaming (stream xml.old self.old) }
         ensures step { TakesStep (λ own. own.pos) result
             (stream xml.old self.old) (stream xml.new self.new) }
-        ensures takes { let fact = IsWritten asked.entry.wants (grounds_of asked.entry.book) in
+        ensures takes { let fact = IsWritten asked.entry.wants (context_of asked.entry.book) in
             TakesNext NoCell (λ earlier own. fact earlier (seen_with_text own)) result
             (stream xml.old self.old) (stream xml.new self.new) }
         ensures unwanted { IfOk result (λ found.
@@ -222,7 +221,7 @@ impl SheetCursor {
     pub fn next_styled<P: Package>(
         &mut self,
         xml: &mut XlReader<P>,
-        book: Book<'_>,
+        book: ValueContext<'_>,
         style_count: usize,
     ) -> Result<Option<(u32, u32, usize)>, XlsxError>
         requires { IsStreaming (stream xml.old self.old) }
@@ -273,7 +272,7 @@ pub fn open_data<P: Package>(
     ensures err { IfErr result (OpenDataFails path.now xml.old.source xml.new.source) }
     ensures lacks { let old = xml.old.source in
         let all = event_count old.parts path.now in
-        old.is_told ≡ true →
+        old.is_visible ≡ true →
         IfErr result (IfNoWorksheet (CountsUp all old.taken xml.new.source.taken)) }
     ensures kind { IfErr result IsHeadError }
 {

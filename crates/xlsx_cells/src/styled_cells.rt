@@ -1,12 +1,10 @@
 ghost use Rattle.std.specs.Prelude.{◌≡◌, ◌<◌, ◌++◌, [], ◌∷◌, filter, true, IfOk, OnOk, IfErr};
 ghost use Rattle.cell_refs.specs.declared.TheConstants.{MAX_ROWS, MAX_COLUMNS};
-ghost use Rattle.cell_data.specs.CellValue.{value_of_data_ref};
-ghost use Rattle.cell_data.specs.Cells.{AreInSheet};
-ghost use Rattle.cell_data.specs.Gathered.{cells_gathered};
-ghost use Rattle.part_events.specs.Reading.{ReadsPart};
+ghost use Rattle.cell_data.specs.Words.{value_of_data_ref, AreInSheet, cells_gathered};
+ghost use Rattle.part_events.specs.Words.{ReadsPart};
 ghost use Rattle.xlsx_error.specs.declared.error.XlsxError.TheVariants.{Io, OutOfMemory};
-ghost use Rattle.xlsx_sections.specs.Elements.{ReachesEnd};
-ghost use Rattle.xlsx_values.specs.Book.{grounds_of};
+ghost use Rattle.xlsx_sections.specs.Words.{ReachesEnd};
+ghost use Rattle.xlsx_values.specs.Words.{context_of};
 ghost use Rattle.xlsx_cells.specs.CellErrors.{IsCellError};
 ghost use Rattle.xlsx_cells.specs.SheetPart.{DataFails};
 ghost use Rattle.xlsx_cells.specs.Stream.{stream, IsGoing, StandsBehind, data_ahead};
@@ -38,7 +36,8 @@ fn keep_styled(
     requires row { pos.0 < MAX_ROWS }
     requires column { pos.1 < MAX_COLUMNS }
     requires inside { AreInSheet (cells_gathered cells.old) }
-    ensures value { let found = filter is_used ((pos, (value_of_data_ref own.value, own.style_id)) ∷ []) in
+    ensures value { let found = filter is_used ((pos, (value_of_data_ref own.value, own.style_id))
+        ∷ []) in
         OnOk result (styled_entries (cells_gathered cells.new)
         ≡ styled_entries (cells_gathered cells.old) ++ found) }
     ensures inside { OnOk result (AreInSheet (cells_gathered cells.new)) }
@@ -65,15 +64,15 @@ pub fn collect_styled<P: Package>(
     requires fresh { StandsBehind [] [] (stream xml.old sheet.old) }
     ensures reads { ReadsPart Io result xml.old xml.new }
     ensures ends { let base = (stream xml.old sheet.old).base in
-        xml.old.source.is_told ≡ true → OnOk result (ReachesEnd base xml.old xml.new) }
+        xml.old.source.is_visible ≡ true → OnOk result (ReachesEnd base xml.old xml.new) }
     ensures inside { IfOk result (λ cells. AreInSheet (cells_gathered cells)) }
     ensures cells { let old = stream xml.old sheet.old in
-        let grounds = grounds_of asked.entry.book in
-        xml.old.source.is_told ≡ true → IfOk result (λ cells.
-        HoldsStyledValues asked.entry.wants grounds (data_ahead old)
+        let context = context_of asked.entry.book in
+        xml.old.source.is_visible ≡ true → IfOk result (λ cells.
+        HoldsStyledValues asked.entry.wants context (data_ahead old)
         (styled_entries (cells_gathered cells))) }
-    ensures err { let grounds = grounds_of asked.entry.book in
-        IfErr result (DataFails asked.entry.wants grounds
+    ensures err { let context = context_of asked.entry.book in
+        IfErr result (DataFails asked.entry.wants context
         (stream xml.old sheet.old) (stream xml.new sheet.new)) }
     ensures kind { IfErr result IsCellError }
 {

@@ -1,25 +1,25 @@
 -- The descent reads the tree of the tokens, where they have one, and else none.
-use Rattle.std.proofs.Common.{◌≡◌, ◌≤◌, List, [], ◌∷◌, ◌++◌, Some, None, Option, refl, sym, ap}
-use Rattle.std.proofs.Common.{◌∙◌, subst, arith}
+use Rattle.std.proofs.Common.{◌≡◌, ◌≤◌, List, [], ◌∷◌, ◌++◌, Some, None, Option, refl, sym, ap, ◌∙◌}
+use Rattle.std.proofs.Common.{subst, arith}
 use Rattle.std.specs.Prelude.{option_and_then}
 use Rattle.std.proofs.lemmas.List.{append-nil}
 use Rattle.xlsx_check.specs.Tokens.{Token}
-use Rattle.xlsx_check.specs.Trees.{Tree, formula_tree, spelled, IsLeftmost, enclosures}
-use Rattle.xlsx_check.specs.Reading.{Read, comparison_read, factor_read, if_all, tree_read}
+use Rattle.xlsx_check.specs.Trees.{Tree, formula_tree, tree_tokens, IsLeftmost, enclosures}
+use Rattle.xlsx_check.specs.Reading.{TreeRead, comparison_read, factor_read, if_all, tree_read}
 use Rattle.xlsx_check.proofs.Descending.{comparisons_read, comparisons_back}
 use Rattle.xlsx_check.proofs.Joins.{loosest}
 use Rattle.xlsx_check.proofs.Options.{taken_from}
 use Rattle.xlsx_check.proofs.Splitting.{tree_spells, tree_spelled}
 
 pub spells : (tokens : List Token) (tree : Tree) → formula_tree tokens ≡ Some tree →
-    (spelled tree ≡ tokens) × IsLeftmost tree × (enclosures tree ≤ 64)
+    (tree_tokens tree ≡ tokens) × IsLeftmost tree × (enclosures tree ≤ 64)
 unfolding formula_tree
 spells tokens tree is =
     let known = tree_spells 65 tokens tree is in
     (known.0, known.1, omega (arith, known.2))
 
 pub has_tree : (tree : Tree) → IsLeftmost tree → enclosures tree ≤ 64 →
-    formula_tree (spelled tree) ≡ Some tree
+    formula_tree (tree_tokens tree) ≡ Some tree
 unfolding formula_tree
 has_tree tree leftmost within = tree_spelled 65 tree leftmost (omega (arith, within))
 
@@ -29,26 +29,27 @@ all_from tree known [] is = (cc, refl)
 all_from tree known (token ∷ rest) is = absurd (cc)
 
 read_spells : (tokens : List Token) (tree : Tree) → tree_read tokens ≡ Some tree →
-    (spelled tree ≡ tokens) × IsLeftmost tree × (enclosures tree ≤ 64)
+    (tree_tokens tree ≡ tokens) × IsLeftmost tree × (enclosures tree ≤ 64)
 unfolding tree_read
 read_spells tokens tree is =
     let whole =
-    taken_from (λ (r : Read). if_all r.tree r.rest) (comparison_read (factor_read 65) tokens) tree
+    taken_from (λ (r : TreeRead). if_all r.tree r.rest) (comparison_read (factor_read 65)
+    tokens) tree
     is in
     let ends = all_from whole.value.tree tree whole.value.rest whole.is in
     let known = comparisons_read tokens whole.value whole.was in
-    subst (λ (t : Tree). (spelled t ≡ tokens) × IsLeftmost t × (enclosures t ≤ 64)) ends.0 (
-      sym (append-nil (spelled whole.value.tree))
-          ∙ (ap (λ (ts : List Token). spelled whole.value.tree ++ ts) (sym ends.1) ∙ known.is),
+    subst (λ (t : Tree). (tree_tokens t ≡ tokens) × IsLeftmost t × (enclosures t ≤ 64)) ends.0 (
+      sym (append-nil (tree_tokens whole.value.tree))
+          ∙ (ap (λ (ts : List Token). tree_tokens whole.value.tree ++ ts) (sym ends.1) ∙ known.is),
       known.fine.leftmost,
       known.fine.within,
     )
 
 read_back : (tree : Tree) → IsLeftmost tree → enclosures tree ≤ 64 →
-    tree_read (spelled tree) ≡ Some tree
+    tree_read (tree_tokens tree) ≡ Some tree
 unfolding tree_read
 read_back tree leftmost within =
-    ap (λ (o : Option Read). option_and_then (λ r. if_all r.tree r.rest) o)
+    ap (λ (o : Option TreeRead). option_and_then (λ r. if_all r.tree r.rest) o)
     (comparisons_back tree
     (record { loose = loosest tree; leftmost = leftmost; within = within }))
 

@@ -1,7 +1,6 @@
 -- Tokens that are cut at one of them.
-use Rattle.std.proofs.Common.{◌≡◌, ℕ, zero, suc, ◌-◌, ◌≤◌, Bool, true, false}
-use Rattle.std.proofs.Common.{List, [], ◌∷◌, ◌++◌, Some, None, Option, refl, sym, ap, ◌∙◌, subst}
-use Rattle.std.proofs.Common.{arith, ◌==◌, ◌&&◌}
+use Rattle.std.proofs.Common.{◌≡◌, ℕ, zero, suc, ◌-◌, ◌≤◌, Bool, true, false, List, [], ◌∷◌, ◌++◌}
+use Rattle.std.proofs.Common.{Some, None, Option, refl, sym, ap, ◌∙◌, subst, arith, ◌==◌, ◌&&◌}
 use Rattle.std.proofs.lemmas.Bool.Decides.{nat_tests}
 use Rattle.formula_shift.specs.declared.reference.Reference.{Reference}
 use Rattle.xlsx_check.specs.declared.token.Comparison.{Comparison}
@@ -9,7 +8,7 @@ use Rattle.xlsx_check.specs.Tokens.{Token, constant, refers, sum, plus, minus, s
 use Rattle.xlsx_check.specs.Tokens.{closes, comma, compares}
 use Rattle.xlsx_check.specs.Trees.{Tree, literal, cell, total, negated, grouped, added, less}
 use Rattle.xlsx_check.specs.Trees.{product, compared, Cut, open_behind, onto_front, or_cut_here}
-use Rattle.xlsx_check.specs.Trees.{last_cut, spelled, references_spelled, looseness, IsLeftmost}
+use Rattle.xlsx_check.specs.Trees.{last_cut, tree_tokens, references_spelled, looseness, IsLeftmost}
 use Rattle.xlsx_check.specs.Trees.{is_comparison, is_addition, is_multiplication}
 use Rattle.xlsx_check.proofs.Joins.{IsKind, products, sums, comparisons, loosest}
 
@@ -147,25 +146,25 @@ depth_joined opened left right token before at behind =
     ∙ (ap (λ (n : ℕ). depth_behind (open_behind n token) right) before
     ∙ (ap (λ (n : ℕ). depth_behind n right) at ∙ behind))
 
-pub depth_spelled : (opened : ℕ) (tree : Tree) → depth_behind opened (spelled tree) ≡ opened
+pub depth_spelled : (opened : ℕ) (tree : Tree) → depth_behind opened (tree_tokens tree) ≡ opened
 depth_spelled opened (literal number) = refl
 depth_spelled opened (cell r) = refl
 depth_spelled opened (total rs) =
     depth_closed opened (references_spelled rs) (depth_references (suc opened) rs)
 depth_spelled opened (negated t) = depth_spelled opened t
 depth_spelled opened (grouped t) =
-    depth_closed opened (spelled t) (depth_spelled (suc opened) t)
+    depth_closed opened (tree_tokens t) (depth_spelled (suc opened) t)
 depth_spelled opened (added l r) =
-    depth_joined opened (spelled l) (spelled r) plus (depth_spelled opened l) refl
+    depth_joined opened (tree_tokens l) (tree_tokens r) plus (depth_spelled opened l) refl
     (depth_spelled opened r)
 depth_spelled opened (less l r) =
-    depth_joined opened (spelled l) (spelled r) minus (depth_spelled opened l) refl
+    depth_joined opened (tree_tokens l) (tree_tokens r) minus (depth_spelled opened l) refl
     (depth_spelled opened r)
 depth_spelled opened (product l r) =
-    depth_joined opened (spelled l) (spelled r) times (depth_spelled opened l) refl
+    depth_joined opened (tree_tokens l) (tree_tokens r) times (depth_spelled opened l) refl
     (depth_spelled opened r)
 depth_spelled opened (compared c l r) =
-    depth_joined opened (spelled l) (spelled r) (compares c) (depth_spelled opened l) refl
+    depth_joined opened (tree_tokens l) (tree_tokens r) (compares c) (depth_spelled opened l) refl
     (depth_spelled opened r)
 
 -- tokens of this kind join nothing so tight
@@ -221,7 +220,7 @@ module _ (wanted : Token → Bool) where
       (none_more wanted opened token right not
       (subst (λ (n : ℕ). last_cut wanted n right ≡ None) (sym flat) behind)))
 
-  none_inside : (opened : ℕ) (tree : Tree) → last_cut wanted (suc opened) (spelled tree) ≡ None
+  none_inside : (opened : ℕ) (tree : Tree) → last_cut wanted (suc opened) (tree_tokens tree) ≡ None
   none_inside opened (literal number) =
       none_more wanted (suc opened) (constant number) []
       (inside_parentheses opened (wanted (constant number))) refl
@@ -236,30 +235,34 @@ module _ (wanted : Token → Bool) where
       (none_closed (suc opened) (references_spelled rs) (depth_references (suc (suc opened)) rs)
       (none_references (suc opened) rs)))
   none_inside opened (negated t) =
-      none_more wanted (suc opened) sign (spelled t) (inside_parentheses opened (wanted sign))
+      none_more wanted (suc opened) sign (tree_tokens t) (inside_parentheses opened (wanted sign))
       (none_inside opened t)
   none_inside opened (grouped t) =
-      none_more wanted (suc opened) opens (spelled t ++ closes ∷ [])
+      none_more wanted (suc opened) opens (tree_tokens t ++ closes ∷ [])
       (inside_parentheses opened (wanted opens))
-      (none_closed (suc opened) (spelled t) (depth_spelled (suc (suc opened)) t)
+      (none_closed (suc opened) (tree_tokens t) (depth_spelled (suc (suc opened)) t)
       (none_inside (suc opened) t))
   none_inside opened (added l r) =
-      none_between (suc opened) (spelled l) (spelled r) plus (depth_spelled (suc opened) l) refl
+      none_between (suc opened) (tree_tokens l) (tree_tokens r) plus
+      (depth_spelled (suc opened) l) refl
       (inside_parentheses opened (wanted plus)) (none_inside opened l) (none_inside opened r)
   none_inside opened (less l r) =
-      none_between (suc opened) (spelled l) (spelled r) minus (depth_spelled (suc opened) l) refl
+      none_between (suc opened) (tree_tokens l) (tree_tokens r) minus
+      (depth_spelled (suc opened) l) refl
       (inside_parentheses opened (wanted minus)) (none_inside opened l) (none_inside opened r)
   none_inside opened (product l r) =
-      none_between (suc opened) (spelled l) (spelled r) times (depth_spelled (suc opened) l) refl
+      none_between (suc opened) (tree_tokens l) (tree_tokens r) times
+      (depth_spelled (suc opened) l) refl
       (inside_parentheses opened (wanted times)) (none_inside opened l) (none_inside opened r)
   none_inside opened (compared c l r) =
-      none_between (suc opened) (spelled l) (spelled r) (compares c) (depth_spelled (suc opened) l)
+      none_between (suc opened) (tree_tokens l) (tree_tokens r) (compares c)
+      (depth_spelled (suc opened) l)
       refl (inside_parentheses opened (wanted (compares c))) (none_inside opened l)
       (none_inside opened r)
 
   -- a tree that is joined tighter has no such token outside parentheses
   pub none_spelled : (most : ℕ) → IsLooser wanted most → (tree : Tree) → IsLeftmost tree →
-      looseness tree ≤ most → last_cut wanted 0 (spelled tree) ≡ None
+      looseness tree ≤ most → last_cut wanted 0 (tree_tokens tree) ≡ None
   none_spelled most looser (literal number) leftmost tight =
       none_more wanted 0 (constant number) [] (looser.constants number) refl
   none_spelled most looser (cell r) leftmost tight =
@@ -269,27 +272,28 @@ module _ (wanted : Token → Bool) where
       (none_more wanted 0 opens (references_spelled rs ++ closes ∷ []) looser.openings
       (none_closed 0 (references_spelled rs) (depth_references 1 rs) (none_references 0 rs)))
   none_spelled most looser (negated t) leftmost tight =
-      none_more wanted 0 sign (spelled t) looser.signs
+      none_more wanted 0 sign (tree_tokens t) looser.signs
       (none_spelled most looser t leftmost.1 (omega (arith, leftmost.0)))
   none_spelled most looser (grouped t) leftmost tight =
-      none_more wanted 0 opens (spelled t ++ closes ∷ []) looser.openings
-      (none_closed 0 (spelled t) (depth_spelled 1 t) (none_inside 0 t))
+      none_more wanted 0 opens (tree_tokens t ++ closes ∷ []) looser.openings
+      (none_closed 0 (tree_tokens t) (depth_spelled 1 t) (none_inside 0 t))
   none_spelled most looser (added l r) leftmost tight =
-      none_between 0 (spelled l) (spelled r) plus (depth_spelled 0 l) refl (looser.sums tight)
+      none_between 0 (tree_tokens l) (tree_tokens r) plus (depth_spelled 0 l) refl
+      (looser.sums tight)
       (none_spelled most looser l leftmost.2 (omega (arith, leftmost.0, tight)))
       (none_spelled most looser r leftmost.3 (omega (arith, leftmost.1, tight)))
   none_spelled most looser (less l r) leftmost tight =
-      none_between 0 (spelled l) (spelled r) minus (depth_spelled 0 l) refl
+      none_between 0 (tree_tokens l) (tree_tokens r) minus (depth_spelled 0 l) refl
       (looser.differences tight)
       (none_spelled most looser l leftmost.2 (omega (arith, leftmost.0, tight)))
       (none_spelled most looser r leftmost.3 (omega (arith, leftmost.1, tight)))
   none_spelled most looser (product l r) leftmost tight =
-      none_between 0 (spelled l) (spelled r) times (depth_spelled 0 l) refl
+      none_between 0 (tree_tokens l) (tree_tokens r) times (depth_spelled 0 l) refl
       (looser.products tight)
       (none_spelled most looser l leftmost.2 (omega (arith, leftmost.0, tight)))
       (none_spelled most looser r leftmost.3 (omega (arith, leftmost.1, tight)))
   none_spelled most looser (compared c l r) leftmost tight =
-      none_between 0 (spelled l) (spelled r) (compares c) (depth_spelled 0 l) refl
+      none_between 0 (tree_tokens l) (tree_tokens r) (compares c) (depth_spelled 0 l) refl
       (looser.comparisons tight c)
       (none_spelled most looser l leftmost.2 (omega (arith, leftmost.0, tight)))
       (none_spelled most looser r leftmost.3 (omega (arith, leftmost.1, tight)))
@@ -342,24 +346,25 @@ looser_comparisons = record {
 -- a tree that is joined by a token of a kind has one outside parentheses
 pub joined_cut : (wanted : Token → Bool) (most least : ℕ) → IsKind wanted most least →
     (tree : Tree) → IsLeftmost tree → looseness tree ≡ suc least →
-    last_cut wanted 0 (spelled tree) ≡ None → ⊥
+    last_cut wanted 0 (tree_tokens tree) ≡ None → ⊥
 joined_cut wanted most least kind tree leftmost loose none =
     let parts = kind.splits tree leftmost loose in
     let behind =
-    none_parts wanted 0 (spelled parts.left) (parts.token ∷ spelled parts.right)
+    none_parts wanted 0 (tree_tokens parts.left) (parts.token ∷ tree_tokens parts.right)
     (subst (λ (ts : List Token). last_cut wanted 0 ts ≡ None) parts.spelled_is none) in
-    let here : last_cut wanted 0 (parts.token ∷ spelled parts.right) ≡ None =
-    subst (λ (n : ℕ). last_cut wanted n (parts.token ∷ spelled parts.right) ≡ None)
+    let here : last_cut wanted 0 (parts.token ∷ tree_tokens parts.right) ≡ None =
+    subst (λ (n : ℕ). last_cut wanted n (parts.token ∷ tree_tokens parts.right) ≡ None)
     (depth_spelled 0 parts.left) behind.1 in
-    let not = none_first wanted 0 parts.token (spelled parts.right) here in
+    let not = none_first wanted 0 parts.token (tree_tokens parts.right) here in
     let no : wanted parts.token ≡ false = not.0 in
     let yes = parts.wants in
     cc
 
 -- so what has none of any kind is a factor
 pub is_factor : (tree : Tree) → IsLeftmost tree →
-    last_cut is_comparison 0 (spelled tree) ≡ None → last_cut is_addition 0 (spelled tree) ≡ None →
-    last_cut is_multiplication 0 (spelled tree) ≡ None → looseness tree ≤ 0
+    last_cut is_comparison 0 (tree_tokens tree) ≡ None → last_cut is_addition 0 (tree_tokens tree)
+    ≡ None →
+    last_cut is_multiplication 0 (tree_tokens tree) ≡ None → looseness tree ≤ 0
 is_factor tree leftmost no_comparison no_addition no_multiplication =
     by (looseness tree) refl (loosest tree)
   where

@@ -1,29 +1,27 @@
 -- What the descent comes to, where it stands before tokens that are still to be read.
 use Rattle.std.proofs.Common.{◌≡◌, ℕ, zero, suc, ◌-◌, ◌≤◌, Bool, true, false, cond, List, [], ◌∷◌}
-use Rattle.std.proofs.Common.{◌++◌}
-use Rattle.std.proofs.Common.{length, Some, None, Option, refl, sym, ap, ◌∙◌, subst, arith}
+use Rattle.std.proofs.Common.{◌++◌, length, Some, None, Option, refl, sym, ap, ◌∙◌, subst, arith}
 use Rattle.std.proofs.Common.{append_assoc, ℤ, pos}
 use Rattle.std.specs.Prelude.{option_map, option_and_then}
 use Rattle.std.specs.List.{flat_map, fold}
 use Rattle.std.proofs.lemmas.List.{append-nil}
-use Rattle.cell_data.specs.CellValue.{CellValue}
-use Rattle.formula_shift.specs.Areas.{area_named}
+use Rattle.cell_data.specs.Words.{CellValue}
+use Rattle.formula_shift.specs.Words.{area_named}
 use Rattle.formula_shift.specs.declared.reference.Reference.{Reference}
 use Rattle.xlsx_check.specs.Denoting.{is_unsupported, joined_result, value_read, rest_read}
-use Rattle.xlsx_check.specs.Denoting.{total_read, references_rest}
-use Rattle.xlsx_check.specs.Denoting.{opened_references, references_from}
-use Rattle.xlsx_check.specs.Evaluation.{Denoted, a_number, number_past}
-use Rattle.xlsx_check.specs.Evaluation.{unsupported, of_two, result_of, total_of, with_value}
-use Rattle.xlsx_check.specs.Evaluation.{values_within, of_one}
-use Rattle.xlsx_check.specs.Reading.{Read, read, stops, chain_on, chain_read, sum_read, compared_on}
-use Rattle.xlsx_check.specs.Reading.{comparison_read, closed_by, closes_first, group_read}
-use Rattle.xlsx_check.specs.Reading.{ReferencesRead, references_read, with_first}
-use Rattle.xlsx_check.specs.Reading.{read_as, cell_read, factor_read}
+use Rattle.xlsx_check.specs.Denoting.{total_of_references, references_rest, opened_references}
+use Rattle.xlsx_check.specs.Denoting.{references_from}
+use Rattle.xlsx_check.specs.Evaluation.{Denoted, a_number, number_past, unsupported, of_two}
+use Rattle.xlsx_check.specs.Evaluation.{result_of, total_of, total_with_value, values_within}
+use Rattle.xlsx_check.specs.Evaluation.{of_one}
+use Rattle.xlsx_check.specs.Reading.{TreeRead, read, stops, chain_on, chain_read, sum_read}
+use Rattle.xlsx_check.specs.Reading.{compared_on, comparison_read, closed_by, closes_first}
+use Rattle.xlsx_check.specs.Reading.{group_read, ReferencesRead, references_read}
+use Rattle.xlsx_check.specs.Reading.{with_first_reference, read_as, cell_read, factor_read}
 use Rattle.xlsx_check.specs.Tokens.{Token, constant, refers, sum, plus, minus, sign, times, opens}
 use Rattle.xlsx_check.specs.Tokens.{closes, comma, compares}
-use Rattle.xlsx_check.specs.Trees.{Tree, literal, total, negated, grouped, added, less}
-use Rattle.xlsx_check.specs.Trees.{product, compared, joined_by, cell_alone}
-use Rattle.xlsx_check.specs.Trees.{is_comparison, is_closing}
+use Rattle.xlsx_check.specs.Trees.{Tree, literal, total, negated, grouped, added, less, product}
+use Rattle.xlsx_check.specs.Trees.{compared, joined_by, cell_alone, is_comparison, is_closing}
 use Rattle.xlsx_check.proofs.Descending.{chain_stops, not_so}
 
 pub known_not : (d : Denoted) → is_unsupported d ≡ true → d ≡ unsupported
@@ -68,7 +66,7 @@ module _ (values : List ((ℕ × ℕ) × CellValue)) where
       let same : compared c left right ≡ tree = cc in sym (ap (result_of values) same)
   joined_tree _ left right tree is = absurd (cc)
 
-  module _ (wanted : Token → Bool) (inner : List Token → Option Read) where
+  module _ (wanted : Token → Bool) (inner : List Token → Option TreeRead) where
     -- a tree that isn't computed goes on as such a one
     chain_off : (turns : ℕ) (tree : Tree) (tokens : List Token) →
         result_of values tree ≡ unsupported →
@@ -78,7 +76,7 @@ module _ (values : List ((ℕ × ℕ) × CellValue)) where
     chain_off (suc turns) tree (token ∷ tokens) off =
         by (wanted token) (inner tokens) (chain_off turns)
       where
-        joined : (s : Read) (o : Option Tree) → joined_by token tree s.tree ≡ o →
+        joined : (s : TreeRead) (o : Option Tree) → joined_by token tree s.tree ≡ o →
             ((t : Tree) (ts : List Token) → result_of values t ≡ unsupported →
             value_read values (chain_on wanted inner turns t ts) ≡ unsupported) →
             value_read values (option_and_then (λ t. chain_on wanted inner turns t s.rest) o)
@@ -90,7 +88,7 @@ module _ (values : List ((ℕ × ℕ) × CellValue)) where
             ∙ (ap (λ (d : Denoted). joined_result token d (result_of values s.tree)) off
             ∙ joined_left token (result_of values s.tree)))
 
-        by : (t : Bool) (o : Option Read) →
+        by : (t : Bool) (o : Option TreeRead) →
             ((t : Tree) (ts : List Token) → result_of values t ≡ unsupported →
             value_read values (chain_on wanted inner turns t ts) ≡ unsupported) →
             value_read values (cond t (option_and_then (λ s. option_and_then
@@ -101,7 +99,7 @@ module _ (values : List ((ℕ × ℕ) × CellValue)) where
         by true (Some s) rest = joined s (joined_by token tree s.tree) refl rest
 
     -- a chain goes on from a tree that comes to what was computed so far
-    pub record IsOn (whole : Option Read) (left : Denoted) (tokens : List Token) : Type 0 where
+    pub record IsOn (whole : Option TreeRead) (left : Denoted) (tokens : List Token) : Type 0 where
       pub tree : Tree
       pub turns : ℕ
       pub enough : length tokens ≤ turns
@@ -109,7 +107,7 @@ module _ (values : List ((ℕ × ℕ) × CellValue)) where
       pub is : whole ≡ chain_on wanted inner turns tree tokens
 
     -- and where that isn't computed, the whole isn't
-    pub record Goes (whole : Option Read) (left : Denoted) (tokens : List Token) : Type 0 where
+    pub record Goes (whole : Option TreeRead) (left : Denoted) (tokens : List Token) : Type 0 where
       pub on : is_unsupported left ≡ false → IsOn whole left tokens
       pub off : is_unsupported left ≡ true → unsupported ≡ value_read values whole
 
@@ -119,7 +117,7 @@ module _ (values : List ((ℕ × ℕ) × CellValue)) where
         Goes (chain_read wanted inner tokens) left now
     goes_start tokens now left is rest = by (inner tokens) is rest
       where
-        by : (o : Option Read) → left ≡ value_read values o →
+        by : (o : Option TreeRead) → left ≡ value_read values o →
             (is_unsupported left ≡ false → now ≡ rest_read o) →
             Goes (option_and_then
             (λ r. chain_on wanted inner (length r.rest) r.tree r.rest) o) left now
@@ -141,12 +139,12 @@ module _ (values : List ((ℕ × ℕ) × CellValue)) where
               (sym left_is ∙ known_not left known));
         }
 
-    step_from : (whole : Option Read) (token : Token) (after now : List Token)
+    step_from : (whole : Option TreeRead) (token : Token) (after now : List Token)
         (left right : Denoted) (tree : Tree) (turns : ℕ) → wanted token ≡ true →
         ((l r : Tree) → (t : Tree) × (joined_by token l r ≡ Some t)) →
         result_of values tree ≡ left →
         whole ≡ chain_on wanted inner (suc turns) tree (token ∷ after) →
-        length after ≤ turns → (o : Option Read) → inner after ≡ o →
+        length after ≤ turns → (o : Option TreeRead) → inner after ≡ o →
         right ≡ value_read values o → (is_unsupported right ≡ false → now ≡ rest_read o) →
         length now ≤ length after → Goes whole (joined_result token left right) now
     step_from whole token after now left right tree turns wants joins comes is enough None at
@@ -157,7 +155,7 @@ module _ (values : List ((ℕ × ℕ) × CellValue)) where
         is ∙ (ap (λ (t : Bool). cond t (option_and_then (λ s. option_and_then
         (λ tree. chain_on wanted inner turns tree s.rest) (joined_by token tree s.tree))
         (inner after)) (Some (read tree (token ∷ after)))) wants
-        ∙ ap (λ (o : Option Read). option_and_then (λ s. option_and_then
+        ∙ ap (λ (o : Option TreeRead). option_and_then (λ s. option_and_then
         (λ tree. chain_on wanted inner turns tree s.rest) (joined_by token tree s.tree)) o) at) in
         record {
           on = λ known. absurd (off_on (joined_result token left right) none known);
@@ -170,7 +168,7 @@ module _ (values : List ((ℕ × ℕ) × CellValue)) where
         is ∙ (ap (λ (t : Bool). cond t (option_and_then (λ s. option_and_then
         (λ tree. chain_on wanted inner turns tree s.rest) (joined_by token tree s.tree))
         (inner after)) (Some (read tree (token ∷ after)))) wants
-        ∙ (ap (λ (o : Option Read). option_and_then (λ s. option_and_then
+        ∙ (ap (λ (o : Option TreeRead). option_and_then (λ s. option_and_then
         (λ tree. chain_on wanted inner turns tree s.rest) (joined_by token tree s.tree)) o) at
         ∙ ap (λ (o : Option Tree). option_and_then
         (λ tree. chain_on wanted inner turns tree s.rest) o) both.1)) in
@@ -206,7 +204,7 @@ module _ (values : List ((ℕ × ℕ) × CellValue)) where
                 known)
             kept _ known = refl
 
-    pub goes_step : (whole : Option Read) (token : Token) (before after now : List Token)
+    pub goes_step : (whole : Option TreeRead) (token : Token) (before after now : List Token)
         (left right : Denoted) → wanted token ≡ true →
         ((l r : Tree) → (t : Tree) × (joined_by token l r ≡ Some t)) →
         is_unsupported left ≡ false → Goes whole left before → before ≡ token ∷ after →
@@ -228,7 +226,7 @@ module _ (values : List ((ℕ × ℕ) × CellValue)) where
             step_from whole token after now left right tree turns wants joins comes is
             (omega (arith, enough)) (inner after) refl right_is behind shorter
 
-    pub goes_stop : (whole : Option Read) (left : Denoted) (tokens : List Token) →
+    pub goes_stop : (whole : Option TreeRead) (left : Denoted) (tokens : List Token) →
         Goes whole left tokens → is_unsupported left ≡ false → stops wanted tokens ≡ true →
         (left ≡ value_read values whole) × (tokens ≡ rest_read whole)
     goes_stop whole left tokens goes known ends =
@@ -239,14 +237,14 @@ module _ (values : List ((ℕ × ℕ) × CellValue)) where
 
   -- ---- a comparison
 
-  compared_off : (factor : List Token → Option Read) (tree : Tree) (tokens : List Token) →
+  compared_off : (factor : List Token → Option TreeRead) (tree : Tree) (tokens : List Token) →
       result_of values tree ≡ unsupported →
       value_read values (compared_on factor tree tokens) ≡ unsupported
   compared_off factor tree [] off = off
   compared_off factor tree (token ∷ tokens) off =
       by (is_comparison token) (sum_read factor tokens)
     where
-      joined : (s : Read) (o : Option Tree) → joined_by token tree s.tree ≡ o →
+      joined : (s : TreeRead) (o : Option Tree) → joined_by token tree s.tree ≡ o →
           value_read values (option_map (λ t. read t s.rest) o) ≡ unsupported
       joined s None is = refl
       joined s (Some t) is =
@@ -254,7 +252,7 @@ module _ (values : List ((ℕ × ℕ) × CellValue)) where
           ∙ (ap (λ (d : Denoted). joined_result token d (result_of values s.tree)) off
           ∙ joined_left token (result_of values s.tree))
 
-      by : (t : Bool) (o : Option Read) →
+      by : (t : Bool) (o : Option TreeRead) →
           value_read values (cond t (option_and_then (λ s. option_map (λ tree. read tree s.rest)
           (joined_by token tree s.tree)) o) (Some (read tree (token ∷ tokens)))) ≡ unsupported
       by false o = off
@@ -262,12 +260,13 @@ module _ (values : List ((ℕ × ℕ) × CellValue)) where
       by true (Some s) = joined s (joined_by token tree s.tree) refl
 
   -- where the left side isn't computed
-  pub comparison_off : (factor : List Token → Option Read) (tokens : List Token) (left : Denoted) →
+  pub comparison_off : (factor : List Token → Option TreeRead) (tokens : List Token)
+      (left : Denoted) →
       left ≡ value_read values (sum_read factor tokens) → is_unsupported left ≡ true →
       left ≡ value_read values (comparison_read factor tokens)
   comparison_off factor tokens left is off = by (sum_read factor tokens) is
     where
-      by : (o : Option Read) → left ≡ value_read values o →
+      by : (o : Option TreeRead) → left ≡ value_read values o →
           left ≡ value_read values (option_and_then (λ r. compared_on factor r.tree r.rest) o)
       by None left_is = left_is
       by (Some r) left_is =
@@ -275,7 +274,7 @@ module _ (values : List ((ℕ × ℕ) × CellValue)) where
           ∙ sym (compared_off factor r.tree r.rest (sym left_is ∙ known_not left off))
 
   -- where no comparison stands behind the sum
-  pub comparison_stop : (factor : List Token → Option Read) (tokens now : List Token)
+  pub comparison_stop : (factor : List Token → Option TreeRead) (tokens now : List Token)
       (left : Denoted) → left ≡ value_read values (sum_read factor tokens) →
       is_unsupported left ≡ false → now ≡ rest_read (sum_read factor tokens) →
       stops is_comparison now ≡ true →
@@ -292,7 +291,7 @@ module _ (values : List ((ℕ × ℕ) × CellValue)) where
           (joined_by token tree s.tree)) (sum_read factor ts)) (Some (read tree (token ∷ ts))))
           (not_so (is_comparison token) stop)
 
-      by : (o : Option Read) → left ≡ value_read values o → now ≡ rest_read o →
+      by : (o : Option TreeRead) → left ≡ value_read values o → now ≡ rest_read o →
           (left ≡ value_read values (option_and_then (λ r. compared_on factor r.tree r.rest) o))
           × (now ≡ rest_read (option_and_then (λ r. compared_on factor r.tree r.rest) o))
       by None left_is rest = absurd (off_on left left_is known)
@@ -303,7 +302,8 @@ module _ (values : List ((ℕ × ℕ) × CellValue)) where
           (left_is ∙ sym (ap (value_read values) whole), rest ∙ sym (ap rest_read whole))
 
   -- where one does
-  pub comparison_step : (factor : List Token → Option Read) (tokens before after now : List Token)
+  pub comparison_step : (factor : List Token → Option TreeRead) (tokens before after now
+      : List Token)
       (token : Token) (left right : Denoted) → is_comparison token ≡ true →
       ((l r : Tree) → (t : Tree) × (joined_by token l r ≡ Some t)) →
       left ≡ value_read values (sum_read factor tokens) → is_unsupported left ≡ false →
@@ -317,7 +317,7 @@ module _ (values : List ((ℕ × ℕ) × CellValue)) where
       split right_is right_behind =
       by (sum_read factor tokens) left_is behind
     where
-      on : (tree : Tree) (o : Option Read) → sum_read factor after ≡ o →
+      on : (tree : Tree) (o : Option TreeRead) → sum_read factor after ≡ o →
           left ≡ result_of values tree →
           right ≡ value_read values o → (is_unsupported right ≡ false → now ≡ rest_read o) →
           (joined_result token left right
@@ -331,7 +331,7 @@ module _ (values : List ((ℕ × ℕ) × CellValue)) where
           ap (λ (t : Bool). cond t (option_and_then (λ s. option_map (λ tree. read tree s.rest)
           (joined_by token tree s.tree)) (sum_read factor after))
           (Some (read tree (token ∷ after)))) wants
-          ∙ ap (λ (o : Option Read). option_and_then (λ s. option_map (λ tree. read tree s.rest)
+          ∙ ap (λ (o : Option TreeRead). option_and_then (λ s. option_map (λ tree. read tree s.rest)
           (joined_by token tree s.tree)) o) at in (
             none ∙ sym (ap (value_read values) whole),
             λ on. absurd (off_on (joined_result token left right) none on),
@@ -342,7 +342,8 @@ module _ (values : List ((ℕ × ℕ) × CellValue)) where
           ap (λ (t : Bool). cond t (option_and_then (λ s. option_map (λ tree. read tree s.rest)
           (joined_by token tree s.tree)) (sum_read factor after))
           (Some (read tree (token ∷ after)))) wants
-          ∙ (ap (λ (o : Option Read). option_and_then (λ s. option_map (λ tree. read tree s.rest)
+          ∙ (ap (λ (o : Option TreeRead). option_and_then (λ s. option_map (λ tree.
+          read tree s.rest)
           (joined_by token tree s.tree)) o) at
           ∙ ap (λ (o : Option Tree). option_map (λ tree. read tree s.rest) o) both.1) in
           let result : joined_result token left right ≡ result_of values both.0 =
@@ -359,7 +360,7 @@ module _ (values : List ((ℕ × ℕ) × CellValue)) where
               absurd (off_on (joined_result token left unsupported) (joined_right token left) on)
           kept _ on = refl
 
-      by : (o : Option Read) → left ≡ value_read values o → before ≡ rest_read o →
+      by : (o : Option TreeRead) → left ≡ value_read values o → before ≡ rest_read o →
           (joined_result token left right
           ≡ value_read values (option_and_then (λ r. compared_on factor r.tree r.rest) o))
           × (is_unsupported (joined_result token left right) ≡ false →
@@ -375,7 +376,7 @@ module _ (values : List ((ℕ × ℕ) × CellValue)) where
 
   -- ---- parentheses
 
-  pub group_off : (factor : List Token → Option Read) (tokens : List Token) (inside : Denoted) →
+  pub group_off : (factor : List Token → Option TreeRead) (tokens : List Token) (inside : Denoted) →
       inside ≡ value_read values (comparison_read factor tokens) → is_unsupported inside ≡ true →
       inside ≡ value_read values (group_read factor tokens)
   group_off factor tokens inside is off = by (comparison_read factor tokens) is
@@ -390,12 +391,12 @@ module _ (values : List ((ℕ × ℕ) × CellValue)) where
           at true = comes
           at false = known_not inside off
 
-      by : (o : Option Read) → inside ≡ value_read values o →
+      by : (o : Option TreeRead) → inside ≡ value_read values o →
           inside ≡ value_read values (option_and_then (λ r. closed_by r.tree r.rest) o)
       by None comes = comes
       by (Some r) comes = closed r.tree r.rest comes
 
-  pub group_closed : (factor : List Token → Option Read) (tokens now after : List Token)
+  pub group_closed : (factor : List Token → Option TreeRead) (tokens now after : List Token)
       (inside : Denoted) → inside ≡ value_read values (comparison_read factor tokens) →
       is_unsupported inside ≡ false → now ≡ rest_read (comparison_read factor tokens) →
       now ≡ closes ∷ after →
@@ -404,7 +405,7 @@ module _ (values : List ((ℕ × ℕ) × CellValue)) where
   group_closed factor tokens now after inside is known behind split =
       by (comparison_read factor tokens) is behind
     where
-      by : (o : Option Read) → inside ≡ value_read values o → now ≡ rest_read o →
+      by : (o : Option TreeRead) → inside ≡ value_read values o → now ≡ rest_read o →
           (inside ≡ value_read values (option_and_then (λ r. closed_by r.tree r.rest) o))
           × (after ≡ rest_read (option_and_then (λ r. closed_by r.tree r.rest) o))
       by None comes rest = absurd (off_on inside comes known)
@@ -413,7 +414,7 @@ module _ (values : List ((ℕ × ℕ) × CellValue)) where
           ap (closed_by r.tree) (sym rest ∙ split) in
           (comes ∙ sym (ap (value_read values) whole), sym (ap rest_read whole))
 
-  pub group_open : (factor : List Token → Option Read) (tokens now : List Token)
+  pub group_open : (factor : List Token → Option TreeRead) (tokens now : List Token)
       (inside : Denoted) → inside ≡ value_read values (comparison_read factor tokens) →
       is_unsupported inside ≡ false → now ≡ rest_read (comparison_read factor tokens) →
       closes_first now ≡ false → unsupported ≡ value_read values (group_read factor tokens)
@@ -426,7 +427,7 @@ module _ (values : List ((ℕ × ℕ) × CellValue)) where
       not_closed tree (token ∷ ts) none =
           ap (λ (t : Bool). cond t (Some (read (grouped tree) ts)) None) none
 
-      by : (o : Option Read) → inside ≡ value_read values o → now ≡ rest_read o →
+      by : (o : Option TreeRead) → inside ≡ value_read values o → now ≡ rest_read o →
           unsupported ≡ value_read values (option_and_then (λ r. closed_by r.tree r.rest) o)
       by None comes rest = refl
       by (Some r) comes rest =
@@ -446,17 +447,17 @@ module _ (values : List ((ℕ × ℕ) × CellValue)) where
     pub is : whole ≡ option_map (joined_references done) (references_read tokens)
 
   total_more : (done : List Reference) (r : Reference) →
-      fold with_value (total_of values done) (values_within values (area_named r))
+      fold total_with_value (total_of values done) (values_within values (area_named r))
       ≡ total_of values (done ++ r ∷ [])
   total_more done r =
-      sym (ap (fold with_value (a_number (pos 0, pos 0))) (joined done)
+      sym (ap (fold total_with_value (a_number (pos 0, pos 0))) (joined done)
       ∙ fold_on (a_number (pos 0, pos 0)) (flat_map (λ r. values_within values (area_named r)) done)
       (values_within values (area_named r)))
     where
       fold_on : (d : Denoted) (xs ys : List CellValue) →
-          fold with_value d (xs ++ ys) ≡ fold with_value (fold with_value d xs) ys
+          fold total_with_value d (xs ++ ys) ≡ fold total_with_value (fold total_with_value d xs) ys
       fold_on d [] ys = refl
-      fold_on d (x ∷ xs) ys = fold_on (with_value d x) xs ys
+      fold_on d (x ∷ xs) ys = fold_on (total_with_value d x) xs ys
 
       joined : (rs : List Reference) →
           flat_map (λ r. values_within values (area_named r)) (rs ++ r ∷ [])
@@ -479,12 +480,12 @@ module _ (values : List ((ℕ × ℕ) × CellValue)) where
 
   pub total_step : (whole : Option ReferencesRead) (amount more : Denoted)
       (tokens after rest : List Token) (r : Reference) → IsTotal whole amount tokens →
-      more ≡ fold with_value amount (values_within values (area_named r)) →
+      more ≡ fold total_with_value amount (values_within values (area_named r)) →
       tokens ≡ refers r ∷ after → after ≡ comma ∷ rest → IsTotal whole more rest
   total_step whole amount more tokens after rest r so_far more_is split separated = record {
     done = so_far.done ++ r ∷ [];
     comes = more_is
-        ∙ (ap (λ (d : Denoted). fold with_value d (values_within values (area_named r)))
+        ∙ (ap (λ (d : Denoted). fold total_with_value d (values_within values (area_named r)))
         so_far.comes
         ∙ total_more so_far.done r);
     is = so_far.is
@@ -494,7 +495,7 @@ module _ (values : List ((ℕ × ℕ) × CellValue)) where
   }
     where
       on : (o : Option ReferencesRead) →
-          option_map (joined_references so_far.done) (option_map (with_first r) o)
+          option_map (joined_references so_far.done) (option_map (with_first_reference r) o)
           ≡ option_map (joined_references (so_far.done ++ r ∷ [])) o
       on None = refl
       on (Some s) =
@@ -568,7 +569,7 @@ factor_group (suc levels) tokens rest some split =
     ap (factor_read (suc levels)) split
     ∙ ap (λ (n : ℕ). group_read (factor_read n) rest) (sym (less_one levels))
 
-abbrev pub whole_total : ReferencesRead → Read
+abbrev pub whole_total : ReferencesRead → TreeRead
 whole_total s = read (total s.references) s.rest
 
 pub factor_total : (levels : ℕ) (tokens rest : List Token) → IsSome levels →
@@ -586,12 +587,12 @@ factor_total (suc levels) tokens rest some split =
     by (_ ∷ rest) = refl
 
 module _ (values : List ((ℕ × ℕ) × CellValue)) where
-  pub signed_value : (o : Option Read) (inside result : Denoted) → result ≡ of_one inside →
+  pub signed_value : (o : Option TreeRead) (inside result : Denoted) → result ≡ of_one inside →
       inside ≡ value_read values o → result ≡ value_read values (option_map (read_as negated) o)
   signed_value None inside result is inside_is = is ∙ ap of_one inside_is
   signed_value (Some r) inside result is inside_is = is ∙ ap of_one inside_is
 
-  pub signed_rest : (o : Option Read) (inside result : Denoted) (now : List Token) →
+  pub signed_rest : (o : Option TreeRead) (inside result : Denoted) (now : List Token) →
       result ≡ of_one inside → is_unsupported result ≡ false →
       (is_unsupported inside ≡ false → now ≡ rest_read o) →
       now ≡ rest_read (option_map (read_as negated) o)
@@ -602,12 +603,12 @@ module _ (values : List ((ℕ × ℕ) × CellValue)) where
       kept unsupported on = absurd (cc)
       kept _ on = refl
 
-      same : (o : Option Read) → rest_read o ≡ rest_read (option_map (read_as negated) o)
+      same : (o : Option TreeRead) → rest_read o ≡ rest_read (option_map (read_as negated) o)
       same None = refl
       same (Some r) = refl
 
   pub total_value : (o : Option ReferencesRead) →
-      total_read values o ≡ value_read values (option_map whole_total o)
+      total_of_references values o ≡ value_read values (option_map whole_total o)
   total_value None = refl
   total_value (Some s) = refl
 

@@ -1,19 +1,16 @@
 -- What two trees that a token joins are, and what a joined tree is made of.
-use Rattle.std.proofs.Common.{◌≡◌, ℕ, suc, ◌≤◌, Bool, true, ◌∷◌, ◌++◌, Some}
-use Rattle.std.proofs.Common.{max, refl, arith}
-use Rattle.xlsx_check.specs.Tokens.{Token, plus, minus, times}
-use Rattle.xlsx_check.specs.Tokens.{compares}
-use Rattle.xlsx_check.specs.Trees.{Tree, added, less}
-use Rattle.xlsx_check.specs.Trees.{product, compared, open_behind, is_comparison, is_addition}
-use Rattle.xlsx_check.specs.Trees.{is_multiplication, joined_by, spelled, looseness, IsLeftmost}
-use Rattle.xlsx_check.specs.Trees.{enclosures}
+use Rattle.std.proofs.Common.{◌≡◌, ℕ, suc, ◌≤◌, Bool, true, ◌∷◌, ◌++◌, Some, max, refl, arith}
+use Rattle.xlsx_check.specs.Tokens.{Token, plus, minus, times, compares}
+use Rattle.xlsx_check.specs.Trees.{Tree, added, less, product, compared, open_behind, is_comparison}
+use Rattle.xlsx_check.specs.Trees.{is_addition, is_multiplication, joined_by, tree_tokens}
+use Rattle.xlsx_check.specs.Trees.{looseness, IsLeftmost, enclosures}
 
 -- two trees joined by a token: at most so loose ones to the left and to the right make a leftmost
 -- tree, which is looser than the right one
 pub record Joins (most least : ℕ) (token : Token) (left right : Tree) : Type 0 where
   pub tree : Tree
   pub is : joined_by token left right ≡ Some tree
-  pub spelled_is : spelled tree ≡ spelled left ++ token ∷ spelled right
+  pub spelled_is : tree_tokens tree ≡ tree_tokens left ++ token ∷ tree_tokens right
   pub loose : looseness tree ≡ suc least
   pub leftmost :
       looseness left ≤ most → looseness right ≤ least → IsLeftmost left → IsLeftmost right →
@@ -27,7 +24,7 @@ pub record Splits (wanted : Token → Bool) (most least : ℕ) (tree : Tree) : T
   pub token : Token
   pub wants : wanted token ≡ true
   pub is : joined_by token left right ≡ Some tree
-  pub spelled_is : spelled tree ≡ spelled left ++ token ∷ spelled right
+  pub spelled_is : tree_tokens tree ≡ tree_tokens left ++ token ∷ tree_tokens right
   pub loose_left : looseness left ≤ most
   pub loose_right : looseness right ≤ least
   pub left_is : IsLeftmost left

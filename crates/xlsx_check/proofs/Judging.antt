@@ -1,6 +1,6 @@
 -- What is said of a formula by what was computed.
 use Rattle.std.proofs.Common.{◌≡◌, sym, ap}
-use Rattle.cell_data.specs.CellValue.{CellValue}
+use Rattle.cell_data.specs.Words.{CellValue}
 use Rattle.xlsx_check.specs.declared.outcome.Computed.{Computed}
 use Rattle.xlsx_check.specs.declared.outcome.Computed.TheVariants as computed
 use Rattle.xlsx_check.specs.Evaluation.{Denoted, a_number, a_truth, number_past, truth_past}

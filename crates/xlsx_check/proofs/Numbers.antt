@@ -1,8 +1,7 @@
 -- Whole numbers that fit 128 bits, and what numbers come to.
-use Rattle.std.proofs.Common.{◌≡◌, ℕ, zero, suc, ◌*◌, ◌^◌, ◌<◌, ◌≤◌, Bool, true, false}
-use Rattle.std.proofs.Common.{cond, ◌&&◌, Some, None, Option, ℤ, pos, negsuc, ◌+ℤ◌, ◌-ℤ◌, ◌*ℤ◌}
-use Rattle.std.proofs.Common.{◌<ℤ◌, neg_ℤ, nat_abs, refl, sym, ap, ◌∙◌, subst, arith, lit<, inl}
-use Rattle.std.proofs.Common.{inr, ◌⊎◌}
+use Rattle.std.proofs.Common.{◌≡◌, ℕ, zero, suc, ◌*◌, ◌^◌, ◌<◌, ◌≤◌, Bool, true, false, cond, ◌&&◌}
+use Rattle.std.proofs.Common.{Some, None, Option, ℤ, pos, negsuc, ◌+ℤ◌, ◌-ℤ◌, ◌*ℤ◌, ◌<ℤ◌, neg_ℤ}
+use Rattle.std.proofs.Common.{nat_abs, refl, sym, ap, ◌∙◌, subst, arith, lit<, inl, inr, ◌⊎◌}
 use Rattle.std.specs.Prelude.{FitsSigned, SomeIff, int_lt}
 use Rattle.std.specs.Cmp.{int_cmp_is, int_ranks}
 use Rattle.std.specs.Int.{w128}
@@ -15,12 +14,10 @@ use Rattle.std.proofs.Math.Nat.{pow-le-pow_right, one-le-pow}
 use Rattle.std.proofs.lemmas.Bool.{cases_lt}
 use Rattle.std.proofs.lemmas.Bool.Decides.{nat_tests}
 use Rattle.std.proofs.lemmas.Int.{ints}
-use Rattle.decimals.specs.Decimals.{has_bits, decimal_from}
+use Rattle.decimals.specs.Words.{has_bits, decimal_from}
 use Rattle.xlsx_check.specs.Evaluation.{Denoted, a_number, number_past, number_or_past, if_fits}
-use Rattle.xlsx_check.specs.Evaluation.{from_whole}
-use Rattle.xlsx_check.specs.Evaluation.{is_zero, lower, taken_to, if_both_fit, sum_at, sum_of}
-use Rattle.xlsx_check.specs.Evaluation.{difference_at, difference_of}
-use Rattle.xlsx_check.specs.Evaluation.{negative_of, gap}
+use Rattle.xlsx_check.specs.Evaluation.{from_whole, is_zero, lower, taken_to, if_both_fit, sum_at}
+use Rattle.xlsx_check.specs.Evaluation.{sum_of, difference_at, difference_of, negative_of, gap}
 
 pub fits_bits : (z : ℤ) → FitsSigned w128 z → has_bits 127 z ≡ true
 fits_bits (pos n) fits = grind (arith, nat_tests, fits.sfits)

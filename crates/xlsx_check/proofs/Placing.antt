@@ -8,16 +8,15 @@ use Rattle.std.specs.Borrow.{Bor}
 use Rattle.std.specs.Option.{option_map, option_copied}
 use Rattle.xlsx_check.specs.Verdicts.{value_or_nothing}
 use Rattle.std.specs.Ordering.{eq_by_cmp}
-use Rattle.cell_refs.specs.Positions.{position_cmp, is_in_area}
+use Rattle.cell_refs.specs.Words.{position_cmp, is_in_area}
 use Rattle.cell_refs.specs.declared.dimensions.Dimensions.{Dimensions}
-use Rattle.cell_data.specs.CellValue.{CellValue, nothing, value_of_data}
-use Rattle.cell_data.specs.Range.{cells_of}
+use Rattle.cell_data.specs.Words.{CellValue, nothing, value_of_data, cells_of}
 use Rattle.cell_data.specs.declared.range.Range.{Range}
 use Rattle.cell_data.specs.declared.value.Data.{Data}
-use Rattle.decimals.specs.Decimals.{decimal_from}
+use Rattle.decimals.specs.Words.{decimal_from}
 use Rattle.decimals.proofs.Parts.{parts_fit}
 use Rattle.xlsx_check.specs.Denoting.{values_of}
-use Rattle.xlsx_check.specs.Evaluation.{a_number, number_or_past, value_placed, values_within}
+use Rattle.xlsx_check.specs.Evaluation.{a_number, number_or_past, value_looked_up, values_within}
 
 pub zero_is : number_or_past (decimal_from (pos 0, pos 0)) ≡ a_number (pos 0, pos 0)
 zero_is =
@@ -44,7 +43,7 @@ find_value position (cell ∷ cells) =
 
 placed : (position : ℕ × ℕ) (range : Range Data) (found : Option Data) →
     found ≡ find position_cmp position (cells_of range) →
-    value_placed (values_of range) position
+    value_looked_up (values_of range) position
     ≡ unwrap_or (option_map value_of_data found) nothing
 placed position range found is =
     ap (λ (o : Option CellValue). unwrap_or o nothing)
@@ -53,12 +52,12 @@ placed position range found is =
 
 pub placed_some : (position : ℕ × ℕ) (range : Range Data) (value : Data) →
     Some value ≡ find position_cmp position (cells_of range) →
-    value_placed (values_of range) position ≡ value_of_data value
+    value_looked_up (values_of range) position ≡ value_of_data value
 placed_some position range value is = placed position range (Some value) is
 
 pub placed_none : (position : ℕ × ℕ) (range : Range Data) →
     None ≡ find position_cmp position (cells_of range) →
-    value_placed (values_of range) position ≡ nothing
+    value_looked_up (values_of range) position ≡ nothing
 placed_none position range is = placed position range None is
 
 pub within_area : (area : Dimensions) (cells : List ((ℕ × ℕ) × Data)) →
@@ -82,7 +81,7 @@ within_area area (cell ∷ cells) = by (is_in_area area cell.0) (within_area are
 -- the value of a cell that was looked up
 pub placed_or_nothing : (position : ℕ × ℕ) (range : Range Data) (found : Option (Bor Data)) →
     option_copied found ≡ find position_cmp position (cells_of range) →
-    value_or_nothing found ≡ value_placed (values_of range) position
+    value_or_nothing found ≡ value_looked_up (values_of range) position
 placed_or_nothing position range None is = sym (placed position range None is)
 placed_or_nothing position range (Some value) is =
     sym (placed position range (Some value.now) is)

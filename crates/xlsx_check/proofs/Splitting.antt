@@ -1,24 +1,23 @@
 -- What tokens have as their tree: they are what it is spelled as, and it is leftmost; and of what a
 -- leftmost tree is spelled as, that tree.
-use Rattle.std.proofs.Common.{◌≡◌, ℕ, zero, suc, ◌+◌, ◌<◌, ◌≤◌, Bool, cond}
-use Rattle.std.proofs.Common.{List, [], ◌∷◌, ◌++◌, length, Some, None, Option, refl, sym, ap}
-use Rattle.std.proofs.Common.{◌∙◌, subst, arith, inl, inr, ◌⊎◌}
+use Rattle.std.proofs.Common.{◌≡◌, ℕ, zero, suc, ◌+◌, ◌<◌, ◌≤◌, Bool, cond, List, [], ◌∷◌, ◌++◌}
+use Rattle.std.proofs.Common.{length, Some, None, Option, refl, sym, ap, ◌∙◌, subst, arith, inl}
+use Rattle.std.proofs.Common.{inr, ◌⊎◌}
 use Rattle.std.specs.Prelude.{is_none, option_map, option_and_then}
 use Rattle.std.proofs.lemmas.List.{length-append}
 use Rattle.formula_shift.specs.declared.corner.Corner.{Corner}
 use Rattle.formula_shift.specs.declared.reference.Reference.{Reference}
-use Rattle.xlsx_check.specs.Tokens.{Token, constant, refers, sum, sign, opens}
-use Rattle.xlsx_check.specs.Tokens.{closes, comma}
+use Rattle.xlsx_check.specs.Tokens.{Token, constant, refers, sum, sign, opens, closes, comma}
 use Rattle.xlsx_check.specs.Trees.{Tree, literal, cell, total, negated, grouped, added, less}
 use Rattle.xlsx_check.specs.Trees.{product, compared, Cut, open_behind, last_cut, is_comparison}
 use Rattle.xlsx_check.specs.Trees.{is_addition, is_multiplication, joined_by, both_trees, cut_by}
 use Rattle.xlsx_check.specs.Trees.{chained, chain_of, compared_at, comparison_of, cell_alone}
 use Rattle.xlsx_check.specs.Trees.{is_closing, before_closing, references_between, factor_of}
-use Rattle.xlsx_check.specs.Trees.{tree_within, references_spelled, spelled, looseness, IsLeftmost}
-use Rattle.xlsx_check.specs.Trees.{enclosures}
-use Rattle.xlsx_check.proofs.Cuts.{cut_is, cut_at, none_first, none_parts}
-use Rattle.xlsx_check.proofs.Cuts.{depth_spelled, none_spelled, IsLooser, looser_products}
-use Rattle.xlsx_check.proofs.Cuts.{looser_sums, looser_comparisons, is_factor}
+use Rattle.xlsx_check.specs.Trees.{tree_within, references_spelled, tree_tokens, looseness}
+use Rattle.xlsx_check.specs.Trees.{IsLeftmost, enclosures}
+use Rattle.xlsx_check.proofs.Cuts.{cut_is, cut_at, none_first, none_parts, depth_spelled}
+use Rattle.xlsx_check.proofs.Cuts.{none_spelled, IsLooser, looser_products, looser_sums}
+use Rattle.xlsx_check.proofs.Cuts.{looser_comparisons, is_factor}
 use Rattle.xlsx_check.proofs.Joins.{IsKind, Splits, products, sums, comparisons, loosest}
 use Rattle.xlsx_check.proofs.Options.{mapped_from, taken_from}
 
@@ -39,7 +38,7 @@ pub record IsFine (most levels : ℕ) (tree : Tree) : Type 0 where
 
 -- and spelled as these tokens
 pub record Spells (most levels : ℕ) (tree : Tree) (tokens : List Token) : Type 0 where
-  pub is : spelled tree ≡ tokens
+  pub is : tree_tokens tree ≡ tokens
   pub fine : IsFine most levels tree
 
 looser_spells : (most more levels : ℕ) (tree : Tree) (tokens : List Token) → most ≤ more →
@@ -106,7 +105,7 @@ spells_joined wanted most least levels kind tokens cut left right tree is joined
     let same : joins.tree ≡ tree = (let a = joins.is in cc) in
     let spells : Spells (suc least) levels joins.tree tokens = record {
       is = joins.spelled_is
-          ∙ (ap (λ (ts : List Token). ts ++ cut.token ∷ spelled right) before.is
+          ∙ (ap (λ (ts : List Token). ts ++ cut.token ∷ tree_tokens right) before.is
           ∙ (ap (λ (ts : List Token). cut.front ++ cut.token ∷ ts) behind.is ∙ sym known.whole));
       fine = record {
         loose = omega (arith, joins.loose);
@@ -150,67 +149,68 @@ module _ (wanted : Token → Bool) (least levels : ℕ) (kind : IsKind wanted (s
 
   -- and the tokens that it is spelled as have that tree
   chained_spelled :
-      ((tree : Tree) → IsFine least levels tree → inner (spelled tree) ≡ Some tree) →
-      IsLooser wanted least → (turns : ℕ) (tree : Tree) → length (spelled tree) < turns →
-      IsFine (suc least) levels tree → chained wanted inner turns (spelled tree) ≡ Some tree
+      ((tree : Tree) → IsFine least levels tree → inner (tree_tokens tree) ≡ Some tree) →
+      IsLooser wanted least → (turns : ℕ) (tree : Tree) → length (tree_tokens tree) < turns →
+      IsFine (suc least) levels tree → chained wanted inner turns (tree_tokens tree) ≡ Some tree
   chained_spelled known looser zero tree short fine = absurd (omega arith)
   chained_spelled known looser (suc turns) tree short fine =
       by (looseness tree) refl (chained_spelled known looser turns)
     where
       tight : looseness tree ≤ least →
-          cut_by inner (chained wanted inner turns) (spelled tree)
-          (last_cut wanted 0 (spelled tree)) ≡ Some tree
+          cut_by inner (chained wanted inner turns) (tree_tokens tree)
+          (last_cut wanted 0 (tree_tokens tree)) ≡ Some tree
       tight loose =
-          ap (cut_by inner (chained wanted inner turns) (spelled tree))
+          ap (cut_by inner (chained wanted inner turns) (tree_tokens tree))
           (none_spelled wanted least looser tree fine.leftmost loose)
           ∙ known tree
           (record { loose = loose; leftmost = fine.leftmost; within = fine.within })
 
       split : Splits wanted (suc least) least tree →
-          ((t : Tree) → length (spelled t) < turns → IsFine (suc least) levels t →
-          chained wanted inner turns (spelled t) ≡ Some t) →
-          cut_by inner (chained wanted inner turns) (spelled tree)
-          (last_cut wanted 0 (spelled tree)) ≡ Some tree
+          ((t : Tree) → length (tree_tokens t) < turns → IsFine (suc least) levels t →
+          chained wanted inner turns (tree_tokens t) ≡ Some t) →
+          cut_by inner (chained wanted inner turns) (tree_tokens tree)
+          (last_cut wanted 0 (tree_tokens tree)) ≡ Some tree
       split parts rest =
-          let none : last_cut wanted (open_behind 0 parts.token) (spelled parts.right) ≡ None =
-          subst (λ (n : ℕ). last_cut wanted n (spelled parts.right) ≡ None)
+          let none : last_cut wanted (open_behind 0 parts.token) (tree_tokens parts.right) ≡ None =
+          subst (λ (n : ℕ). last_cut wanted n (tree_tokens parts.right) ≡ None)
           (sym (kind.flat parts.token parts.wants 0))
           (none_spelled wanted least looser parts.right parts.right_is parts.loose_right) in
-          let cut : last_cut wanted 0 (spelled tree)
+          let cut : last_cut wanted 0 (tree_tokens tree)
           ≡ Some (record {
-            front = spelled parts.left;
+            front = tree_tokens parts.left;
             token = parts.token;
-            behind = spelled parts.right;
+            behind = tree_tokens parts.right;
           }) =
           ap (last_cut wanted 0) parts.spelled_is
-          ∙ cut_at wanted 0 (spelled parts.left) parts.token (spelled parts.right)
+          ∙ cut_at wanted 0 (tree_tokens parts.left) parts.token (tree_tokens parts.right)
           (depth_spelled 0 parts.left) parts.wants none in
-          let long : length (spelled tree)
-          ≡ length (spelled parts.left) + suc (length (spelled parts.right)) =
+          let long : length (tree_tokens tree)
+          ≡ length (tree_tokens parts.left) + suc (length (tree_tokens parts.right)) =
           ap length parts.spelled_is
-          ∙ length-append (spelled parts.left) (parts.token ∷ spelled parts.right) in
-          let left : chained wanted inner turns (spelled parts.left) ≡ Some parts.left =
+          ∙ length-append (tree_tokens parts.left) (parts.token ∷ tree_tokens parts.right) in
+          let left : chained wanted inner turns (tree_tokens parts.left) ≡ Some parts.left =
           rest parts.left (omega (arith, long, short)) (record {
             loose = parts.loose_left;
             leftmost = parts.left_is;
             within = omega (arith, parts.within, fine.within);
           }) in
-          let right : inner (spelled parts.right) ≡ Some parts.right =
+          let right : inner (tree_tokens parts.right) ≡ Some parts.right =
           known parts.right (record {
             loose = parts.loose_right;
             leftmost = parts.right_is;
             within = omega (arith, parts.within, fine.within);
           }) in
-          ap (cut_by inner (chained wanted inner turns) (spelled tree)) cut
-          ∙ (ap (λ (o : Option Tree). both_trees parts.token o (inner (spelled parts.right))) left
+          ap (cut_by inner (chained wanted inner turns) (tree_tokens tree)) cut
+          ∙ (ap (λ (o : Option Tree).
+          both_trees parts.token o (inner (tree_tokens parts.right))) left
           ∙ (ap (λ (o : Option Tree). both_trees parts.token (Some parts.left) o) right
           ∙ parts.is))
 
       by : (n : ℕ) → looseness tree ≡ n →
-          ((t : Tree) → length (spelled t) < turns → IsFine (suc least) levels t →
-          chained wanted inner turns (spelled t) ≡ Some t) →
-          cut_by inner (chained wanted inner turns) (spelled tree)
-          (last_cut wanted 0 (spelled tree)) ≡ Some tree
+          ((t : Tree) → length (tree_tokens t) < turns → IsFine (suc least) levels t →
+          chained wanted inner turns (tree_tokens t) ≡ Some t) →
+          cut_by inner (chained wanted inner turns) (tree_tokens tree)
+          (last_cut wanted 0 (tree_tokens tree)) ≡ Some tree
       by n is rest = elim (order n (suc least)) [
         | inl same ↦ split (kind.splits tree fine.leftmost (omega (arith, is, same))) rest
         | inr other ↦ tight (omega (arith, is, other, fine.loose))
@@ -280,7 +280,7 @@ record HasNoOperator (tokens : List Token) : Type 0 where
 abbrev AreSpelled : ℕ → (List Token → Option Tree) → Type 0
 AreSpelled levels inner =
     (tokens : List Token) (tree : Tree) → inner tokens ≡ Some tree →
-    (spelled tree ≡ tokens) × IsLeftmost tree × (enclosures tree < levels)
+    (tree_tokens tree ≡ tokens) × IsLeftmost tree × (enclosures tree < levels)
 
 factor_spells : (levels : ℕ) (inner : List Token → Option Tree) → AreSpelled levels inner →
     (tokens : List Token) (tree : Tree) → HasNoOperator tokens →
@@ -349,10 +349,11 @@ factor_spells levels inner spells _ tree clear is = absurd (cc)
 
 abbrev AreKnown : ℕ → (List Token → Option Tree) → Type 0
 AreKnown levels inner =
-    (tree : Tree) → IsLeftmost tree → enclosures tree < levels → inner (spelled tree) ≡ Some tree
+    (tree : Tree) → IsLeftmost tree → enclosures tree < levels → inner (tree_tokens tree)
+    ≡ Some tree
 
 factor_spelled : (levels : ℕ) (inner : List Token → Option Tree) → AreKnown levels inner →
-    (tree : Tree) → IsFine 0 levels tree → factor_of inner (spelled tree) ≡ Some tree
+    (tree : Tree) → IsFine 0 levels tree → factor_of inner (tree_tokens tree) ≡ Some tree
 factor_spelled levels inner known (literal number) fine = refl
 factor_spelled levels inner known (cell r) fine = ap (cell_alone r) fine.leftmost
 factor_spelled levels inner known (total rs) fine =
@@ -364,7 +365,7 @@ factor_spelled levels inner known (negated t) fine =
     (known t fine.leftmost.1 (omega (arith, fine.within)))
 factor_spelled levels inner known (grouped t) fine =
     ap (λ (o : Option (List Token)). option_map grouped (option_and_then inner o))
-    (closing_known (spelled t))
+    (closing_known (tree_tokens t))
     ∙ ap (λ (o : Option Tree). option_map grouped o)
     (known t fine.leftmost (omega (arith, fine.within)))
 factor_spelled levels inner known (added l r) fine = absurd (omega (arith, fine.loose))
@@ -451,66 +452,66 @@ module _ (levels : ℕ) (inner : List Token → Option Tree) where
           alone cut at (last_cut is_comparison 0 cut.front) refl found
 
   products_spelled : AreKnown levels inner → (tree : Tree) → IsFine 1 levels tree →
-      all_products (spelled tree) ≡ Some tree
+      all_products (tree_tokens tree) ≡ Some tree
   products_spelled known tree fine =
       chained_spelled is_multiplication 0 levels products factors
-      (factor_spelled levels inner known) looser_products (suc (length (spelled tree))) tree
+      (factor_spelled levels inner known) looser_products (suc (length (tree_tokens tree))) tree
       (omega arith) fine
 
   sums_spelled : AreKnown levels inner → (tree : Tree) → IsFine 2 levels tree →
-      all_sums (spelled tree) ≡ Some tree
+      all_sums (tree_tokens tree) ≡ Some tree
   sums_spelled known tree fine =
       chained_spelled is_addition 1 levels sums all_products (products_spelled known) looser_sums
-      (suc (length (spelled tree))) tree (omega arith) fine
+      (suc (length (tree_tokens tree))) tree (omega arith) fine
 
   comparison_spelled : AreKnown levels inner → (tree : Tree) → IsFine 3 levels tree →
-      comparison_of all_sums (spelled tree) ≡ Some tree
+      comparison_of all_sums (tree_tokens tree) ≡ Some tree
   comparison_spelled known tree fine = elim (order (looseness tree) 3) [
     | inl same ↦ split (comparisons.splits tree fine.leftmost same)
     | inr other ↦
         let loose : looseness tree ≤ 2 = omega (arith, other, fine.loose) in
-        ap (compared_at all_sums (spelled tree))
+        ap (compared_at all_sums (tree_tokens tree))
         (none_spelled is_comparison 2 looser_comparisons tree fine.leftmost loose)
         ∙ sums_spelled known tree
         (record { loose = loose; leftmost = fine.leftmost; within = fine.within })
   ]
     where
-      split : Splits is_comparison 2 2 tree → comparison_of all_sums (spelled tree) ≡ Some tree
+      split : Splits is_comparison 2 2 tree → comparison_of all_sums (tree_tokens tree) ≡ Some tree
       split parts =
-          let none_left : last_cut is_comparison 0 (spelled parts.left) ≡ None =
+          let none_left : last_cut is_comparison 0 (tree_tokens parts.left) ≡ None =
           none_spelled is_comparison 2 looser_comparisons parts.left parts.left_is
           parts.loose_left in
-          let none : last_cut is_comparison (open_behind 0 parts.token) (spelled parts.right)
+          let none : last_cut is_comparison (open_behind 0 parts.token) (tree_tokens parts.right)
           ≡ None =
-          subst (λ (n : ℕ). last_cut is_comparison n (spelled parts.right) ≡ None)
+          subst (λ (n : ℕ). last_cut is_comparison n (tree_tokens parts.right) ≡ None)
           (sym (comparisons.flat parts.token parts.wants 0))
           (none_spelled is_comparison 2 looser_comparisons parts.right parts.right_is
           parts.loose_right) in
-          let cut : last_cut is_comparison 0 (spelled tree)
+          let cut : last_cut is_comparison 0 (tree_tokens tree)
           ≡ Some (record {
-            front = spelled parts.left;
+            front = tree_tokens parts.left;
             token = parts.token;
-            behind = spelled parts.right;
+            behind = tree_tokens parts.right;
           }) =
           ap (last_cut is_comparison 0) parts.spelled_is
-          ∙ cut_at is_comparison 0 (spelled parts.left) parts.token (spelled parts.right)
+          ∙ cut_at is_comparison 0 (tree_tokens parts.left) parts.token (tree_tokens parts.right)
           (depth_spelled 0 parts.left) parts.wants none in
-          let left : all_sums (spelled parts.left) ≡ Some parts.left =
+          let left : all_sums (tree_tokens parts.left) ≡ Some parts.left =
           sums_spelled known parts.left (record {
             loose = parts.loose_left;
             leftmost = parts.left_is;
             within = omega (arith, parts.within, fine.within);
           }) in
-          let right : all_sums (spelled parts.right) ≡ Some parts.right =
+          let right : all_sums (tree_tokens parts.right) ≡ Some parts.right =
           sums_spelled known parts.right (record {
             loose = parts.loose_right;
             leftmost = parts.right_is;
             within = omega (arith, parts.within, fine.within);
           }) in
-          ap (compared_at all_sums (spelled tree)) cut
+          ap (compared_at all_sums (tree_tokens tree)) cut
           ∙ (ap (λ (o : Option Cut). cond (is_none o) (both_trees parts.token
-          (all_sums (spelled parts.left)) (all_sums (spelled parts.right))) None) none_left
-          ∙ (ap (λ (o : Option Tree). both_trees parts.token o (all_sums (spelled parts.right)))
+          (all_sums (tree_tokens parts.left)) (all_sums (tree_tokens parts.right))) None) none_left
+          ∙ (ap (λ (o : Option Tree). both_trees parts.token o (all_sums (tree_tokens parts.right)))
           left
           ∙ (ap (λ (o : Option Tree). both_trees parts.token (Some parts.left) o) right
           ∙ parts.is)))

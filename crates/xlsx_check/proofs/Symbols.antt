@@ -1,11 +1,8 @@
 -- The tokens of texts between Words, and of pieces.
-use Rattle.std.proofs.Common.{◌≡◌, ℕ, List, ◌∷◌, ◌++◌}
-use Rattle.std.proofs.Common.{Option, sym, ap, ◌∙◌}
-use Rattle.formula_shift.specs.Pieces.{PieceText, word_kind, pieces}
-use Rattle.formula_shift.specs.Relocation.{first_byte, piece_reference}
+use Rattle.std.proofs.Common.{◌≡◌, ℕ, List, ◌∷◌, ◌++◌, Option, sym, ap, ◌∙◌}
+use Rattle.formula_shift.specs.Words.{PieceText, word_kind, pieces, first_byte, piece_reference}
 use Rattle.formula_shift.proofs.Cutting.{joined_pieces-pieces}
-use Rattle.xlsx_check.specs.Tokens.{Token}
-use Rattle.xlsx_check.specs.Tokens.{tokens_by, tokens_of, refers_or, word_token}
+use Rattle.xlsx_check.specs.Tokens.{Token, tokens_by, tokens_of, refers_or, word_token}
 
 -- the tokens of a piece, and of those behind it
 pub piece_first : (all : List PieceText) (piece : PieceText) (text : List ℕ) →

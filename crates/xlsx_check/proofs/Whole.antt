@@ -3,10 +3,10 @@ use Rattle.std.proofs.Common.{◌≡◌, ℕ, ◌==◌, Bool, true, false, List,
 use Rattle.std.proofs.Common.{Option, refl, sym, ap, ◌∙◌, arith}
 use Rattle.std.specs.Prelude.{option_and_then}
 use Rattle.std.proofs.lemmas.Bool.Decides.{nat_tests}
-use Rattle.cell_data.specs.CellValue.{CellValue}
+use Rattle.cell_data.specs.Words.{CellValue}
 use Rattle.xlsx_check.specs.Denoting.{is_unsupported, value_read, rest_read, comparison_from}
 use Rattle.xlsx_check.specs.Evaluation.{Denoted, unsupported, result_of, of_tree}
-use Rattle.xlsx_check.specs.Reading.{Read, if_all, tree_read}
+use Rattle.xlsx_check.specs.Reading.{TreeRead, if_all, tree_read}
 use Rattle.xlsx_check.specs.Tokens.{Token}
 use Rattle.xlsx_check.specs.Trees.{Tree, formula_tree}
 use Rattle.xlsx_check.proofs.Agreeing.{reads_tree}
@@ -51,7 +51,7 @@ module _ (values : List ((ℕ × ℕ) × CellValue)) where
       by (comparison_from 65 tokens) is rest
       ∙ ap (of_tree values) (reads_tree tokens)
     where
-      at : (r : Read) (off : Bool) → is_unsupported d ≡ off → d ≡ result_of values r.tree →
+      at : (r : TreeRead) (off : Bool) → is_unsupported d ≡ off → d ≡ result_of values r.tree →
           (is_unsupported d ≡ false → now ≡ r.rest) →
           at_end none d ≡ of_tree values (if_all r.tree r.rest)
       at r true known comes behind =
@@ -59,7 +59,7 @@ module _ (values : List ((ℕ × ℕ) × CellValue)) where
       at r false known comes behind =
           known_end r.tree r.rest now d none empty (behind known) comes
 
-      by : (o : Option Read) → d ≡ value_read values o →
+      by : (o : Option TreeRead) → d ≡ value_read values o →
           (is_unsupported d ≡ false → now ≡ rest_read o) →
           at_end none d ≡ of_tree values (option_and_then (λ r. if_all r.tree r.rest) o)
       by None comes behind = ended none comes

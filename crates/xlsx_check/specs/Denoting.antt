@@ -2,11 +2,10 @@
 use Rattle.std.specs.Prelude.{ℕ, ◌++◌, Bool, true, false, List, [], ◌∷◌, map, Option, Some, None}
 use Rattle.std.specs.Prelude.{option_to_list}
 use Rattle.std.specs.Option.{option_map}
-use Rattle.cell_data.specs.CellValue.{CellValue, value_of_data}
-use Rattle.cell_data.specs.Range.{cells_of}
+use Rattle.cell_data.specs.Words.{CellValue, value_of_data, cells_of}
 use Rattle.cell_data.specs.declared.range.Range.{Range}
 use Rattle.cell_data.specs.declared.value.Data.{Data}
-use Rattle.decimals.specs.Decimal.{number_of}
+use Rattle.decimals.specs.Words.{number_of}
 use Rattle.xlsx_check.specs.declared.ahead.Ahead.{Ahead}
 use Rattle.xlsx_check.specs.declared.denotation.Denotation.{Denotation}
 use Rattle.xlsx_check.specs.declared.denotation.Denotation.TheVariants as code
@@ -17,12 +16,10 @@ use Rattle.xlsx_check.specs.declared.token.Separator.TheVariants as separator
 use Rattle.xlsx_check.specs.Evaluation.{Denoted, a_number, a_truth, number_past, truth_past}
 use Rattle.xlsx_check.specs.Evaluation.{unsupported, of_two, sum_of, difference_of, product_of}
 use Rattle.xlsx_check.specs.Evaluation.{holds, gap, result_of, total_of}
-use Rattle.xlsx_check.specs.Reading.{Read, ReferencesRead, product_read, sum_read}
-use Rattle.xlsx_check.specs.Reading.{comparison_read, factor_read, group_read}
-use Rattle.xlsx_check.specs.Reading.{references_read}
-use Rattle.xlsx_check.specs.TokenView.{token_of, tokens_left}
-use Rattle.xlsx_check.specs.Tokens.{Token, plus, minus, times, compares, comma, closes}
-use Rattle.xlsx_check.specs.Tokens.{opens}
+use Rattle.xlsx_check.specs.Reading.{TreeRead, ReferencesRead, product_read, sum_read}
+use Rattle.xlsx_check.specs.Reading.{comparison_read, factor_read, group_read, references_read}
+use Rattle.xlsx_check.specs.TokenView.{token_of, tokens_to_give}
+use Rattle.xlsx_check.specs.Tokens.{Token, plus, minus, times, compares, comma, closes, opens}
 use Rattle.xlsx_check.specs.Trees.{is_comparison, is_addition, is_multiplication}
 
 -- what a value of the code stands for
@@ -33,12 +30,12 @@ denoted_by code.NumberPast = number_past
 denoted_by code.TruthPast = truth_past
 denoted_by code.Unsupported = unsupported
 
--- a result isn't computed
+-- a result is that something in a formula isn't computed
 abbrev pub is_unsupported : Denoted → Bool
 is_unsupported unsupported = true
 is_unsupported _ = false
 
--- what two results come to that a token joins
+-- what two results come to that a token joins: an operator between two operands
 abbrev pub joined_result : Token → Denoted → Denoted → Denoted
 joined_result plus a b = of_two sum_of number_past a b
 joined_result minus a b = of_two difference_of number_past a b
@@ -68,54 +65,57 @@ abbrev pub values_of : Range Data → List ((ℕ × ℕ) × CellValue)
 values_of range = map (λ cell. (cell.0, value_of_data cell.1)) (cells_of range)
 
 -- the tokens that are still to be read
-abbrev pub ahead : Ahead → List Token
-ahead it = option_to_list (option_map token_of it.next) ++ tokens_left it.rest
+abbrev pub tokens_ahead : Ahead → List Token
+tokens_ahead it = option_to_list (option_map token_of it.next) ++ tokens_to_give it.rest
 
--- what was read of a tree comes to, and what stands behind it
-abbrev pub value_read : List ((ℕ × ℕ) × CellValue) → Option Read → Denoted
+-- what a tree that was read comes to, if there is one, over the values of cells
+abbrev pub value_read : List ((ℕ × ℕ) × CellValue) → Option TreeRead → Denoted
 value_read values None = unsupported
 value_read values (Some r) = result_of values r.tree
 
 -- the tokens behind what was read of a tree
-abbrev pub rest_read : Option Read → List Token
+abbrev pub rest_read : Option TreeRead → List Token
 rest_read None = []
 rest_read (Some r) = r.rest
 
--- the same of references
-abbrev pub total_read : List ((ℕ × ℕ) × CellValue) → Option ReferencesRead → Denoted
-total_read values None = unsupported
-total_read values (Some r) = total_of values r.references
+-- the sum over references that were read between parentheses, or nothing where they couldn't be
+abbrev pub total_of_references : List ((ℕ × ℕ) × CellValue) → Option ReferencesRead → Denoted
+total_of_references values None = unsupported
+total_of_references values (Some r) = total_of values r.references
 
--- the tokens behind references that were read
+-- the tokens behind the references that were read
 abbrev pub references_rest : Option ReferencesRead → List Token
 references_rest None = []
 references_rest (Some r) = r.rest
 
--- what is read of tokens, where fewer parentheses and signs than these levels are round each
-unfoldable pub factor_from : ℕ → List Token → Option Read
+-- the tree of a factor in front of tokens, where fewer parentheses and signs than these levels are
+-- round each token, and the tokens behind it
+unfoldable pub factor_from : ℕ → List Token → Option TreeRead
 factor_from levels tokens = factor_read levels tokens
 
--- the same of a product: factors with `*` between them
-unfoldable pub product_from : ℕ → List Token → Option Read
+-- the tree of a product in front of tokens, factors with `*` between them, and the tokens behind it
+unfoldable pub product_from : ℕ → List Token → Option TreeRead
 product_from levels tokens = product_read (factor_read levels) tokens
 
--- the same of a sum: products with `+` or `-` between them
-unfoldable pub sum_from : ℕ → List Token → Option Read
+-- the tree of a sum in front of tokens, products with `+` or `-` between them, and the tokens
+-- behind it
+unfoldable pub sum_from : ℕ → List Token → Option TreeRead
 sum_from levels tokens = sum_read (factor_read levels) tokens
 
--- the same of a comparison of two sums, or of one sum
-unfoldable pub comparison_from : ℕ → List Token → Option Read
+-- the tree of one sum in front of tokens, or of a comparison of two, and the tokens behind it
+unfoldable pub comparison_from : ℕ → List Token → Option TreeRead
 comparison_from levels tokens = comparison_read (factor_read levels) tokens
 
--- the same of a comparison whose closing parenthesis stands behind it
-unfoldable pub group_from : ℕ → List Token → Option Read
+-- the tree of a comparison in front of tokens whose closing parenthesis stands behind it, and the
+-- tokens behind that
+unfoldable pub group_from : ℕ → List Token → Option TreeRead
 group_from levels tokens = group_read (factor_read levels) tokens
 
 -- what is read of references with commas between them, up to a closing parenthesis
 unfoldable pub references_from : List Token → Option ReferencesRead
 references_from tokens = references_read tokens
 
--- the same behind an opening parenthesis
+-- the references behind an opening parenthesis, with commas between them, up to the closing one
 abbrev pub opened_references : List Token → Option ReferencesRead
 opened_references (opens ∷ tokens) = references_from tokens
 opened_references _ = None

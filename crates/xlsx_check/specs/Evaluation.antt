@@ -1,18 +1,16 @@
 -- What a formula comes to, by the values that its cells have.
-use Rattle.std.specs.Prelude.{ℕ, ◌^◌, ◌==◌, ◌&&◌, not, nat_abs, int_lt, Bool}
-use Rattle.std.specs.Prelude.{if◌then◌else◌, List, map, ℤ, pos, ◌+ℤ◌, ◌-ℤ◌, ◌*ℤ◌, neg_ℤ}
-use Rattle.std.specs.Prelude.{Option, Some, None, unwrap_or}
+use Rattle.std.specs.Prelude.{ℕ, ◌^◌, ◌==◌, ◌&&◌, not, nat_abs, int_lt, Bool, if◌then◌else◌, List}
+use Rattle.std.specs.Prelude.{map, ℤ, pos, ◌+ℤ◌, ◌-ℤ◌, ◌*ℤ◌, neg_ℤ, Option, Some, None, unwrap_or}
 use Rattle.std.specs.FinMap.{find}
 use Rattle.std.specs.List.{filter, flat_map, fold}
 use Rattle.std.specs.Ordering.{int_cmp, is_lt, is_eq, is_gt}
 use Rattle.std.specs.declared.cmp.Ordering.{Ordering}
-use Rattle.cell_refs.specs.Positions.{position_cmp, is_in_area}
+use Rattle.cell_refs.specs.Words.{position_cmp, is_in_area}
 use Rattle.cell_refs.specs.declared.dimensions.Dimensions.{Dimensions}
-use Rattle.cell_data.specs.CellValue.{CellValue, nothing, integer, number}
-use Rattle.cell_data.specs.CellValue.{time, failure}
-use Rattle.decimals.specs.Decimals.{has_bits, decimal_from}
+use Rattle.cell_data.specs.Words.{CellValue, nothing, integer, number, time, failure}
+use Rattle.decimals.specs.Words.{has_bits, decimal_from}
 use Rattle.formula_shift.specs.declared.reference.Reference.{Reference}
-use Rattle.formula_shift.specs.Areas.{area_named}
+use Rattle.formula_shift.specs.Words.{area_named}
 use Rattle.xlsx_check.specs.declared.token.Comparison.{Comparison}
 use Rattle.xlsx_check.specs.declared.token.Comparison.TheVariants.{Equal, Unequal, Below, Above}
 use Rattle.xlsx_check.specs.declared.token.Comparison.TheVariants.{UpTo, From}
@@ -20,7 +18,7 @@ use Rattle.xlsx_check.specs.Tokens.{formula_tokens}
 use Rattle.xlsx_check.specs.Trees.{Tree, literal, cell, total, negated, grouped, added, less}
 use Rattle.xlsx_check.specs.Trees.{product, compared, formula_tree}
 
--- what a tree comes to: a number, or a truth value, or such a one that is past the limits; or
+-- what a tree comes to: a number, or a boolean, or such a one that is past the limits; or
 -- nothing, where something in it isn't computed
 pub data Denoted : Type 0 where
   a_number : ℤ × ℤ → Denoted
@@ -38,7 +36,7 @@ number_or_past None = number_past
 abbrev pub if_fits : ℤ → ℤ × ℤ → Denoted
 if_fits whole n = if has_bits 127 whole then number_or_past (decimal_from n) else number_past
 
--- a number is 0
+-- a number of a formula is 0
 abbrev pub is_zero : ℤ × ℤ → Bool
 is_zero n = nat_abs n.0 == 0
 
@@ -103,7 +101,7 @@ holds_by Above order = is_gt order
 holds_by UpTo order = not (is_gt order)
 holds_by From order = not (is_lt order)
 
--- and so by the first less the second
+-- a comparison holds of two numbers, by the first less the second
 abbrev pub holds : Comparison → ℤ → Bool
 holds comparison gap = holds_by comparison (int_cmp gap (pos 0))
 
@@ -129,14 +127,14 @@ number_in (number n) = a_number n
 number_in (time days kind is_1904) = a_number days
 number_in _ = unsupported
 
--- a total, with a value more; texts, truth values and ISO dates are passed over
-abbrev pub with_value : Denoted → CellValue → Denoted
-with_value so_far (integer n) = of_two sum_of number_past so_far (number_in (integer n))
-with_value so_far (number n) = of_two sum_of number_past so_far (number_in (number n))
-with_value so_far (time days kind is_1904) =
+-- a total, with a value more; texts, booleans and ISO dates are passed over
+abbrev pub total_with_value : Denoted → CellValue → Denoted
+total_with_value so_far (integer n) = of_two sum_of number_past so_far (number_in (integer n))
+total_with_value so_far (number n) = of_two sum_of number_past so_far (number_in (number n))
+total_with_value so_far (time days kind is_1904) =
     of_two sum_of number_past so_far (number_in (time days kind is_1904))
-with_value so_far (failure error) = unsupported
-with_value so_far _ = so_far
+total_with_value so_far (failure error) = unsupported
+total_with_value so_far _ = so_far
 
 -- the values of the used cells of an area, row by row
 abbrev pub values_within : List ((ℕ × ℕ) × CellValue) → Dimensions → List CellValue
@@ -146,17 +144,17 @@ values_within values area =
 -- the sum of the values in the areas of these references
 abbrev pub total_of : List ((ℕ × ℕ) × CellValue) → List Reference → Denoted
 total_of values rs =
-    fold with_value (a_number (pos 0, pos 0))
+    fold total_with_value (a_number (pos 0, pos 0))
     (flat_map (λ r. values_within values (area_named r)) rs)
 
 -- the value at a position, or nothing
-abbrev pub value_placed : List ((ℕ × ℕ) × CellValue) → ℕ × ℕ → CellValue
-value_placed values position = unwrap_or (find position_cmp position values) nothing
+abbrev pub value_looked_up : List ((ℕ × ℕ) × CellValue) → ℕ × ℕ → CellValue
+value_looked_up values position = unwrap_or (find position_cmp position values) nothing
 
 -- what a tree comes to, over the values of cells
 abbrev pub result_of : List ((ℕ × ℕ) × CellValue) → Tree → Denoted
 result_of values (literal n) = a_number n
-result_of values (cell r) = number_in (value_placed values (area_named r).start)
+result_of values (cell r) = number_in (value_looked_up values (area_named r).start)
 result_of values (total rs) = total_of values rs
 result_of values (negated t) = of_one (result_of values t)
 result_of values (grouped t) = result_of values t
@@ -169,11 +167,11 @@ result_of values (product l r) =
 result_of values (compared c l r) =
     of_two (λ a b. a_truth (holds c (gap a b))) truth_past (result_of values l) (result_of values r)
 
--- the same of a formula that may have no tree
+-- what a tree comes to over the values of cells, where a formula has one
 abbrev pub of_tree : List ((ℕ × ℕ) × CellValue) → Option Tree → Denoted
 of_tree values (Some t) = result_of values t
 of_tree values None = unsupported
 
--- what a formula comes to
+-- what a formula comes to, by its text and the values of cells
 unfoldable pub denotation : List ((ℕ × ℕ) × CellValue) → List ℕ → Denoted
 denotation values formula = of_tree values (formula_tree (formula_tokens formula))

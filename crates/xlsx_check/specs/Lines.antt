@@ -2,16 +2,15 @@
 use Rattle.std.specs.Prelude.{ℕ, true, false, List, [], ◌++◌, codes, map, String, string_bytes}
 use Rattle.std.specs.List.{flat_map}
 use Rattle.std.specs.declared.alloc.Global.{Global}
-use Rattle.cell_refs.specs.Reference.{reference}
-use Rattle.cell_data.specs.CellValue.{CellValue}
-use Rattle.cell_data.specs.Range.{cells_of}
+use Rattle.cell_refs.specs.Words.{reference}
+use Rattle.cell_data.specs.Words.{CellValue, cells_of}
 use Rattle.cell_data.specs.declared.range.Range.{Range}
-use Rattle.decimals.specs.Decimals.{printed}
-use Rattle.xlsx_check.specs.Evaluation.{Denoted, a_number, a_truth, denotation, value_placed}
+use Rattle.decimals.specs.Words.{printed}
+use Rattle.xlsx_check.specs.Evaluation.{Denoted, a_number, a_truth, denotation, value_looked_up}
 use Rattle.xlsx_check.specs.Verdicts.{Judged, agreed, differing, without_value, not_computed}
 use Rattle.xlsx_check.specs.Verdicts.{overflowing, judged}
 
--- a number or a truth value that was computed, its kind first; nothing else differs from a value
+-- a number or a boolean that was computed, its kind first; nothing else differs from a value
 abbrev pub computed_text : Denoted → List ℕ
 computed_text (a_number n) = codes "n:" ++ printed n
 computed_text (a_truth true) = codes "b:true"
@@ -37,7 +36,7 @@ formulas_of range = map (λ cell. (cell.0, string_bytes cell.1)) (cells_of range
 
 -- what is said of the formula of a cell beside the cell's value
 abbrev pub judged_at : List ((ℕ × ℕ) × CellValue) → (ℕ × ℕ) × List ℕ → Judged
-judged_at values formula = judged (denotation values formula.1) (value_placed values formula.0)
+judged_at values formula = judged (denotation values formula.1) (value_looked_up values formula.0)
 
 -- the lines of formulas, by the values of their sheet
 abbrev pub check_lines : List ((ℕ × ℕ) × CellValue) → List ((ℕ × ℕ) × List ℕ) → List ℕ

@@ -1,14 +1,15 @@
 -- The tokens of the code, and what its iterator over them gives.
 use Rattle.std.specs.Prelude.{List, ◌++◌}
-use Rattle.decimals.specs.Decimal.{number_of}
-use Rattle.formula_shift.specs.Pieces.{pieces_left}
+use Rattle.decimals.specs.Words.{number_of}
+use Rattle.formula_shift.specs.Words.{pieces_left}
 use Rattle.xlsx_check.specs.declared.token.Token.{Token as CodeToken}
 use Rattle.xlsx_check.specs.declared.token.Token.TheVariants as code
 use Rattle.xlsx_check.specs.declared.tokens.Tokens.{Tokens}
 use Rattle.xlsx_check.specs.Tokens.{Token, constant, refers, sum, plus, minus, sign, times, opens}
-use Rattle.xlsx_check.specs.Tokens.{closes, comma, compares, stray, symbols, tokens_of, with_signs}
+use Rattle.xlsx_check.specs.Tokens.{closes, comma, compares, stray, symbol_tokens, tokens_of}
+use Rattle.xlsx_check.specs.Tokens.{with_signs}
 
--- the token that is kept
+-- a token of a formula as it is kept in code
 abbrev pub token_of : CodeToken → Token
 token_of (code.Constant number) = constant (number_of number)
 token_of (code.Refers reference) = refers reference
@@ -25,8 +26,8 @@ token_of code.Stray = stray
 
 -- the tokens that are left to give, before a `-` is told from a sign
 abbrev pub unsigned_left : Tokens → List Token
-unsigned_left it = symbols it.symbols.now ++ tokens_of (pieces_left it.pieces)
+unsigned_left it = symbol_tokens it.symbols.now ++ tokens_of (pieces_left it.pieces)
 
 -- the tokens that are left to give
-abbrev pub tokens_left : Tokens → List Token
-tokens_left it = with_signs it.behind_operand (unsigned_left it)
+abbrev pub tokens_to_give : Tokens → List Token
+tokens_to_give it = with_signs it.behind_operand (unsigned_left it)

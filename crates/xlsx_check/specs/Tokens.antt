@@ -1,13 +1,13 @@
 -- The tokens of a formula that can be checked.
-use Rattle.std.specs.Prelude.{ℕ, ◌==◌, ◌&&◌, ◌||◌, Bool, true, false, if◌then◌else◌}
-use Rattle.std.specs.Prelude.{List, [], ◌∷◌, ◌++◌, codes, Option, Some, None, ℤ}
+use Rattle.std.specs.Prelude.{ℕ, ◌==◌, ◌&&◌, ◌||◌, Bool, true, false, if◌then◌else◌, List, [], ◌∷◌}
+use Rattle.std.specs.Prelude.{◌++◌, codes, Option, Some, None, ℤ}
 use Rattle.std.specs.Char.{is_ascii_digit}
 use Rattle.std.specs.List.{list_all}
 use Rattle.std.specs.Str.{bytes_eq, str_to_ascii_lowercase}
-use Rattle.decimals.specs.Decimals.{decimal_of}
-use Rattle.formula_shift.specs.Pieces.{PieceKind, word_kind, other_kind, string_kind, quoted_kind}
-use Rattle.formula_shift.specs.Pieces.{group_kind, PieceText, pieces, joined_pieces}
-use Rattle.formula_shift.specs.Relocation.{piece_reference, first_byte}
+use Rattle.decimals.specs.Words.{decimal_of}
+use Rattle.formula_shift.specs.Words.{PieceKind, word_kind, other_kind, string_kind, quoted_kind}
+use Rattle.formula_shift.specs.Words.{group_kind, PieceText, pieces, joined_pieces, piece_reference}
+use Rattle.formula_shift.specs.Words.{first_byte}
 use Rattle.formula_shift.specs.declared.reference.Reference.{Reference}
 use Rattle.xlsx_check.specs.declared.token.Comparison.{Comparison}
 use Rattle.xlsx_check.specs.declared.token.Comparison.TheVariants.{Equal, Unequal, Below, Above}
@@ -28,13 +28,13 @@ pub data Token : Type 0 where
   compares : Comparison → Token
   stray : Token
 
--- space, tab, LF and CR
-abbrev pub is_space : ℕ → Bool
-is_space b = b == 32 || (b == 9 || (b == 10 || b == 13))
+-- a byte is a space, a tab, LF or CR
+abbrev pub is_space_or_line_end : ℕ → Bool
+is_space_or_line_end b = b == 32 || (b == 9 || (b == 10 || b == 13))
 
 -- a token of one character
-abbrev pub symbol : ℕ → Token
-symbol b =
+abbrev pub symbol_token : ℕ → Token
+symbol_token b =
     if b == 43 then plus
     else (if b == 45 then minus
     else (if b == 42 then times
@@ -57,22 +57,22 @@ pair_symbol b c =
 -- a token of two bytes in front of the tokens behind it, or one of the first byte alone
 abbrev pub before_symbols : Option Token → ℕ → List Token → List Token → List Token
 before_symbols (Some token) b behind_one behind_two = token ∷ behind_two
-before_symbols None b behind_one behind_two = symbol b ∷ behind_one
+before_symbols None b behind_one behind_two = symbol_token b ∷ behind_one
 
 -- the tokens of a piece that is no Word, where the longest counts and white space is passed over
-abbrev pub symbols : List ℕ → List Token
-symbols [] = []
-symbols (b ∷ []) = if is_space b then [] else symbol b ∷ []
-symbols (b ∷ c ∷ bs) =
-    if is_space b then symbols (c ∷ bs)
-    else before_symbols (pair_symbol b c) b (symbols (c ∷ bs)) (symbols bs)
+abbrev pub symbol_tokens : List ℕ → List Token
+symbol_tokens [] = []
+symbol_tokens (b ∷ []) = if is_space_or_line_end b then [] else symbol_token b ∷ []
+symbol_tokens (b ∷ c ∷ bs) =
+    if is_space_or_line_end b then symbol_tokens (c ∷ bs)
+    else before_symbols (pair_symbol b c) b (symbol_tokens (c ∷ bs)) (symbol_tokens bs)
 
 -- a word in front of an opening parenthesis is `SUM`, in letters of either case
 abbrev pub is_sum : List ℕ → Option ℕ → Bool
 is_sum word None = false
 is_sum word (Some b) = b == 40 && bytes_eq (str_to_ascii_lowercase word) (codes "sum")
 
--- digits with at most one point
+-- a text is digits with at most one point
 abbrev pub is_plain_number : List ℕ → Bool
 is_plain_number word = list_all (λ b. is_ascii_digit b || b == 46) word
 
@@ -96,17 +96,17 @@ refers_or None other = other
 abbrev pub tokens_by : PieceKind → PieceText → Option ℕ → List Token
 tokens_by word_kind piece behind =
     refers_or (piece_reference piece behind) (word_token piece.bytes behind) ∷ []
-tokens_by other_kind piece behind = symbols piece.bytes
+tokens_by other_kind piece behind = symbol_tokens piece.bytes
 tokens_by string_kind piece behind = stray ∷ []
 tokens_by quoted_kind piece behind = stray ∷ []
 tokens_by group_kind piece behind = stray ∷ []
 
--- the tokens of pieces
+-- the tokens of the pieces of a formula
 abbrev pub tokens_of : List PieceText → List Token
 tokens_of [] = []
 tokens_of (p ∷ ps) = tokens_by p.kind p (first_byte (joined_pieces ps)) ++ tokens_of ps
 
--- a number, a reference or a closing parenthesis
+-- a token ends an operand: it is a number, a reference or a closing parenthesis
 abbrev pub is_operand_end : Token → Bool
 is_operand_end (constant number) = true
 is_operand_end (refers reference) = true
@@ -124,6 +124,6 @@ with_signs behind_operand [] = []
 with_signs behind_operand (token ∷ tokens) =
     signed behind_operand token ∷ with_signs (is_operand_end token) tokens
 
--- the tokens of a formula
+-- the tokens of a formula's text, with signs told from minuses
 unfoldable pub formula_tokens : List ℕ → List Token
 formula_tokens text = with_signs false (tokens_of (pieces text))

@@ -1,14 +1,13 @@
 -- The tree of a formula: it is split at its comparison, else at the last + or -, else at the last
 -- *.
-use Rattle.std.specs.Prelude.{◌≡◌, ⊤, ℕ, zero, suc, ◌-◌, ◌<◌, ◌≤◌, ◌==◌, ◌&&◌, is_none, max}
-use Rattle.std.specs.Prelude.{Bool}
-use Rattle.std.specs.Prelude.{true, false, if◌then◌else◌, List, [], ◌∷◌, ◌++◌, length, ℤ}
-use Rattle.std.specs.Prelude.{Option, Some, None, option_map, option_and_then}
+use Rattle.std.specs.Prelude.{◌≡◌, ⊤, ℕ, zero, suc, ◌-◌, ◌<◌, ◌≤◌, ◌==◌, ◌&&◌, is_none, max, Bool}
+use Rattle.std.specs.Prelude.{true, false, if◌then◌else◌, List, [], ◌∷◌, ◌++◌, length, ℤ, Option}
+use Rattle.std.specs.Prelude.{Some, None, option_map, option_and_then}
 use Rattle.formula_shift.specs.declared.corner.Corner.{Corner}
 use Rattle.formula_shift.specs.declared.reference.Reference.{Reference}
 use Rattle.xlsx_check.specs.declared.token.Comparison.{Comparison}
-use Rattle.xlsx_check.specs.Tokens.{Token, constant, refers, sum, plus, minus, sign}
-use Rattle.xlsx_check.specs.Tokens.{times, opens, closes, comma, compares}
+use Rattle.xlsx_check.specs.Tokens.{Token, constant, refers, sum, plus, minus, sign, times, opens}
+use Rattle.xlsx_check.specs.Tokens.{closes, comma, compares}
 
 -- what a formula computes: constants, cells, sums of areas, and operators on trees
 pub data Tree : Type 0 where
@@ -51,7 +50,7 @@ last_cut wanted opened (token ∷ tokens) =
     or_cut_here (last_cut wanted (open_behind opened token) tokens)
     (opened == 0 && wanted token) token tokens
 
--- a token compares
+-- a token is a sign of comparison
 abbrev pub is_comparison : Token → Bool
 is_comparison (compares c) = true
 is_comparison _ = false
@@ -110,7 +109,7 @@ compared_at inner tokens (Some cut) =
 abbrev pub comparison_of : (List Token → Option Tree) → List Token → Option Tree
 comparison_of inner tokens = compared_at inner tokens (last_cut is_comparison 0 tokens)
 
--- a cell alone
+-- the tree of a reference to one cell, where it has no second corner
 abbrev pub cell_alone : Reference → Option Corner → Option Tree
 cell_alone r None = Some (cell r)
 cell_alone r (Some second) = None
@@ -127,14 +126,14 @@ before_closing (token ∷ []) = if is_closing token then Some [] else None
 before_closing (token ∷ next ∷ tokens) =
     option_map (λ front. token ∷ front) (before_closing (next ∷ tokens))
 
--- references between commas
+-- the references that tokens are, with commas between them
 abbrev pub references_between : List Token → Option (List Reference)
 references_between (refers r ∷ []) = Some (r ∷ [])
 references_between (refers r ∷ comma ∷ tokens) =
     option_map (λ others. r ∷ others) (references_between tokens)
 references_between _ = None
 
--- what is no sum, no product and no comparison
+-- the tree of tokens that are no sum, no product and no comparison
 abbrev pub factor_of : (List Token → Option Tree) → List Token → Option Tree
 factor_of inner (constant number ∷ []) = Some (literal number)
 factor_of inner (refers r ∷ []) = cell_alone r r.second
@@ -164,17 +163,17 @@ references_spelled [] = []
 references_spelled (r ∷ []) = refers r ∷ []
 references_spelled (r ∷ next ∷ others) = refers r ∷ comma ∷ references_spelled (next ∷ others)
 
--- the tokens of a tree
-abbrev pub spelled : Tree → List Token
-spelled (literal number) = constant number ∷ []
-spelled (cell r) = refers r ∷ []
-spelled (total rs) = sum ∷ opens ∷ (references_spelled rs ++ closes ∷ [])
-spelled (negated t) = sign ∷ spelled t
-spelled (grouped t) = opens ∷ (spelled t ++ closes ∷ [])
-spelled (added l r) = spelled l ++ plus ∷ spelled r
-spelled (less l r) = spelled l ++ minus ∷ spelled r
-spelled (product l r) = spelled l ++ times ∷ spelled r
-spelled (compared c l r) = spelled l ++ compares c ∷ spelled r
+-- the tokens by which a tree is written, each parenthesis among them
+abbrev pub tree_tokens : Tree → List Token
+tree_tokens (literal number) = constant number ∷ []
+tree_tokens (cell r) = refers r ∷ []
+tree_tokens (total rs) = sum ∷ opens ∷ (references_spelled rs ++ closes ∷ [])
+tree_tokens (negated t) = sign ∷ tree_tokens t
+tree_tokens (grouped t) = opens ∷ (tree_tokens t ++ closes ∷ [])
+tree_tokens (added l r) = tree_tokens l ++ plus ∷ tree_tokens r
+tree_tokens (less l r) = tree_tokens l ++ minus ∷ tree_tokens r
+tree_tokens (product l r) = tree_tokens l ++ times ∷ tree_tokens r
+tree_tokens (compared c l r) = tree_tokens l ++ compares c ∷ tree_tokens r
 
 -- how loosely a tree is joined: a factor, a product, a sum, a comparison
 abbrev pub looseness : Tree → ℕ
@@ -200,7 +199,7 @@ IsLeftmost (product l r) =
 IsLeftmost (compared c l r) =
     (looseness l ≤ 2) × (looseness r ≤ 2) × IsLeftmost l × IsLeftmost r
 
--- how many parentheses and signs are round its innermost token
+-- how many parentheses and signs are round the innermost token of a tree
 abbrev pub enclosures : Tree → ℕ
 enclosures (literal number) = 0
 enclosures (cell r) = 0

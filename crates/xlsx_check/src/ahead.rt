@@ -1,5 +1,5 @@
 ghost use Rattle.std.specs.Prelude.{◌≡◌, is_some, false, []};
-ghost use Rattle.xlsx_check.specs.TokenView.{tokens_left};
+ghost use Rattle.xlsx_check.specs.TokenView.{tokens_to_give};
 
 use crate::token::{Kind, Separator, Token};
 use crate::tokens::Tokens;
@@ -10,20 +10,20 @@ use formula_shift::Reference;
 pub struct Ahead<'a> {
     next: Option<Token>,
     rest: Tokens<'a>,
-    ghost ends: { is_some next ≡ false → tokens_left rest ≡ [] },
+    ghost ends: { is_some next ≡ false → tokens_to_give rest ≡ [] },
 }
 
 impl<'a> Ahead<'a> {
     ghost use Rattle.std.specs.Prelude.{◌≡◌, ◌∷◌, [], IfSome, IfNone, true, ◌≤◌, ◌==◌, length};
-    ghost use Rattle.xlsx_check.specs.Denoting.{ahead, wanted_by};
+    ghost use Rattle.xlsx_check.specs.Denoting.{tokens_ahead, wanted_by, separator_first};
+    ghost use Rattle.xlsx_check.specs.Denoting.{separator_token};
     ghost use Rattle.xlsx_check.specs.Reading.{stops, first_reference, closes_first};
-    ghost use Rattle.xlsx_check.specs.Denoting.{separator_first, separator_token};
     ghost use Rattle.xlsx_check.specs.Tokens.{formula_tokens, refers, closes};
     ghost use Rattle.xlsx_check.specs.TokenView.{token_of};
 
     /// All tokens of this formula.
     pub fn new(formula: &'a str) -> Ahead<'a>
-        ensures { ahead result ≡ formula_tokens formula.now }
+        ensures { tokens_ahead result ≡ formula_tokens formula.now }
     {
         let mut rest = Tokens::new(formula);
         let next = rest.next();
@@ -32,16 +32,17 @@ impl<'a> Ahead<'a> {
 
     /// Whether all tokens were taken.
     pub fn is_empty(&self) -> bool
-        ensures { result ≡ (length (ahead self.now) == 0) }
+        ensures { result ≡ (length (tokens_ahead self.now) == 0) }
     {
         self.next.is_none()
     }
 
     /// Takes the next token.
     pub fn take(&mut self) -> Option<Token>
-        ensures some { IfSome result (λ token. ahead self.old ≡ token_of token ∷ ahead self.new) }
-        ensures none { IfNone result (ahead self.old ≡ []) }
-        ensures end { IfNone result (ahead self.new ≡ []) }
+        ensures some { IfSome result (λ token. tokens_ahead self.old ≡ token_of token
+            ∷ tokens_ahead self.new) }
+        ensures none { IfNone result (tokens_ahead self.old ≡ []) }
+        ensures end { IfNone result (tokens_ahead self.new ≡ []) }
     {
         let token = self.next?;
         self.next = self.rest.next();
@@ -50,9 +51,10 @@ impl<'a> Ahead<'a> {
 
     /// Takes the next token, where it is a reference; else there is none, and nothing is read on.
     pub fn take_reference(&mut self) -> Option<Reference>
-        ensures value { result ≡ first_reference (ahead self.old) }
-        ensures rest { IfSome result (λ r. ahead self.old ≡ refers r ∷ ahead self.new) }
-        ensures shorter { length (ahead self.new) ≤ length (ahead self.old) }
+        ensures value { result ≡ first_reference (tokens_ahead self.old) }
+        ensures rest { IfSome result (λ r. tokens_ahead self.old ≡ refers r
+            ∷ tokens_ahead self.new) }
+        ensures shorter { length (tokens_ahead self.new) ≤ length (tokens_ahead self.old) }
     {
         match self.take()? {
             Token::Refers(reference) => Some(reference),
@@ -62,19 +64,19 @@ impl<'a> Ahead<'a> {
 
     /// Takes the next token, and tells whether it is a closing parenthesis.
     pub fn take_closing(&mut self) -> bool
-        ensures value { result ≡ closes_first (ahead self.old) }
-        ensures rest { result ≡ true → ahead self.old ≡ closes ∷ ahead self.new }
-        ensures shorter { length (ahead self.new) ≤ length (ahead self.old) }
+        ensures value { result ≡ closes_first (tokens_ahead self.old) }
+        ensures rest { result ≡ true → tokens_ahead self.old ≡ closes ∷ tokens_ahead self.new }
+        ensures shorter { length (tokens_ahead self.new) ≤ length (tokens_ahead self.old) }
     {
         matches!(self.take(), Some(Token::Closes))
     }
 
     /// Takes the next token, where it is one that stands behind a reference in a total.
     pub fn take_separator(&mut self) -> Option<Separator>
-        ensures value { result ≡ separator_first (ahead self.old) }
+        ensures value { result ≡ separator_first (tokens_ahead self.old) }
         ensures rest { IfSome result (λ separator.
-            ahead self.old ≡ separator_token separator ∷ ahead self.new) }
-        ensures shorter { length (ahead self.new) ≤ length (ahead self.old) }
+            tokens_ahead self.old ≡ separator_token separator ∷ tokens_ahead self.new) }
+        ensures shorter { length (tokens_ahead self.new) ≤ length (tokens_ahead self.old) }
     {
         match self.take()? {
             Token::Comma => Some(Separator::Comma),
@@ -85,10 +87,11 @@ impl<'a> Ahead<'a> {
 
     /// Takes the next token where it is an operator of this kind; else it stays.
     pub fn take_of(&mut self, kind: Kind) -> Option<Token>
-        ensures some { IfSome result (λ token. ahead self.old ≡ token_of token ∷ ahead self.new) }
+        ensures some { IfSome result (λ token. tokens_ahead self.old ≡ token_of token
+            ∷ tokens_ahead self.new) }
         ensures wanted { IfSome result (λ token. wanted_by kind (token_of token) ≡ true) }
-        ensures none { IfNone result (stops (wanted_by kind) (ahead self.old) ≡ true) }
-        ensures stays { IfNone result (ahead self.new ≡ ahead self.old) }
+        ensures none { IfNone result (stops (wanted_by kind) (tokens_ahead self.old) ≡ true) }
+        ensures stays { IfNone result (tokens_ahead self.new ≡ tokens_ahead self.old) }
     {
         match self.next {
             Some(token) if token.is_of_kind(kind) => self.take(),

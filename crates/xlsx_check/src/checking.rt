@@ -1,8 +1,8 @@
 ghost use Rattle.std.specs.Prelude.{◌≡◌, nat_abs, ◌==◌};
-ghost use Rattle.cell_data.specs.CellValue.{value_of_data};
-ghost use Rattle.decimals.specs.Decimal.{number_of};
+ghost use Rattle.cell_data.specs.Words.{value_of_data};
+ghost use Rattle.decimals.specs.Words.{number_of};
 ghost use Rattle.xlsx_check.specs.Denoting.{denoted_by, values_of};
-ghost use Rattle.xlsx_check.specs.Evaluation.{denotation, value_placed, gap};
+ghost use Rattle.xlsx_check.specs.Evaluation.{denotation, value_looked_up, gap};
 ghost use Rattle.xlsx_check.specs.Verdicts.{computed_of, outcome_of, without_kind, is_number};
 ghost use Rattle.xlsx_check.specs.Verdicts.{agrees, judged, judged_value, verdict_of};
 ghost use Rattle.xlsx_check.specs.Verdicts.{value_or_nothing};
@@ -84,12 +84,12 @@ fn judged(computed: Computed, value: Option<&Data>) -> Verdict
 /// Computes the formula of a cell at a position, a row and a column counted from 0, and compares
 /// what it comes to with the value that the cell has. It takes no memory.
 ///
-/// A number agrees with a number or a date that is the same number, and a truth value with the same
-/// truth value; a text, an error or an ISO date differs. What isn't computed is told before a value
+/// A number agrees with a number or a date that is the same number, and a boolean with the same
+/// boolean; a text, an error or an ISO date differs. What isn't computed is told before a value
 /// that is wanting.
 pub fn verdict(values: &Range<Data>, formula: &str, pos: (u32, u32)) -> Verdict
     ensures { verdict_of result ≡ judged (denotation (values_of values.now) formula.now)
-        (value_placed (values_of values.now) pos) }
+        (value_looked_up (values_of values.now) pos) }
 {
     match compute(values, formula) {
         Outcome::Value(computed) => judged(computed, values.used_value(pos)),

@@ -1,22 +1,19 @@
-ghost use Rattle.std.specs.Prelude.{◌≡◌, ◌≤ℤ◌, ◌<◌, ◌^◌, pos};
-ghost use Rattle.std.specs.Prelude.{SomeIff, FitsSigned};
+ghost use Rattle.std.specs.Prelude.{◌≡◌, ◌≤ℤ◌, ◌<◌, ◌^◌, pos, SomeIff, FitsSigned};
 ghost use Rattle.std.specs.Int.{w128};
 ghost use Rattle.std.specs.Ordering.{int_cmp};
-ghost use Rattle.decimals.specs.Decimal.{number_of};
-ghost use Rattle.decimals.specs.Decimals.{decimal_from};
+ghost use Rattle.decimals.specs.Words.{number_of, decimal_from};
 ghost use Rattle.xlsx_check.specs.Denoting.{denoted_by, is_unsupported, joined_result};
 ghost use Rattle.xlsx_check.specs.TokenView.{token_of};
 ghost use Rattle.xlsx_check.specs.Evaluation.{number_or_past, from_whole, lower, taken_to};
-ghost use Rattle.xlsx_check.specs.Evaluation.{negative_of, holds_by};
-ghost use Rattle.xlsx_check.specs.Evaluation.{sum_of, difference_of, product_of, gap};
-ghost use Rattle.xlsx_check.specs.Evaluation.{of_one, a_number, number_past};
+ghost use Rattle.xlsx_check.specs.Evaluation.{negative_of, holds_by, sum_of, difference_of};
+ghost use Rattle.xlsx_check.specs.Evaluation.{product_of, gap, of_one, a_number, number_past};
 
 use crate::token::{Comparison, Token};
 use cell_data::Decimal;
 use decimals::scaled;
 use std::cmp::Ordering;
 
-/// What a formula comes to: a number or a truth value, either of them perhaps past the limits, or
+/// What a formula comes to: a number or a boolean, either of them perhaps past the limits, or
 /// nothing, where something in it isn't computed.
 #[derive(Clone, Copy)]
 pub enum Denotation {

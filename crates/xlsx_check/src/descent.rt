@@ -2,10 +2,11 @@
 //! computed ends the reading; what is past the limits doesn't, since something that isn't computed
 //! may follow.
 ghost use Rattle.std.specs.Prelude.{◌≡◌, ◌≤◌, [], length, false};
-ghost use Rattle.xlsx_check.specs.Denoting.{denoted_by, is_unsupported, values_of, ahead};
-ghost use Rattle.xlsx_check.specs.Denoting.{value_read, rest_read, total_read, references_rest};
-ghost use Rattle.xlsx_check.specs.Denoting.{factor_from, product_from, sum_from, comparison_from};
-ghost use Rattle.xlsx_check.specs.Denoting.{references_from, opened_references, group_from};
+ghost use Rattle.xlsx_check.specs.Denoting.{denoted_by, is_unsupported, values_of, tokens_ahead};
+ghost use Rattle.xlsx_check.specs.Denoting.{value_read, rest_read, total_of_references};
+ghost use Rattle.xlsx_check.specs.Denoting.{references_rest, factor_from, product_from, sum_from};
+ghost use Rattle.xlsx_check.specs.Denoting.{comparison_from, references_from, opened_references};
+ghost use Rattle.xlsx_check.specs.Denoting.{group_from};
 ghost use Rattle.xlsx_check.specs.Reading.{cell_read};
 ghost use Rattle.xlsx_check.specs.Trees.{cell_alone};
 
@@ -30,10 +31,10 @@ fn cell_alone(values: &Range<Data>, reference: Reference) -> Denotation
 /// The total of the areas of references between commas, up to a closing parenthesis.
 fn total(values: &Range<Data>, tokens: &mut Ahead<'_>) -> Denotation
     ensures value { denoted_by result
-        ≡ total_read (values_of values.now) (references_from (ahead tokens.old)) }
+        ≡ total_of_references (values_of values.now) (references_from (tokens_ahead tokens.old)) }
     ensures rest { is_unsupported (denoted_by result) ≡ false →
-        ahead tokens.new ≡ references_rest (references_from (ahead tokens.old)) }
-    ensures shorter { length (ahead tokens.new) ≤ length (ahead tokens.old) }
+        tokens_ahead tokens.new ≡ references_rest (references_from (tokens_ahead tokens.old)) }
+    ensures shorter { length (tokens_ahead tokens.new) ≤ length (tokens_ahead tokens.old) }
 {
     let mut total = zero();
     'references: loop {
@@ -52,10 +53,10 @@ fn total(values: &Range<Data>, tokens: &mut Ahead<'_>) -> Denotation
 /// The total of the areas of references in parentheses.
 fn opened_total(values: &Range<Data>, tokens: &mut Ahead<'_>) -> Denotation
     ensures value { denoted_by result
-        ≡ total_read (values_of values.now) (opened_references (ahead tokens.old)) }
+        ≡ total_of_references (values_of values.now) (opened_references (tokens_ahead tokens.old)) }
     ensures rest { is_unsupported (denoted_by result) ≡ false →
-        ahead tokens.new ≡ references_rest (opened_references (ahead tokens.old)) }
-    ensures shorter { length (ahead tokens.new) ≤ length (ahead tokens.old) }
+        tokens_ahead tokens.new ≡ references_rest (opened_references (tokens_ahead tokens.old)) }
+    ensures shorter { length (tokens_ahead tokens.new) ≤ length (tokens_ahead tokens.old) }
 {
     match tokens.take() {
         Some(Token::Opens) => total(values, tokens),
@@ -67,10 +68,10 @@ fn opened_total(values: &Range<Data>, tokens: &mut Ahead<'_>) -> Denotation
 #[cycle(descent)]
 fn group(values: &Range<Data>, tokens: &mut Ahead<'_>, levels: u32) -> Denotation
     ensures value { denoted_by result ≡ value_read (values_of values.now)
-        (group_from levels (ahead tokens.old)) }
+        (group_from levels (tokens_ahead tokens.old)) }
     ensures rest { is_unsupported (denoted_by result) ≡ false →
-        ahead tokens.new ≡ rest_read (group_from levels (ahead tokens.old)) }
-    ensures shorter { length (ahead tokens.new) ≤ length (ahead tokens.old) }
+        tokens_ahead tokens.new ≡ rest_read (group_from levels (tokens_ahead tokens.old)) }
+    ensures shorter { length (tokens_ahead tokens.new) ≤ length (tokens_ahead tokens.old) }
 {
     let inside = comparison(values, tokens, levels);
     if inside.is_unsupported() {
@@ -88,10 +89,10 @@ fn group(values: &Range<Data>, tokens: &mut Ahead<'_>, levels: u32) -> Denotatio
 #[cycle(descent)]
 fn factor(values: &Range<Data>, tokens: &mut Ahead<'_>, levels: u32) -> Denotation
     ensures value { denoted_by result ≡ value_read (values_of values.now)
-        (factor_from levels (ahead tokens.old)) }
+        (factor_from levels (tokens_ahead tokens.old)) }
     ensures rest { is_unsupported (denoted_by result) ≡ false →
-        ahead tokens.new ≡ rest_read (factor_from levels (ahead tokens.old)) }
-    ensures shorter { length (ahead tokens.new) ≤ length (ahead tokens.old) }
+        tokens_ahead tokens.new ≡ rest_read (factor_from levels (tokens_ahead tokens.old)) }
+    ensures shorter { length (tokens_ahead tokens.new) ≤ length (tokens_ahead tokens.old) }
 {
     if levels == 0 {
         return Denotation::Unsupported;
@@ -119,10 +120,10 @@ fn factor(values: &Range<Data>, tokens: &mut Ahead<'_>, levels: u32) -> Denotati
 #[cycle(descent)]
 fn product(values: &Range<Data>, tokens: &mut Ahead<'_>, levels: u32) -> Denotation
     ensures value { denoted_by result ≡ value_read (values_of values.now)
-        (product_from levels (ahead tokens.old)) }
+        (product_from levels (tokens_ahead tokens.old)) }
     ensures rest { is_unsupported (denoted_by result) ≡ false →
-        ahead tokens.new ≡ rest_read (product_from levels (ahead tokens.old)) }
-    ensures shorter { length (ahead tokens.new) ≤ length (ahead tokens.old) }
+        tokens_ahead tokens.new ≡ rest_read (product_from levels (tokens_ahead tokens.old)) }
+    ensures shorter { length (tokens_ahead tokens.new) ≤ length (tokens_ahead tokens.old) }
 {
     let mut left = factor(values, tokens, levels);
     'factors: while !left.is_unsupported() {
@@ -139,10 +140,10 @@ fn product(values: &Range<Data>, tokens: &mut Ahead<'_>, levels: u32) -> Denotat
 #[cycle(descent)]
 fn sum(values: &Range<Data>, tokens: &mut Ahead<'_>, levels: u32) -> Denotation
     ensures value { denoted_by result ≡ value_read (values_of values.now)
-        (sum_from levels (ahead tokens.old)) }
+        (sum_from levels (tokens_ahead tokens.old)) }
     ensures rest { is_unsupported (denoted_by result) ≡ false →
-        ahead tokens.new ≡ rest_read (sum_from levels (ahead tokens.old)) }
-    ensures shorter { length (ahead tokens.new) ≤ length (ahead tokens.old) }
+        tokens_ahead tokens.new ≡ rest_read (sum_from levels (tokens_ahead tokens.old)) }
+    ensures shorter { length (tokens_ahead tokens.new) ≤ length (tokens_ahead tokens.old) }
 {
     let mut left = product(values, tokens, levels);
     'terms: while !left.is_unsupported() {
@@ -159,10 +160,10 @@ fn sum(values: &Range<Data>, tokens: &mut Ahead<'_>, levels: u32) -> Denotation
 #[cycle(descent)]
 pub fn comparison(values: &Range<Data>, tokens: &mut Ahead<'_>, levels: u32) -> Denotation
     ensures value { denoted_by result ≡ value_read (values_of values.now)
-        (comparison_from levels (ahead tokens.old)) }
+        (comparison_from levels (tokens_ahead tokens.old)) }
     ensures rest { is_unsupported (denoted_by result) ≡ false →
-        ahead tokens.new ≡ rest_read (comparison_from levels (ahead tokens.old)) }
-    ensures shorter { length (ahead tokens.new) ≤ length (ahead tokens.old) }
+        tokens_ahead tokens.new ≡ rest_read (comparison_from levels (tokens_ahead tokens.old)) }
+    ensures shorter { length (tokens_ahead tokens.new) ≤ length (tokens_ahead tokens.old) }
 {
     let left = sum(values, tokens, levels);
     if left.is_unsupported() {

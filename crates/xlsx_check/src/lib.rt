@@ -2,7 +2,7 @@
 //! hold.
 //!
 //! Rooms: `token` (tokens, and which text is one), `tokens` (those of a formula, from the left),
-//! `ahead` (with the next one looked at), `denotation` (numbers and truth values that may be past
+//! `ahead` (with the next one looked at), `denotation` (numbers and booleans that may be past
 //! the limits, and what operators make of two), `values` (what cells bring in), `descent` (the
 //! formula read once), `checking` (`compute` and `verdict`), `outcome` (what they answer),
 //! `lines` (what is printed of it), `laws`.
@@ -16,7 +16,7 @@
 //! where one has no tree, the other has none.
 //!
 //! **What isn't computed ends the reading, what is past the limits doesn't.** An overflow is
-//! carried on with its kind, since something that isn't computed may follow, and a truth value that
+//! carried on with its kind, since something that isn't computed may follow, and a boolean that
 //! overflows is still no number. The loops keep that the whole goes on from some tree that comes to
 //! what was computed so far (`Goes` of `proofs/Going`).
 //!

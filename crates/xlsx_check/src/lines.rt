@@ -1,11 +1,10 @@
 //! The lines of a sheet's formulas beside the values of their cells (docs/FORMAT.md).
 ghost use Rattle.std.specs.Prelude.{◌≡◌, ◌<◌, ◌++◌, OnOk, OnErr, string_bytes};
-ghost use Rattle.cell_data.specs.Cells.{IsPlacedInSheet};
-ghost use Rattle.cell_data.specs.Range.{cells_of};
-ghost use Rattle.escaped_text.specs.Escaped.{Extends};
+ghost use Rattle.cell_data.specs.Words.{IsPlacedInSheet, cells_of};
+ghost use Rattle.escaped_text.specs.Escaped.{AddsBehind};
 ghost use Rattle.xlsx_check.specs.Denoting.{values_of};
-ghost use Rattle.xlsx_check.specs.Lines.{computed_text, verdict_text, verdict_line};
-ghost use Rattle.xlsx_check.specs.Lines.{formulas_of, check_lines};
+ghost use Rattle.xlsx_check.specs.Lines.{computed_text, verdict_text, verdict_line, formulas_of};
+ghost use Rattle.xlsx_check.specs.Lines.{check_lines};
 ghost use Rattle.xlsx_check.specs.Verdicts.{computed_of, verdict_of};
 
 use crate::checking::verdict;
@@ -19,7 +18,7 @@ use std::alloc::AllocError;
 fn push_computed(out: &mut String, computed: Computed) -> Result<(), AllocError>
     ensures ok { let printed = computed_text (computed_of computed) in
         OnOk result (string_bytes out.new ≡ string_bytes out.old ++ printed) }
-    ensures err { OnErr result (Extends (string_bytes out.old) (string_bytes out.new)) }
+    ensures err { OnErr result (AddsBehind (string_bytes out.old) (string_bytes out.new)) }
 {
     match computed {
         Computed::Number(number) => {
@@ -35,7 +34,7 @@ fn push_computed(out: &mut String, computed: Computed) -> Result<(), AllocError>
 fn push_verdict(out: &mut String, verdict: Verdict) -> Result<(), AllocError>
     ensures ok { let printed = verdict_text (verdict_of verdict) in
         OnOk result (string_bytes out.new ≡ string_bytes out.old ++ printed) }
-    ensures err { OnErr result (Extends (string_bytes out.old) (string_bytes out.new)) }
+    ensures err { OnErr result (AddsBehind (string_bytes out.old) (string_bytes out.new)) }
 {
     match verdict {
         Verdict::Agrees => out.push_str("agrees"),
@@ -60,7 +59,7 @@ fn push_verdict_line(
     requires in_columns { position.1 < MAX_COLUMNS }
     ensures ok { let printed = verdict_line position (verdict_of verdict) in
         OnOk result (string_bytes out.new ≡ string_bytes out.old ++ printed) }
-    ensures err { OnErr result (Extends (string_bytes out.old) (string_bytes out.new)) }
+    ensures err { OnErr result (AddsBehind (string_bytes out.old) (string_bytes out.new)) }
 {
     push_reference(out, position.0, position.1)?;
     out.push_str("\t")?;
@@ -76,7 +75,7 @@ fn push_check_lines(
 ) -> Result<(), AllocError>
     ensures ok { let printed = check_lines (values_of values.now) (formulas_of formulas.now) in
         OnOk result (string_bytes out.new ≡ string_bytes out.old ++ printed) }
-    ensures err { OnErr result (Extends (string_bytes out.old) (string_bytes out.new)) }
+    ensures err { OnErr result (AddsBehind (string_bytes out.old) (string_bytes out.new)) }
 {
     for (position, formula) in formulas.used() {
         let said = verdict(values, formula.as_str(), position);

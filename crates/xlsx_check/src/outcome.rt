@@ -1,6 +1,6 @@
 use cell_data::Decimal;
 
-/// What was computed: a number or a truth value.
+/// What was computed: a number or a boolean.
 #[derive(Clone, Copy, Debug, PartialEq, Eq)]
 pub enum Computed {
     Number(Decimal),

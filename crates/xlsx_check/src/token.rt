@@ -1,9 +1,9 @@
 ghost use Rattle.std.specs.Prelude.{◌≡◌};
 ghost use Rattle.std.specs.Option.{option_map};
-ghost use Rattle.formula_shift.specs.Pieces.{word_kind};
-ghost use Rattle.formula_shift.specs.Relocation.{piece_reference};
-ghost use Rattle.xlsx_check.specs.Tokens.{symbol, pair_symbol, is_space, is_plain_number};
-ghost use Rattle.xlsx_check.specs.Tokens.{word_token, refers_or, is_operand_end, signed};
+ghost use Rattle.formula_shift.specs.Words.{word_kind, piece_reference};
+ghost use Rattle.xlsx_check.specs.Tokens.{symbol_token, pair_symbol, is_space_or_line_end};
+ghost use Rattle.xlsx_check.specs.Tokens.{is_plain_number, word_token, refers_or, is_operand_end};
+ghost use Rattle.xlsx_check.specs.Tokens.{signed};
 ghost use Rattle.xlsx_check.specs.Denoting.{wanted_by};
 ghost use Rattle.xlsx_check.specs.TokenView.{token_of};
 
@@ -85,14 +85,14 @@ impl Token {
 
 /// Space, tab, LF or CR.
 pub fn is_space(byte: u8) -> bool
-    ensures { result ≡ is_space byte }
+    ensures { result ≡ is_space_or_line_end byte }
 {
     byte == b' ' || byte == b'\t' || byte == b'\n' || byte == b'\r'
 }
 
 /// The token of one character.
 pub fn symbol(byte: u8) -> Token
-    ensures { token_of result ≡ symbol byte }
+    ensures { token_of result ≡ symbol_token byte }
 {
     match byte {
         b'+' => Token::Plus,

@@ -1,6 +1,6 @@
 ghost use Rattle.std.specs.Prelude.{◌≡◌, ◌∷◌, [], IfSome, IfNone, false};
-ghost use Rattle.formula_shift.specs.Relocation.{first_byte};
-ghost use Rattle.xlsx_check.specs.Tokens.{symbols, is_space};
+ghost use Rattle.formula_shift.specs.Words.{first_byte};
+ghost use Rattle.xlsx_check.specs.Tokens.{symbol_tokens, is_space_or_line_end};
 ghost use Rattle.xlsx_check.specs.TokenView.{token_of};
 
 use crate::token::{Token, is_space, pair_symbol, symbol, word_token};
@@ -8,8 +8,8 @@ use formula_shift::{Piece, Pieces};
 
 /// The text without the white space in front.
 fn skip_spaces(text: &[u8]) -> &[u8]
-    ensures same { symbols result.now ≡ symbols text.now }
-    ensures first { IfSome (first_byte result.now) (λ b. is_space b ≡ false) }
+    ensures same { symbol_tokens result.now ≡ symbol_tokens text.now }
+    ensures first { IfSome (first_byte result.now) (λ b. is_space_or_line_end b ≡ false) }
 {
     let mut rest = text;
     'spaces: while let Some((&first, behind)) = rest.split_first() {
@@ -24,8 +24,8 @@ fn skip_spaces(text: &[u8]) -> &[u8]
 /// The first token of a text between Words, and what stands behind it.
 fn cut_symbol(text: &[u8]) -> Option<(Token, &[u8])>
     ensures some { IfSome result (λ cut.
-        symbols text.now ≡ token_of cut.0 ∷ symbols cut.1.now) }
-    ensures none { IfNone result (symbols text.now ≡ []) }
+        symbol_tokens text.now ≡ token_of cut.0 ∷ symbol_tokens cut.1.now) }
+    ensures none { IfNone result (symbol_tokens text.now ≡ []) }
 {
     let (&first, behind) = skip_spaces(text).split_first()?;
     let Some((&second, further)) = behind.split_first() else {
@@ -47,12 +47,12 @@ pub struct Tokens<'a> {
 
 impl<'a> Tokens<'a> {
     ghost use Rattle.xlsx_check.specs.Tokens.{formula_tokens};
-    ghost use Rattle.xlsx_check.specs.TokenView.{tokens_left, unsigned_left};
+    ghost use Rattle.xlsx_check.specs.TokenView.{tokens_to_give, unsigned_left};
 
     /// The tokens of this formula, of which none was taken yet.
     #[tactic(auto, unfolding(crate::specs::Tokens::formula_tokens))]
     pub fn new(formula: &'a str) -> Tokens<'a>
-        ensures { tokens_left result ≡ formula_tokens formula.now }
+        ensures { tokens_to_give result ≡ formula_tokens formula.now }
     {
         Tokens {
             symbols: &[],
@@ -91,13 +91,13 @@ impl<'a> Tokens<'a> {
 
 impl<'a> Iterator for Tokens<'a> {
     ghost use Rattle.std.specs.Iterator.{YieldsFirstBy, item_count};
-    ghost use Rattle.xlsx_check.specs.TokenView.{token_of, tokens_left};
+    ghost use Rattle.xlsx_check.specs.TokenView.{token_of, tokens_to_give};
 
     type Item = Token;
 
-    ghost next_gives = { YieldsFirstBy token_of tokens_left };
+    ghost next_gives = { YieldsFirstBy token_of tokens_to_give };
 
-    ghost remaining = { item_count tokens_left };
+    ghost remaining = { item_count tokens_to_give };
 
     fn next(&mut self) -> Option<Token> {
         let token = self.next_unsigned()?;

@@ -1,11 +1,11 @@
 //! What the cells of a range bring into a formula.
 ghost use Rattle.std.specs.Prelude.{◌≡◌, pos};
 ghost use Rattle.std.specs.List.{fold};
-ghost use Rattle.cell_data.specs.CellValue.{value_of_data};
-ghost use Rattle.formula_shift.specs.Areas.{area_named};
+ghost use Rattle.cell_data.specs.Words.{value_of_data};
+ghost use Rattle.formula_shift.specs.Words.{area_named};
 ghost use Rattle.xlsx_check.specs.Denoting.{denoted_by, values_of};
-ghost use Rattle.xlsx_check.specs.Evaluation.{number_in, with_value, values_within, value_placed};
-ghost use Rattle.xlsx_check.specs.Evaluation.{a_number};
+ghost use Rattle.xlsx_check.specs.Evaluation.{number_in, total_with_value, values_within};
+ghost use Rattle.xlsx_check.specs.Evaluation.{value_looked_up, a_number};
 
 use crate::denotation::{Denotation, number_from};
 use crate::token::Token;
@@ -34,7 +34,7 @@ pub fn number_in(value: &Data) -> Denotation
 
 /// The number that the cell at a position is in a formula.
 pub fn number_at(values: &Range<Data>, pos: (u32, u32)) -> Denotation
-    ensures { denoted_by result ≡ number_in (value_placed (values_of values.now) pos) }
+    ensures { denoted_by result ≡ number_in (value_looked_up (values_of values.now) pos) }
 {
     match values.used_value(pos) {
         Some(value) => number_in(value),
@@ -44,7 +44,7 @@ pub fn number_at(values: &Range<Data>, pos: (u32, u32)) -> Denotation
 
 /// A total with a value more.
 fn with_value(total: Denotation, value: &Data) -> Denotation
-    ensures { denoted_by result ≡ with_value (denoted_by total) (value_of_data value.now) }
+    ensures { denoted_by result ≡ total_with_value (denoted_by total) (value_of_data value.now) }
 {
     match value {
         Data::Int(_) | Data::Decimal(_) | Data::DateTime(_) => {
@@ -58,7 +58,7 @@ fn with_value(total: Denotation, value: &Data) -> Denotation
 /// A total with the used cells of an area more, row by row.
 pub fn with_area(values: &Range<Data>, total: Denotation, area: Dimensions) -> Denotation
     ensures { denoted_by result
-        ≡ fold with_value (denoted_by total) (values_within (values_of values.now) area) }
+        ≡ fold total_with_value (denoted_by total) (values_within (values_of values.now) area) }
 {
     let mut total = total;
     for (_, value) in values.used_in(area.start, area.end) {

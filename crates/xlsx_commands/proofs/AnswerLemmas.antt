@@ -1,14 +1,15 @@
 -- What is asked of a chosen sheet has one sheet, and an answer or a cause of a refusal, not both.
 use Rattle.std.proofs.Common.{◌≡◌, inl, inr, ◌∙◌, ap, sym, subst, ℕ, List, map}
 use Rattle.std.specs.Prelude.{Result, Ok, Err}
-use Rattle.part_events.specs.Package.{Part}
+use Rattle.part_events.specs.Words.{Part}
 use Rattle.xlsx_core.proofs.SheetLaws.{are_alike}
-use Rattle.xlsx_open.specs.Opening.{Opening, OpensAs, without_path}
-use Rattle.xlsx_workbook.specs.Sheets.{PlacedSheet}
+use Rattle.xlsx_open.specs.Words.{Opening, OpensAs, without_path}
+use Rattle.xlsx_workbook.specs.Words.{PlacedSheet}
 use Rattle.xlsx_commands.specs.ChosenSheets.{chosen_name, Chooses, ChoiceCause}
 use Rattle.xlsx_commands.specs.Command.{Command}
 use Rattle.xlsx_commands.specs.Outputs.{IsOutput, OutputCause}
-use Rattle.xlsx_commands.specs.Request.{Request, told, chosen, on_sheet, IsAnswer, AnswerCause}
+use Rattle.xlsx_commands.specs.Request.{Request, told, chosen, asked_of_sheet, IsAnswer}
+use Rattle.xlsx_commands.specs.Request.{AnswerCause}
 use Rattle.xlsx_commands.specs.declared.error.ToolError.{ToolError}
 use Rattle.xlsx_commands.specs.declared.error.ToolError.TheVariants.{Workbook, NotChosen}
 use Rattle.xlsx_commands.specs.declared.sheet_choice.SheetChoice.{SheetChoice}
@@ -68,14 +69,15 @@ answers_never
     never openings (chosen choice command) parts output error (name, chooses, prints)
     (inr (other, again, cause)) =
     let same = one_name parts choice other name again chooses in
-    never (on_sheet name command) parts output error prints
-    (subst (λ (own : List ℕ). OutputCause (on_sheet own command) parts error) same cause)
+    never (asked_of_sheet name command) parts output error prints
+    (subst (λ (own : List ℕ). OutputCause (asked_of_sheet own command) parts error) same cause)
 
 -- what is asked of a chosen sheet is answered as what is asked of it by its name
 pub answers_by_name :
     (parts : List Part) (choice : SheetChoice) (name : List ℕ) (command : Command)
     (output : List ℕ) → Chooses parts choice name
-    → IsAnswer (chosen choice command) parts output → IsOutput (on_sheet name command) parts output
+    → IsAnswer (chosen choice command) parts output → IsOutput (asked_of_sheet name command)
+    parts output
 answers_by_name parts choice name command output chooses (other, again, prints) =
-    subst (λ (own : List ℕ). IsOutput (on_sheet own command) parts output)
+    subst (λ (own : List ℕ). IsOutput (asked_of_sheet own command) parts output)
     (one_name parts choice other name again chooses) prints

@@ -4,21 +4,18 @@ use Rattle.std.proofs.Common.{Ok, Err, refl, subst, codes}
 use Rattle.std.specs.Prelude.{if◌then◌else◌, option_and_then, All}
 use Rattle.std.specs.List.{AllByRecursion}
 use Rattle.std.proofs.lemmas.List.Elements.{All-from_recursion}
-use Rattle.attr_text.specs.Attributes.{value_of}
+use Rattle.attr_text.specs.Words.{value_of}
 use Rattle.attr_text.specs.declared.fault.AttrFault.{AttrFault}
-use Rattle.cell_refs.specs.A1.{area, area_of, corner, corners, parts, with_corner}
+use Rattle.cell_refs.specs.Words.{area_of, corner, corners, parts, with_corner}
+use Rattle.cell_refs.specs.A1.{area}
 use Rattle.cell_refs.specs.declared.dimensions.Dimensions.{Dimensions}
 use Rattle.cell_refs.specs.declared.error.RefError.{RefError}
 use Rattle.cell_refs.proofs.Inside.{corner_inside}
-use Rattle.part_events.specs.Event.{Tag, Event}
-use Rattle.part_events.specs.Section.{PlacedTag, starts_by}
+use Rattle.part_events.specs.Words.{Tag, Event, PlacedTag, starts_by}
 use Rattle.list_lines.specs.Inside.{IsCellOfWorksheet, LiesInWorksheet}
-use Rattle.xlsx_sections.specs.Answers.{and_others_if, some_answers}
-use Rattle.xlsx_sections.specs.PartSection.{PartSection, closed_section, section_in}
-use Rattle.xlsx_sections.specs.Placed.{named_by, some_placed}
-use Rattle.xlsx_sections.specs.Refusal.{Refusal}
-use Rattle.xlsx_parts.specs.PartSaid.{ok_or_none, is_whole, lacking_or, section_said}
-use Rattle.xlsx_parts.specs.PartSaid.{section_said_or}
+use Rattle.xlsx_sections.specs.Words.{and_others_if, some_answers, PartSection, closed_section}
+use Rattle.xlsx_sections.specs.Words.{section_in, named_by, some_placed, Refusal}
+use Rattle.xlsx_parts.specs.Words.{ok_or_none, is_whole, lacking_or, section_said, section_said_or}
 use Rattle.xlsx_areas.specs.MergedCells.{is_merge, merge_of, merges_of}
 
 -- ---- the area of a text

@@ -3,19 +3,16 @@ use Rattle.std.proofs.Common.{◌≡◌, ◌⊎◌, ◌∙◌, inl, inr, ap, sym
 use Rattle.std.proofs.Common.{◌++◌, Option, Some, None, append_assoc, append-nil}
 use Rattle.std.proofs.lemmas.Grind.{flat_map-append}
 use Rattle.std.specs.Prelude.{option_map, unwrap_or}
-use Rattle.cell_data.specs.CellValue.{CellValue}
-use Rattle.part_events.specs.Event.{Event}
-use Rattle.part_events.specs.Package.{Part, PackageState, part_of}
+use Rattle.cell_data.specs.Words.{CellValue}
+use Rattle.part_events.specs.Words.{Event, Part, PackageState, part_of}
 use Rattle.sheet_listing.specs.SheetListing.{row_line}
 use Rattle.xlsx_error.specs.declared.error.XlsxError.{XlsxError}
 use Rattle.xlsx_error.specs.declared.error.XlsxError.TheVariants as workbook
-use Rattle.xlsx_sections.specs.Failing.{FailsBy}
-use Rattle.xlsx_relationships.specs.Paths.{folder_of}
-use Rattle.xlsx_pivots.specs.PivotTables.{paths_of}
-use Rattle.xlsx_pivots.specs.Pivots.{PivotSaid, pivots_of, PivotsCause}
-use Rattle.xlsx_pivot_cache.specs.CacheErrors.{IsCacheFieldsError, IsRowError}
-use Rattle.xlsx_pivot_cache.specs.CacheFields.{FieldSaid, fields_at}
-use Rattle.xlsx_pivot_cache.specs.CacheRecords.{cache_rows, CacheCause, OpenRowsCause, RowsCause}
+use Rattle.xlsx_sections.specs.Words.{FailsBy}
+use Rattle.xlsx_relationships.specs.Words.{folder_of}
+use Rattle.xlsx_pivots.specs.Words.{paths_of, PivotSaid, pivots_of, PivotsCause}
+use Rattle.xlsx_pivot_cache.specs.Words.{IsCacheFieldsError, IsRowError, FieldSaid, fields_at}
+use Rattle.xlsx_pivot_cache.specs.Words.{cache_rows, CacheCause, OpenRowsCause, RowsCause}
 use Rattle.xlsx_open.proofs.Sound.{same_path}
 use Rattle.xlsx_commands.specs.CacheRows.{HasCache, LacksPivot, HasCacheCause, NamedPivotCause}
 use Rattle.xlsx_commands.specs.CacheRows.{row_lines}
@@ -65,7 +62,7 @@ cache_fails parts definitions records error there fails = fails
 
 -- its fields can't be read, or the part of its records isn't there
 pub opening_rows_fails : (definitions records : List ℕ) (old new : PackageState)
-    (error : XlsxError) → IsInMemory new → old.is_told ≡ true → IsCacheFieldsError error
+    (error : XlsxError) → IsInMemory new → old.is_visible ≡ true → IsCacheFieldsError error
     → FailsBy (OpenRowsCause old.parts definitions records) old new error
     → CacheFails old.parts definitions records (of_workbook error)
 opening_rows_fails definitions records old new error memory told is fails =
@@ -82,7 +79,7 @@ row_there error is = tt
 -- one of its rows can't be read
 pub row_fails : (parts : List Part) (definitions records : List ℕ) (fields : List FieldSaid)
     (part : List Event) (old new : PackageState) (error : XlsxError) → IsInMemory new
-    → old.is_told ≡ true → fields_at parts definitions ≡ Some fields
+    → old.is_visible ≡ true → fields_at parts definitions ≡ Some fields
     → part_of parts records ≡ Some part → IsRowError error
     → FailsBy (RowsCause fields part) old new error
     → CacheFails parts definitions records (of_workbook error)

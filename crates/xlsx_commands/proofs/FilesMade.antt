@@ -1,28 +1,25 @@
 -- The workbook file that is made of a sheet that was read, and when none is.
-use Rattle.std.proofs.Common.{◌≡◌, ◌∙◌, ℕ, zero, suc, ◌<◌, ◌≤◌, ◌^◌, List, [], ◌∷◌}
-use Rattle.std.proofs.Common.{length}
-use Rattle.std.proofs.Common.{Bool, true, false, refl, ap, arith, inl, inr, subst}
-use Rattle.std.specs.Prelude.{◌⊎◌, not, nat_le, nat_lt, Result, Ok, Err, IfOk, IfErr, Vec}
-use Rattle.std.specs.Prelude.{String}
+use Rattle.std.proofs.Common.{◌≡◌, ◌∙◌, ℕ, zero, suc, ◌<◌, ◌≤◌, ◌^◌, List, [], ◌∷◌, length, Bool}
+use Rattle.std.proofs.Common.{true, false, refl, ap, arith, inl, inr, subst}
+use Rattle.std.specs.Prelude.{◌⊎◌, not, nat_le, nat_lt, Result, Ok, Err, IfOk, IfErr, Vec, String}
 use Rattle.std.specs.List.{All, list_all}
 use Rattle.std.specs.Str.{IsUtf8}
 use Rattle.std.specs.declared.alloc.Global.{Global}
-use Rattle.std.proofs.lemmas.Bool.{and_parts, and_from, and_right, ltb-true, le-leb}
-use Rattle.std.proofs.lemmas.Bool.{lt-leb, leb-true, false_from_ne_true}
-use Rattle.cell_data.specs.Pairs.{value_pairs, formula_pairs}
+use Rattle.std.proofs.lemmas.Bool.{and_parts, and_from, and_right, ltb-true, le-leb, lt-leb}
+use Rattle.std.proofs.lemmas.Bool.{leb-true, false_from_ne_true}
+use Rattle.cell_data.specs.Words.{value_pairs, formula_pairs}
 use Rattle.cell_data.specs.declared.range.Range.{Range}
 use Rattle.cell_data.specs.declared.value.Data.{Data}
-use Rattle.cell_styles.specs.StyleMap.{StyleMap}
-use Rattle.part_events.specs.Package.{Part}
+use Rattle.cell_styles.specs.Words.{StyleMap}
+use Rattle.part_events.specs.Words.{Part}
 use Rattle.zip_writer.specs.Written as archive
 use Rattle.zip_writer.specs.Written.{File}
 use Rattle.package_file.specs.PackageFile.{package_file, part_files, longest_file}
 use Rattle.xlsx_error.specs.declared.error.XlsxError.{XlsxError}
-use Rattle.xlsx_core.specs.SheetReading.{ReadsAs}
-use Rattle.xlsx_out.specs.Groups.{Placed}
-use Rattle.xlsx_out.specs.Writable.{IsWritable, has_zero_left}
-use Rattle.xlsx_out.specs.WrittenSheet.{PlacedValues, written_parts}
-use Rattle.xlsx_out.specs.declared.form.WrittenForm.TheVariants.{WorkbookFile}
+use Rattle.xlsx_core.specs.Words.{ReadsAs}
+use Rattle.xlsx_writer.specs.Words.{PlacedFormulas, IsWritable, has_zero_left, PlacedValues}
+use Rattle.xlsx_writer.specs.WrittenSheet.{written_parts}
+use Rattle.xlsx_writer.specs.declared.form.WrittenForm.TheVariants.{WorkbookFile}
 use Rattle.xlsx_commands.specs.Outputs.{FileFails}
 use Rattle.xlsx_commands.specs.ResavedFile.{IsResavedFile, HasNoFile, MakingFails, fits_file}
 use Rattle.xlsx_commands.specs.ResavedFile.{HaveNoArchive, sheet_file}
@@ -44,15 +41,15 @@ each_short (file ∷ files) all (suc k) d below =
     each_short files (and_parts _ _ all).1 k d (omega arith)
 
 -- what is known of the files of a sheet
-names_tell : (name : List ℕ) (values : PlacedValues) (formulas : Placed)
+names_tell : (name : List ℕ) (values : PlacedValues) (formulas : PlacedFormulas)
     → (list_all is_short (part_files (written_parts WorkbookFile name values formulas)) ≡ true)
     × (length (part_files (written_parts WorkbookFile name values formulas)) ≡ 6)
 unfolding written_parts
 names_tell name values formulas = (refl, refl)
 
 -- where an archive can't have the files of a sheet, they are too long
-too_long : (name : List ℕ) (values : PlacedValues) (formulas : Placed)
-    → (¬ archive.IsWritable (part_files (written_parts WorkbookFile name values formulas)))
+too_long : (name : List ℕ) (values : PlacedValues) (formulas : PlacedFormulas)
+    → (¬ archive.IsWritableArchive (part_files (written_parts WorkbookFile name values formulas)))
     → nat_le (length (sheet_file name values formulas)) longest_file ≡ false
 too_long name values formulas none =
     let tell = names_tell name values formulas in
@@ -102,7 +99,7 @@ module _ (parts : List Part) (name : List ℕ) (values : Range Data)
         (sheet_parts_plain name (value_pairs values) (formula_pairs formulas)))
     no_fit (inl (inl none)) =
         and_right _ _ (too_long name (value_pairs values) (formula_pairs formulas)
-        (subst (λ (own : List Part). ¬ archive.IsWritable (part_files own)) written none))
+        (subst (λ (own : List Part). ¬ archive.IsWritableArchive (part_files own)) written none))
     no_fit (inr long) =
         let size = ap (λ (own : List Part). length (package_file own)) written in
         and_right _ _

@@ -5,46 +5,37 @@ use Rattle.std.specs.Prelude.{string_bytes, if◌then◌else◌, IsSome, option_
 use Rattle.std.specs.List.{position_from}
 use Rattle.std.specs.Str.{bytes_eq}
 use Rattle.book_names.specs.Book.{Book}
-use Rattle.graph_reading.specs.BookRead.{AreFormulas, BookCause, HasFormulas, NamesTooMuch}
+use Rattle.graph_reading.specs.BookRead.{AreFormulas, GraphCause, HasBookFormulas, NamesTooMuch}
 use Rattle.graph_reading.specs.BookRead.{book_formula, book_of, book_with}
 use Rattle.graph_reading.specs.GraphRead.{GraphFails as ReadingFails}
 use Rattle.graph_reading.specs.declared.error.GraphError.{GraphError}
 use Rattle.graph_reading.specs.declared.error.GraphError.TheVariants as graph
 use Rattle.input_package.specs.Told.{Told, told_state}
-use Rattle.part_events.specs.Package.{Part, PackageState, SameParts}
+use Rattle.part_events.specs.Words.{Part, PackageState, SameParts}
 use Rattle.xlsx_error.specs.declared.error.XlsxError.{XlsxError}
 use Rattle.xlsx_error.specs.declared.error.XlsxError.TheVariants as workbook
-use Rattle.xlsx_graph.specs.Gathered.{is_too_large}
-use Rattle.xlsx_graph.specs.Graph.{GraphFormula}
-use Rattle.xlsx_graph.specs.GraphLines.{dependents_lines}
-use Rattle.xlsx_parts.specs.PartSaid.{put_together}
-use Rattle.xlsx_parts.specs.SheetPaths.{SheetPath, sheet_at}
+use Rattle.xlsx_graph.specs.Words.{is_too_large, GraphFormula, all_dependents_lines}
+use Rattle.xlsx_parts.specs.Words.{put_together, SheetPath, sheet_at}
 use Rattle.xlsx_parts.proofs.ManySaid.{no_some_cause}
 use Rattle.xlsx_tables.specs.TableParts.{TableSaid}
-use Rattle.xlsx_tables.specs.Tables.{tables_at, table_of_sheet, on_sheet, TablesAtCause}
-use Rattle.xlsx_workbook.specs.KeptContents.{pair_of}
-use Rattle.xlsx_workbook.specs.Paths.{workbook_part}
-use Rattle.xlsx_workbook.specs.Sheets.{PlacedSheet}
+use Rattle.xlsx_tables.specs.Tables.{tables_at, table_of_sheet, table_on_sheet, TablesAtCause}
+use Rattle.xlsx_workbook.specs.Words.{pair_of, workbook_part, PlacedSheet}
 use Rattle.xlsx_workbook.specs.declared.name_scope.NameScope.{NameScope}
 use Rattle.xlsx_workbook.specs.declared.sheet.Sheet.{Sheet}
-use Rattle.xlsx_open.specs.Opening.{Opening, OpensAs, HoldsOpening, HasScopes, ListedSheet}
-use Rattle.xlsx_open.specs.Opening.{listed_sheet, without_path, scopes_at, OpeningCause}
-use Rattle.xlsx_open.specs.Opening.{OpeningFails}
+use Rattle.xlsx_open.specs.Words.{Opening, OpensAs, HasScopes, ListedSheet, listed_sheet}
+use Rattle.xlsx_open.specs.Words.{without_path, scopes_at, OpeningCause, OpeningFails}
 use Rattle.xlsx_open.proofs.Sound.{same_path}
-use Rattle.xlsx_core.specs.FormulaList.{FormulaSaid, FormulasCause, NumberedSheet, numbered_from}
-use Rattle.xlsx_core.specs.FormulaList.{workbook_formulas}
-use Rattle.xlsx_core.specs.Merges.{sheets_of_book}
-use Rattle.xlsx_core.specs.NumberedTables.{NumberedTablesCause, numbered_tables}
-use Rattle.xlsx_core.specs.NumberedTables.{numbered_tables_on}
-use Rattle.xlsx_core.specs.SheetReading.{path_named}
+use Rattle.xlsx_core.specs.Words.{IsWorkbookOf, FormulaSaid, FormulasCause, NumberedSheet}
+use Rattle.xlsx_core.specs.Words.{sheets_from, workbook_formulas, sheets_of_book}
+use Rattle.xlsx_core.specs.Words.{NumberedTablesCause, numbered_tables, numbered_tables_on}
+use Rattle.xlsx_core.specs.Words.{path_named}
 use Rattle.xlsx_core.specs.declared.xlsx.Xlsx.{Xlsx}
 use Rattle.xlsx_core.proofs.SheetLaws.{are_alike}
 use Rattle.xlsx_commands.specs.GraphLists.{AreAllDependents, DependentsPathCause, HasGraph}
-use Rattle.xlsx_commands.specs.GraphLists.{HasLargeBook, cell_on}
-use Rattle.xlsx_commands.specs.GraphLists.{HasLargeDependents, ListedGraphCause}
-use Rattle.xlsx_commands.specs.GraphLists.{NamedDependentsCause, opened_book, sheet_called}
-use Rattle.xlsx_commands.specs.GraphLists.{sheet_names}
-use Rattle.xlsx_commands.specs.Outputs.{CallFails, GraphFails}
+use Rattle.xlsx_commands.specs.GraphLists.{HasLargeBook, cell_on, HasLargeDependents}
+use Rattle.xlsx_commands.specs.GraphLists.{ListedGraphCause, NamedDependentsCause, opened_book}
+use Rattle.xlsx_commands.specs.GraphLists.{sheet_called, sheet_names}
+use Rattle.xlsx_commands.specs.Outputs.{CallFails, GraphListFails}
 use Rattle.xlsx_commands.specs.PartNames.{PartPathCause}
 use Rattle.xlsx_commands.specs.SheetLists.{OpensAt, NamedCause}
 use Rattle.xlsx_commands.specs.SheetsOpened.{HasSheetsCause, ListedCause, sheets_opened}
@@ -77,14 +68,14 @@ names_listed (sheet ∷ sheets) (own ∷ placed) listed =
 pub record IsOpened (parts : List Part) (xlsx : Xlsx Told) : Type 0 where
   pub opening : Opening
   pub opens : OpensAs parts opening
-  pub holds : HoldsOpening xlsx.metadata xlsx.paths.items xlsx.shared xlsx.is_1904 opening
-  pub scopes : HasScopes parts xlsx.scopes.items
+  pub holds : IsWorkbookOf opening xlsx.workbook
+  pub scopes : HasScopes parts xlsx.workbook.scopes.items
   pub same : xlsx.xml.source.parts ≡ parts
 
 -- what the opening of a package in memory answers
 pub is_opened : (parts : List Part) (xlsx : Xlsx Told) (opening : Opening)
-    → HoldsOpening xlsx.metadata xlsx.paths.items xlsx.shared xlsx.is_1904 opening
-    → OpensAs parts opening → HasScopes parts xlsx.scopes.items → xlsx.xml.source.parts ≡ parts
+    → IsWorkbookOf opening xlsx.workbook → OpensAs parts opening
+    → HasScopes parts xlsx.workbook.scopes.items → xlsx.xml.source.parts ≡ parts
     → IsOpened parts xlsx
 is_opened parts xlsx opening holds opens scopes same = record {
   opening = opening;
@@ -97,31 +88,34 @@ is_opened parts xlsx opening holds opens scopes same = record {
 module _ (parts : List Part) (xlsx : Xlsx Told) (own : IsOpened parts xlsx) where
   pub opened_sheets : sheets_of_book xlsx ≡ sheets_opened own.opening.sheets
   opened_sheets =
-      sheets_listed xlsx.metadata.sheets.items xlsx.paths.items own.opening.sheets
+      sheets_listed xlsx.workbook.metadata.sheets.items xlsx.workbook.paths.items own.opening.sheets
       own.holds.sheets own.holds.paths
 
-  opened_scopes : xlsx.scopes.items ≡ scopes_at parts (workbook_part own.opens.path)
+  opened_scopes : xlsx.workbook.scopes.items ≡ scopes_at parts (workbook_part own.opens.path)
   opened_scopes =
       own.scopes.2
       ∙ ap (λ (path : List ℕ). scopes_at parts (workbook_part path))
       (same_path parts own.scopes.0 own.opens.path own.scopes.1 own.opens.found)
 
   pub opened_names :
-      map (λ (sheet : Sheet). string_bytes sheet.name) xlsx.metadata.sheets.items
+      map (λ (sheet : Sheet). string_bytes sheet.name) xlsx.workbook.metadata.sheets.items
       ≡ sheet_names own.opening.sheets
-  opened_names = names_listed xlsx.metadata.sheets.items own.opening.sheets own.holds.sheets
+  opened_names =
+      names_listed xlsx.workbook.metadata.sheets.items own.opening.sheets own.holds.sheets
 
   pub book_opened : (tables : List (ℕ × TableSaid))
       → book_of xlsx tables ≡ opened_book parts own.opening own.opens tables
   book_opened tables =
-      ap (λ (names : List (List ℕ)). book_with names (map pair_of xlsx.metadata.names.items)
-      xlsx.scopes.items tables) opened_names
+      ap (λ (names : List (List ℕ)). book_with names
+      (map pair_of xlsx.workbook.metadata.names.items)
+      xlsx.workbook.scopes.items tables) opened_names
       ∙ ap (λ (names : List (List ℕ × List ℕ)). book_with (sheet_names own.opening.sheets) names
-      xlsx.scopes.items tables) own.holds.names
+      xlsx.workbook.scopes.items tables) own.holds.names
       ∙ ap (λ (scopes : List NameScope). book_with (sheet_names own.opening.sheets)
       own.opening.names scopes tables) opened_scopes
 
-  abbrev graph_had : (book : Book) (formulas : List GraphFormula) → HasFormulas xlsx parts book formulas
+  abbrev graph_had : (book : Book) (formulas : List GraphFormula) → HasBookFormulas xlsx parts book
+      formulas
       → HasGraph parts book formulas
   graph_had book formulas has = record {
     opening = own.opening;
@@ -138,20 +132,20 @@ module _ (parts : List Part) (xlsx : Xlsx Told) (own : IsOpened parts xlsx) wher
 
   -- what is had of the package as it is now
   abbrev pub has_graph : (book : Book) (formulas : List GraphFormula)
-      → HasFormulas xlsx xlsx.xml.source.parts book formulas → HasGraph parts book formulas
+      → HasBookFormulas xlsx xlsx.xml.source.parts book formulas → HasGraph parts book formulas
   has_graph book formulas has =
       graph_had book formulas
-      (subst (λ (held : List Part). HasFormulas xlsx held book formulas) own.same has)
+      (subst (λ (held : List Part). HasBookFormulas xlsx held book formulas) own.same has)
 
   -- why it isn't had
   pub sheets_cause : (error : XlsxError)
-      → BookCause xlsx.xml.source.parts (sheets_of_book xlsx) error
-      → HasSheetsCause BookCause parts error
+      → GraphCause xlsx.xml.source.parts (sheets_of_book xlsx) error
+      → HasSheetsCause GraphCause parts error
   sheets_cause error cause = record {
     opening = own.opening;
     opens = own.opens;
-    cause = subst (λ (sheets : List SheetPath). BookCause parts sheets error) opened_sheets
-        (subst (λ (held : List Part). BookCause held (sheets_of_book xlsx) error) own.same cause);
+    cause = subst (λ (sheets : List SheetPath). GraphCause parts sheets error) opened_sheets
+        (subst (λ (held : List Part). GraphCause held (sheets_of_book xlsx) error) own.same cause);
   }
 
   abbrev pub names_too_much : NamesTooMuch xlsx xlsx.xml.source.parts → HasLargeBook parts
@@ -166,19 +160,19 @@ module _ (parts : List Part) (xlsx : Xlsx Told) (own : IsOpened parts xlsx) wher
 
 -- a call that is refused as the workbook is, before a graph is read
 pub refused_before : (cause : XlsxError → Type 0) (large : Type 0) (error : ToolError)
-    → CallFails cause error → GraphFails cause large error
+    → CallFails cause error → GraphListFails cause large error
 refused_before cause large tool.GraphTooLarge fails = absurd fails
 refused_before cause large error fails = fails
 
 -- a graph that isn't read of a package in memory
 pub reading_fails : (cause : XlsxError → Type 0) (large : Type 0) (xlsx : Xlsx Told)
-    (old new : PackageState) (error : GraphError) → IsInMemory new → old.is_told ≡ true
-    → ((own : XlsxError) → BookCause old.parts (sheets_of_book xlsx) own → cause own)
+    (old new : PackageState) (error : GraphError) → IsInMemory new → old.is_visible ≡ true
+    → ((own : XlsxError) → GraphCause old.parts (sheets_of_book xlsx) own → cause own)
     → (NamesTooMuch xlsx old.parts → large) → ReadingFails xlsx old new error
-    → GraphFails cause large (of_graph error)
+    → GraphListFails cause large (of_graph error)
 reading_fails cause large xlsx old new (graph.Workbook error) memory told weaker much fails =
     refused_before cause large (of_workbook error)
-    (memory_fails cause (BookCause old.parts (sheets_of_book xlsx)) old new error memory told
+    (memory_fails cause (GraphCause old.parts (sheets_of_book xlsx)) old new error memory told
     (weaker error) fails)
 reading_fails cause large xlsx old new graph.TooLarge memory told weaker much fails =
     much (fails told)
@@ -187,7 +181,7 @@ reading_fails cause large xlsx old new graph.OutOfMemory memory told weaker much
 -- a workbook that doesn't open
 pub opening_refused : (old new : Told) (error : XlsxError)
     → OpeningFails (told_state old) (told_state new) error
-    → GraphFails (ListedGraphCause old.parts) (HasLargeBook old.parts) (of_workbook error)
+    → GraphListFails (ListedGraphCause old.parts) (HasLargeBook old.parts) (of_workbook error)
 opening_refused old new error fails =
     refused_before (ListedGraphCause old.parts) (HasLargeBook old.parts) (of_workbook error)
     (memory_fails (ListedGraphCause old.parts) (OpeningCause old.parts) (told_state old)
@@ -196,9 +190,9 @@ opening_refused old new error fails =
 -- a graph of a workbook that opened isn't had
 pub graph_refused : (parts : List Part) (xlsx : Xlsx Told) (own : IsOpened parts xlsx)
     (error : ToolError)
-    → GraphFails (BookCause xlsx.xml.source.parts (sheets_of_book xlsx))
+    → GraphListFails (GraphCause xlsx.xml.source.parts (sheets_of_book xlsx))
     (NamesTooMuch xlsx xlsx.xml.source.parts) error
-    → GraphFails (ListedGraphCause parts) (HasLargeBook parts) error
+    → GraphListFails (ListedGraphCause parts) (HasLargeBook parts) error
 graph_refused parts xlsx own tool.GraphTooLarge much = names_too_much parts xlsx own much
 graph_refused parts xlsx own (tool.Workbook error) cause =
     inr (sheets_cause parts xlsx own error cause)
@@ -242,7 +236,7 @@ opens_by parts opening opens name = record { opening = opening; opens = opens; n
 pub lacks_name : (parts : List Part) (xlsx : Xlsx Told) (own : IsOpened parts xlsx)
     (name : List ℕ) (asked : String Global) → string_bytes asked ≡ name
     → sheet_called name
-    (map (λ (sheet : Sheet). string_bytes sheet.name) xlsx.metadata.sheets.items) ≡ None
+    (map (λ (sheet : Sheet). string_bytes sheet.name) xlsx.workbook.metadata.sheets.items) ≡ None
     → NamedDependentsCause parts name (workbook.WorksheetNotFound asked)
 lacks_name parts xlsx own name asked is none = (
   path_named name own.opening.sheets,
@@ -257,7 +251,7 @@ lacks_name parts xlsx own name asked is none = (
 -- one that has it, and whose formulas aren't had
 path_cause : (parts : List Part) (opening : Opening) (opens : OpensAs parts opening)
     (name : List ℕ) (error : XlsxError) → IsSome (path_named name opening.sheets)
-    → HasSheetsCause BookCause parts error → NamedDependentsCause parts name error
+    → HasSheetsCause GraphCause parts error → NamedDependentsCause parts name error
 path_cause parts opening opens name (workbook.WorksheetNotFound asked) there cause =
     (path_named name opening.sheets, opens_by parts opening opens name, inr (there, cause))
 path_cause parts opening opens name error there cause =
@@ -266,10 +260,11 @@ path_cause parts opening opens name error there cause =
 pub dependents_refused : (parts : List Part) (xlsx : Xlsx Told) (own : IsOpened parts xlsx)
     (name : List ℕ) (sheet : ℕ) (error : ToolError)
     → sheet_called name
-    (map (λ (sheet : Sheet). string_bytes sheet.name) xlsx.metadata.sheets.items) ≡ Some sheet
-    → GraphFails (BookCause xlsx.xml.source.parts (sheets_of_book xlsx))
+    (map (λ (sheet : Sheet). string_bytes sheet.name) xlsx.workbook.metadata.sheets.items)
+    ≡ Some sheet
+    → GraphListFails (GraphCause xlsx.xml.source.parts (sheets_of_book xlsx))
     (NamesTooMuch xlsx xlsx.xml.source.parts) error
-    → GraphFails (NamedDependentsCause parts name) (HasLargeDependents parts name) error
+    → GraphListFails (NamedDependentsCause parts name) (HasLargeDependents parts name) error
 dependents_refused parts xlsx own name sheet tool.GraphTooLarge is much = record {
   sheet = sheet;
   large = names_too_much parts xlsx own much;
@@ -286,21 +281,23 @@ dependents_refused parts xlsx own name sheet _ is fails = absurd fails
 -- the formulas of one that has it, and what needs a cell of it
 pub dependents_listed : (parts : List Part) (xlsx : Xlsx Told) (own : IsOpened parts xlsx)
     (name : List ℕ) (position : ℕ × ℕ) (sheet : ℕ) (book : Book) (formulas : List GraphFormula)
-    (lines : List ℕ) → HasFormulas xlsx xlsx.xml.source.parts book formulas
+    (lines : List ℕ) → HasBookFormulas xlsx xlsx.xml.source.parts book formulas
     → is_too_large formulas ≡ false
     → sheet_called name
-    (map (λ (sheet : Sheet). string_bytes sheet.name) xlsx.metadata.sheets.items) ≡ Some sheet
-    → lines ≡ dependents_lines book formulas (cell_on sheet position)
+    (map (λ (sheet : Sheet). string_bytes sheet.name) xlsx.workbook.metadata.sheets.items)
+    ≡ Some sheet
+    → lines ≡ all_dependents_lines book formulas (cell_on sheet position)
     → AreAllDependents parts name position lines
-dependents_listed parts xlsx own name position sheet book formulas lines has fits is listed = record {
-  book = book;
-  formulas = formulas;
-  sheet = sheet;
-  has = has_graph parts xlsx own book formulas has;
-  called = ap (sheet_called name) (sym (opened_names parts xlsx own)) ∙ is;
-  fits = fits;
-  listed = listed;
-}
+dependents_listed parts xlsx own name position sheet book formulas lines has fits is listed =
+    record {
+      book = book;
+      formulas = formulas;
+      sheet = sheet;
+      has = has_graph parts xlsx own book formulas has;
+      called = ap (sheet_called name) (sym (opened_names parts xlsx own)) ∙ is;
+      fits = fits;
+      listed = listed;
+    }
 
 -- ---- what is had isn't refused
 
@@ -314,7 +311,7 @@ FormulasNever =
 one_sheet_never : TablesNever → (parts : List Part) (sheet : NumberedSheet)
     (found : Option (List TableSaid)) (own : List (ℕ × TableSaid)) (error : XlsxError)
     → tables_at parts sheet.path ≡ found
-    → option_map (map (on_sheet sheet.number)) found ≡ Some own
+    → option_map (map (table_on_sheet sheet.number)) found ≡ Some own
     → TablesAtCause parts sheet.path error → ⊥
 one_sheet_never taken parts sheet None own error says is cause = absurd (cc)
 one_sheet_never taken parts sheet (Some tables) own error says is cause =
@@ -326,9 +323,9 @@ one_sheet_never taken parts sheet (Some tables) own error says is cause =
 book_never : TablesNever → FormulasNever → (parts : List Part) (sheets : List SheetPath)
     (tables : List (ℕ × TableSaid)) (said : List FormulaSaid) (error : XlsxError)
     → numbered_tables parts sheets ≡ Some tables → workbook_formulas parts sheets ≡ Some said
-    → BookCause parts sheets error → ⊥
+    → GraphCause parts sheets error → ⊥
 book_never taken never parts sheets tables said error has are (inl cause) =
-    no_some_cause (numbered_tables_on parts) (NumberedTablesCause parts) (numbered_from 0 sheets)
+    no_some_cause (numbered_tables_on parts) (NumberedTablesCause parts) (sheets_from 0 sheets)
     error tables
     (λ sheet own says why.
     one_sheet_never taken parts sheet (tables_at parts sheet.path) own error refl says why) has
@@ -341,7 +338,7 @@ module _ (opened : OpeningsNever) (taken : TablesNever) (never : FormulasNever)
     (has : HasGraph parts book formulas) (error : XlsxError) where
   pub graph_never : ListedGraphCause parts error → ⊥
   graph_never cause =
-      sheets_never BookCause parts has.opening error opened has.opens
+      sheets_never GraphCause parts has.opening error opened has.opens
       (book_never taken never parts (sheets_opened has.opening.sheets) has.has.tables has.has.said
       error has.has.has_tables has.has.has_formulas) cause
 

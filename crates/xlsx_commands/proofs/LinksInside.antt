@@ -4,23 +4,20 @@ use Rattle.std.proofs.Common.{codes, map, subst}
 use Rattle.std.specs.Prelude.{option_and_then, All}
 use Rattle.std.specs.List.{AllByRecursion}
 use Rattle.std.proofs.lemmas.List.Elements.{All-from_recursion}
-use Rattle.attr_text.specs.Attributes.{lookup, value_of_local}
+use Rattle.attr_text.specs.Words.{lookup, value_of_local}
 use Rattle.attr_text.specs.declared.fault.AttrFault.{AttrFault}
-use Rattle.cell_refs.specs.A1.{area}
+use Rattle.cell_refs.specs.Words.{area}
 use Rattle.cell_refs.specs.declared.dimensions.Dimensions.{Dimensions}
 use Rattle.cell_refs.specs.declared.error.RefError.{RefError}
-use Rattle.part_events.specs.Event.{Event}
-use Rattle.part_events.specs.Package.{Part, part_of}
-use Rattle.part_events.specs.Section.{PlacedTag}
+use Rattle.part_events.specs.Words.{Event, Part, part_of, PlacedTag}
 use Rattle.list_lines.specs.Inside.{LiesInWorksheet}
-use Rattle.xlsx_sections.specs.Placed.{placed}
-use Rattle.xlsx_sections.specs.Refusal.{Refusal}
-use Rattle.xlsx_relationships.specs.LinkTargets.{LinkTarget, link_targets, target_in}
-use Rattle.xlsx_areas.specs.Hyperlinks.{Link, optional_text, link_to, linked}
-use Rattle.xlsx_areas.specs.Hyperlinks.{some_link, link_with, link_from, link_by_id, link_by}
-use Rattle.xlsx_areas.specs.Hyperlinks.{link_of, is_link, links_of, link_said}
+use Rattle.xlsx_sections.specs.Words.{placed, Refusal}
+use Rattle.xlsx_relationships.specs.Words.{LinkTarget, link_targets, target_in}
+use Rattle.xlsx_areas.specs.Hyperlinks.{Link, optional_text, link_to, linked, some_link, link_with}
+use Rattle.xlsx_areas.specs.Hyperlinks.{link_from, link_by_id, link_by, link_of, is_link, links_of}
+use Rattle.xlsx_areas.specs.Hyperlinks.{link_said}
 use Rattle.xlsx_areas.specs.declared.hyperlink.Hyperlink.{Hyperlink}
-use Rattle.xlsx_core.specs.Links.{links_placed}
+use Rattle.xlsx_core.specs.Words.{links_placed}
 use Rattle.xlsx_commands.specs.SheetLists.{IsLinkInside, IsKeptInside}
 use Rattle.xlsx_commands.proofs.AreasInside.{area_inside, section_are}
 

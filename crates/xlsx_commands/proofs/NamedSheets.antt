@@ -1,25 +1,21 @@
 -- What is had of the first sheet of a name, and why it isn't.
-use Rattle.std.proofs.Common.{◌≡◌, ◌⊎◌, inl, inr, ◌∙◌, ap, sym, subst, ℕ, List, Option, refl}
-use Rattle.std.proofs.Common.{Bool, Some, None}
+use Rattle.std.proofs.Common.{◌≡◌, ◌⊎◌, inl, inr, ◌∙◌, ap, sym, subst, ℕ, List, Option, refl, Bool}
+use Rattle.std.proofs.Common.{Some, None}
 use Rattle.std.specs.Prelude.{IsSomeAnd, option_and_then}
 use Rattle.cell_refs.specs.declared.dimensions.Dimensions.{Dimensions}
-use Rattle.part_events.specs.Event.{Event}
+use Rattle.part_events.specs.Words.{Event, Part, PackageState, SameParts}
 use Rattle.input_package.specs.Told.{Told, told_state}
-use Rattle.part_events.specs.Package.{Part, PackageState, SameParts}
 use Rattle.xlsx_error.specs.declared.error.XlsxError.{XlsxError}
 use Rattle.xlsx_error.specs.declared.error.XlsxError.TheVariants.{WorksheetNotFound}
-use Rattle.xlsx_sections.specs.Failing.{FailsBy}
+use Rattle.xlsx_sections.specs.Words.{FailsBy}
 use Rattle.xlsx_areas.specs.MergeErrors.{MergesCause}
 use Rattle.xlsx_areas.specs.MergedCells.{merges_of}
-use Rattle.xlsx_workbook.specs.declared.paths.KeptPath.{KeptPath}
+use Rattle.xlsx_workbook.specs.declared.paths.PartPath.{PartPath}
 use Rattle.xlsx_workbook.specs.declared.sheet.Metadata.{Metadata}
-use Rattle.xlsx_open.specs.Opening.{Opening, OpensAs, HoldsOpening, OpeningCause}
-use Rattle.xlsx_open.specs.Opening.{OpeningFails}
-use Rattle.xlsx_open.specs.Opening.{IsOpeningError}
+use Rattle.xlsx_open.specs.Words.{Opening, OpensAs, HoldsOpening, OpeningCause, OpeningFails}
+use Rattle.xlsx_open.specs.Words.{IsOpeningError}
 use Rattle.xlsx_open.specs.declared.shared_parts.SharedParts.{SharedParts}
-use Rattle.xlsx_core.specs.Merges.{merges_placed}
-use Rattle.xlsx_core.specs.Opened.{path_listed}
-use Rattle.xlsx_core.specs.SheetReading.{events_at, path_named}
+use Rattle.xlsx_core.specs.Words.{merges_placed, path_listed, events_at, path_named}
 use Rattle.xlsx_core.proofs.SheetLaws.{are_alike}
 use Rattle.xlsx_core.proofs.SheetsRead.{opens_placed}
 use Rattle.xlsx_commands.specs.Outputs.{CallFails}
@@ -29,7 +25,7 @@ use Rattle.xlsx_commands.specs.Status.{of_workbook}
 use Rattle.xlsx_commands.proofs.MemoryCalls.{IsInMemory, memory_fails}
 
 -- a workbook that opened, by its lists
-pub opens_at : {metadata : Metadata} {paths : List KeptPath} {shared : SharedParts}
+pub opens_at : {metadata : Metadata} {paths : List PartPath} {shared : SharedParts}
     {is_1904 : Bool} {parts : List Part} (name : List ℕ) (opening : Opening)
     → HoldsOpening metadata paths shared is_1904 opening → OpensAs parts opening
     → OpensAt parts name (path_listed name metadata.sheets.items paths)
@@ -64,7 +60,7 @@ pub sheet_fails_named : (cause : PathCause) (name : List ℕ) (path : Option (Li
     → CallFails (NamedCause cause old.parts name) (of_workbook error)
 sheet_fails_named cause name path old mid new error same memory opens fails =
     memory_fails (NamedCause cause old.parts name) (cause path mid.parts) mid new error memory
-    same.is_told (λ has. path_is_named cause old.parts name path error opens
+    same.is_visible (λ has. path_is_named cause old.parts name path error opens
     (subst (λ (own : List Part). cause path own error) same.parts has)) fails
 
 -- ---- what is had isn't refused

@@ -1,34 +1,31 @@
 -- The rows of a sheet or of a table as objects: those of a range by what its values mean, and when
 -- there are none.
-use Rattle.std.proofs.Common.{◌≡◌, ◌∙◌, ℕ, zero, suc, ◌-◌, ◌<◌, ◌≤◌, List, map}
-use Rattle.std.proofs.Common.{refl, sym, ap, subst, arith, Option, Some, None, string_bytes}
-use Rattle.std.proofs.Common.{Global, Result, Ok, Err, Bool, true, false, inl, inr}
+use Rattle.std.proofs.Common.{◌≡◌, ◌∙◌, ℕ, zero, suc, ◌-◌, ◌<◌, ◌≤◌, List, map, refl, sym, ap}
+use Rattle.std.proofs.Common.{subst, arith, Option, Some, None, string_bytes, Global, Result, Ok}
+use Rattle.std.proofs.Common.{Err, Bool, true, false, inl, inr}
 use Rattle.std.proofs.lemmas.Bool.{cases_lt}
 use mathlib.Core.Path.{fun_ext}
 use Rattle.std.specs.Prelude.{Vec, ◌↔◌}
 use Rattle.std.specs.List.{flat_map, range_with_len}
 use Rattle.std.proofs.lemmas.List.Folds.{flat_map-map}
-use Rattle.cell_data.specs.CellValue.{CellValue, nothing, value_of_data}
-use Rattle.cell_data.specs.Pairs.{with_meaning, value_pairs}
-use Rattle.cell_data.specs.Range.{bounds_of, blank_of, height_of}
-use Rattle.cell_data.specs.RangeItems.{box_count, row_items, row_values}
-use Rattle.cell_data.specs.Table.{table_columns, table_data}
+use Rattle.cell_data.specs.Words.{CellValue, nothing, value_of_data, with_meaning, value_pairs}
+use Rattle.cell_data.specs.Words.{bounds_of, blank_of, height_of, box_count, row_items, row_values}
+use Rattle.cell_data.specs.Words.{table_columns, table_data}
 use Rattle.cell_data.specs.declared.range.Range.{Range}
 use Rattle.cell_data.specs.declared.table.Table.{Table}
 use Rattle.cell_data.specs.declared.value.Data.{Data}
 use Rattle.cell_data.specs.declared.value.HeaderRow.TheVariants.{FirstNonEmptyRow}
 use Rattle.cell_refs.specs.declared.dimensions.Dimensions.{Dimensions}
-use Rattle.json_rows.specs.RowObjects.{data_object, object_line, object_lines, keys_over}
+use Rattle.json_rows.specs.RowObjects.{data_object, row_object_line, object_lines, keys_over}
 use Rattle.json_rows.specs.RowObjects.{rows_behind, headed_lines, first_double, IsOfKeys}
 use Rattle.json_rows.specs.declared.error.ObjectsError.{ObjectsError}
 use Rattle.json_rows.specs.declared.error.ObjectsError.TheVariants as objects
-use Rattle.part_events.specs.Package.{Part}
-use Rattle.xlsx_core.specs.SheetReading.{IsReadable, opened_grounds, path_named}
-use Rattle.xlsx_core.specs.Worksheets.{HasLeastRange}
+use Rattle.part_events.specs.Words.{Part}
+use Rattle.xlsx_core.specs.Words.{IsReadable, opened_context, path_named, HasLeastRange}
 use Rattle.xlsx_core.proofs.ShownLaws.{one_shown}
 use Rattle.xlsx_error.specs.declared.error.XlsxError.{XlsxError}
-use Rattle.xlsx_rows.specs.RowsText.{data_field}
-use Rattle.xlsx_rows.specs.declared.options.CsvOptions.{CsvOptions}
+use Rattle.csv_rows.specs.RowsText.{data_field}
+use Rattle.csv_rows.specs.declared.options.CsvOptions.{CsvOptions}
 use Rattle.xlsx_tables.specs.Tables.{SheetTable}
 use Rattle.xlsx_commands.specs.Outputs.{CallFails, RowsFail, ObjectsFail}
 use Rattle.xlsx_commands.specs.RowArrays.{values_placed}
@@ -38,7 +35,7 @@ use Rattle.xlsx_commands.specs.RowObjects.{HasDoubleKey, AreJsonRows, LacksHeade
 use Rattle.xlsx_commands.specs.SheetRows.{HasRowValues, HasLargeArea, area_count, asked_area}
 use Rattle.xlsx_commands.specs.Status.{of_objects}
 use Rattle.xlsx_commands.specs.TableLists.{HasTable}
-use Rattle.xlsx_commands.specs.TableObjects.{table_keys, AreTableObjects, HasDoubleName}
+use Rattle.xlsx_commands.specs.TableObjects.{column_keys, AreTableObjects, HasDoubleName}
 use Rattle.xlsx_commands.specs.TableRows.{header_over, HasLargeTable}
 use Rattle.xlsx_commands.specs.declared.asked_rows.AskedRows.{AskedRows}
 use Rattle.xlsx_commands.specs.declared.error.ToolError.{ToolError}
@@ -57,14 +54,14 @@ lines_meant : (options : CsvOptions) (keys : List (List ℕ)) (range : Range Dat
     → value_of_data (blank_of range) ≡ nothing
     → object_lines options keys
     (map (λ row. row_values range row 0) (range_with_len first n))
-    ≡ flat_map (λ row. object_line options keys
+    ≡ flat_map (λ row. row_object_line options keys
     (values_placed (value_pairs range) (bounds_of range) row)) (range_with_len first n)
 unfolding object_lines
 lines_meant options keys range first n is =
     let rows = range_with_len first n in
     flat_map-map (data_object options keys) (λ row. row_values range row 0) rows
     ∙ ap (λ (line_at : ℕ → List ℕ). flat_map line_at rows)
-    (fun_ext (λ row. ap (object_line options keys) (values_meant range row is)))
+    (fun_ext (λ row. ap (row_object_line options keys) (values_meant range row is)))
 
 -- the keys and the rows behind them, where there is a row
 keys_first : (options : CsvOptions) (row_at : ℕ → List Data) (height : ℕ) → 0 < height
@@ -108,7 +105,7 @@ keyed_meant : (options : CsvOptions) (keys : List (List ℕ)) (range : Range Dat
 keyed_meant options keys range is =
     let height = height_of (bounds_of range) in
     lines_meant options keys range 0 height is
-    ∙ ap (λ (count : ℕ). flat_map (λ row. object_line options keys
+    ∙ ap (λ (count : ℕ). flat_map (λ row. row_object_line options keys
     (values_placed (value_pairs range) (bounds_of range) row)) (range_with_len 0 count))
     (omega arith)
 
@@ -256,7 +253,7 @@ module _ (parts : List Part) (name : List ℕ) (table : Table Data)
   area_said = ap (λ (own : Range Data). bounds_of own) same ∙ has.is.area
 
   -- the keys are those of its columns
-  keys_said : keys ≡ table_keys has.own
+  keys_said : keys ≡ column_keys has.own
   keys_said =
       named
       ∙ ap (λ (area : Option Dimensions). header_over area (table_columns table)) has.is.area
@@ -267,7 +264,7 @@ module _ (parts : List Part) (name : List ℕ) (table : Table Data)
       → AreTableObjects parts name options rows
   objects_of_data options rows fits apart is =
       let held = table_data table in
-      let blank = blank_in (opened_grounds has.has.has.opening) FirstNonEmptyRow has.own.table.area
+      let blank = blank_in (opened_context has.has.has.opening) FirstNonEmptyRow has.own.table.area
       (path_named has.own.sheet has.has.has.opening.sheets) parts held has.reads in
       record {
         table = table;
@@ -381,7 +378,7 @@ pub double_name_never : (parts : List Part) (name : List ℕ) (options : CsvOpti
     (rows key : List ℕ) → AreTableObjects parts name options rows
     → HasDoubleName parts name key → ⊥
 double_name_never parts name options rows key prints has =
-    no_and_yes (first_double (table_keys has.has.own)) key
-    (subst (λ (own : SheetTable). first_double (table_keys own) ≡ None)
+    no_and_yes (first_double (column_keys has.has.own)) key
+    (subst (λ (own : SheetTable). first_double (column_keys own) ≡ None)
     (same_table parts name prints.has.own has.has.own prints.has.has has.has.has) prints.apart)
     has.twice

@@ -6,30 +6,27 @@ use Rattle.std.specs.Prelude.{slice_get, slice_index, option_map, option_and_the
 use Rattle.std.specs.Prelude.{nat_lt, codes, []}
 use Rattle.std.specs.List.{flat_map}
 use Rattle.std.proofs.lemmas.Option.{slice_get-map}
-use Rattle.cell_refs.specs.Positions.{is_in_area}
+use Rattle.cell_refs.specs.Words.{is_in_area, reference}
 use Rattle.cell_refs.specs.declared.dimensions.Dimensions.{Dimensions}
-use Rattle.part_events.specs.Package.{Part}
-use Rattle.cell_data.specs.CellValue.{CellValue}
-use Rattle.cell_styles.specs.Color.{color_text}
+use Rattle.part_events.specs.Words.{Part}
+use Rattle.cell_data.specs.Words.{CellValue}
+use Rattle.cell_styles.specs.Words.{color_text, fill_color, styled_in, styled_entry, StyleMap}
+use Rattle.cell_styles.specs.Words.{place_in_area, style_in, style_at}
 use Rattle.cell_styles.specs.declared.color.Color.{Color}
-use Rattle.cell_styles.specs.Fill.{fill_color}
-use Rattle.cell_styles.specs.StyleItems.{styled_in, styled_entry}
-use Rattle.cell_styles.specs.StyleMap.{StyleMap, place_in, style_in, style_at}
 use Rattle.cell_styles.specs.declared.style.Style.{Style}
 use Rattle.xlsx_formats.specs.Formattings.{StyleSaid, style_said}
-use Rattle.xlsx_core.specs.SheetReading.{SayTheSame, ReadsAs}
+use Rattle.xlsx_core.specs.Words.{SayTheSame, ReadsAs}
 use Rattle.xlsx_commands.specs.Outputs.{AreLinesOf, AreCellLines}
-use Rattle.cell_refs.specs.Reference.{reference}
 use Rattle.json.specs.Json.{Json, string, object, no_members, member}
 use Rattle.json_lines.specs.JsonLines.{json_line, optional_member}
 use Rattle.list_lines.specs.declared.content.LineForm.{LineForm}
 use Rattle.list_lines.specs.declared.content.LineForm.TheVariants.{Text, Json as AsJson}
 use Rattle.sheet_listing.specs.CellObjects.{fill_json, formula_json, type_word, value_members}
 use Rattle.sheet_listing.specs.CellObjects.{lines_in, object_listing}
-use Rattle.sheet_listing.specs.SheetListing.{fill_shown, value_field, formula_field}
-use Rattle.sheet_listing.specs.SheetListing.{shown_color, fill_field, line_of, value_placed}
-use Rattle.sheet_listing.specs.SheetListing.{formula_placed, id_placed, used_positions, lines_with}
-use Rattle.sheet_listing.specs.SheetListing.{placed_ids, listing}
+use Rattle.sheet_listing.specs.SheetListing.{fill_shown, value_field, formula_field, shown_color}
+use Rattle.sheet_listing.specs.SheetListing.{fill_field, line_of, value_placed, formula_placed}
+use Rattle.sheet_listing.specs.SheetListing.{id_placed, used_positions, lines_with, placed_ids}
+use Rattle.sheet_listing.specs.SheetListing.{listing}
 
 -- ---- the fill of a position
 
@@ -63,7 +60,7 @@ inside_by_said : (area : Option Dimensions) (one two : StyleMap) (position : ℕ
     ≡ option_map style_said (style_in area two position)
 inside_by_said None one two position palette ids = refl
 inside_by_said (Some area) one two position palette ids =
-    let place = place_in area position in
+    let place = place_in_area area position in
     tested_by_said (is_in_area area position)
     (slice_get one.palette (slice_index one.ids place))
     (slice_get two.palette (slice_index two.ids place))

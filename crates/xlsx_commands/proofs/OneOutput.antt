@@ -16,49 +16,41 @@ use Rattle.std.specs.Ordering.{is_lt, nat_cmp}
 use Rattle.std.specs.declared.cmp.Ordering.{Ordering}
 use Rattle.std.specs.declared.cmp.Ordering.TheVariants.{Less}
 use Rattle.book_names.specs.Book.{Book}
-use Rattle.cell_data.specs.CellValue.{nothing, value_of_data}
-use Rattle.cell_data.specs.Pairs.{value_pairs, formula_pairs, with_meaning}
-use Rattle.cell_data.specs.Table.{table_data}
+use Rattle.cell_data.specs.Words.{nothing, value_of_data, value_pairs, formula_pairs, with_meaning}
+use Rattle.cell_data.specs.Words.{table_data}
 use Rattle.cell_data.specs.declared.range.Range.{Range}
 use Rattle.cell_data.specs.declared.table.Table.{Table}
 use Rattle.cell_data.specs.declared.value.Data.{Data}
 use Rattle.cell_data.specs.declared.value.HeaderRow.TheVariants.{FirstNonEmptyRow}
-use Rattle.cell_refs.specs.Positions.{is_in_area, last_of_each}
+use Rattle.cell_refs.specs.Words.{is_in_area, last_of_each}
 use Rattle.cell_refs.specs.declared.dimensions.Dimensions.{Dimensions}
-use Rattle.cell_styles.specs.StyleMap.{StyleMap}
+use Rattle.cell_styles.specs.Words.{StyleMap}
 use Rattle.package_text.specs.WrittenPackage.{written_package}
-use Rattle.part_events.specs.Package.{Part}
+use Rattle.part_events.specs.Words.{Part}
 use Rattle.sheet_listing.specs.SampleLines.{sample_lines}
-use Rattle.xlsx_cells.specs.Sheet.{with_texts}
+use Rattle.xlsx_cells.specs.Words.{with_texts}
 use Rattle.xlsx_check.specs.Lines.{check_lines}
-use Rattle.xlsx_core.specs.Comments.{named_comments_ask}
-use Rattle.xlsx_core.specs.Links.{links_placed}
-use Rattle.xlsx_core.specs.Merges.{merges_placed}
-use Rattle.xlsx_core.specs.SheetReading.{SayTheSame, events_at, opened_grounds, path_named}
-use Rattle.xlsx_core.specs.ShownTable.{ShowsValuesIn}
-use Rattle.xlsx_core.specs.TableData.{ReadsValuesIn, IsRangeIn}
-use Rattle.xlsx_core.specs.Worksheets.{AnswersValues, below_header}
+use Rattle.xlsx_core.specs.Words.{named_comments_ask, links_placed, merges_placed, SayTheSame}
+use Rattle.xlsx_core.specs.Words.{events_at, opened_context, path_named, ShowsValuesIn}
+use Rattle.xlsx_core.specs.Words.{ReadsValuesIn, IsRangeIn, AnswersValues, below_header}
 use Rattle.xlsx_core.proofs.RangesRead.{same_values}
 use Rattle.xlsx_core.proofs.ShownLaws.{one_shown, one_shown_in}
 use Rattle.list_lines.specs.declared.content.LineForm.{LineForm}
-use Rattle.xlsx_core.proofs.SheetLaws.{are_alike, same_grounds, same_shared}
-use Rattle.xlsx_graph.specs.Graph.{GraphFormula}
-use Rattle.xlsx_graph.specs.GraphLines.{dependents_lines}
-use Rattle.xlsx_open.specs.Opening.{Opening, OpensAs, without_path}
+use Rattle.xlsx_core.proofs.SheetLaws.{are_alike, same_context, same_shared}
+use Rattle.xlsx_graph.specs.Words.{GraphFormula, all_dependents_lines}
+use Rattle.xlsx_open.specs.Words.{Opening, OpensAs, without_path}
 use Rattle.xlsx_open.proofs.Sound.{both_at}
-use Rattle.xlsx_out.specs.Groups.{Placed}
-use Rattle.xlsx_out.specs.WrittenSheet.{PlacedValues, written_parts}
-use Rattle.xlsx_out.specs.declared.form.WrittenForm.TheVariants.{PackageText}
-use Rattle.xlsx_pivot_cache.specs.CacheRecords.{cache_rows}
-use Rattle.xlsx_pivots.specs.PivotTables.{pairs_of}
-use Rattle.xlsx_pivots.specs.Pivots.{PivotSaid}
+use Rattle.xlsx_writer.specs.Words.{PlacedFormulas, PlacedValues, written_parts}
+use Rattle.xlsx_writer.specs.declared.form.WrittenForm.TheVariants.{PackageText}
+use Rattle.xlsx_pivot_cache.specs.Words.{cache_rows}
+use Rattle.xlsx_pivots.specs.Words.{pairs_of, PivotSaid}
 use Rattle.xlsx_precedents.specs.Lines.{precedents_lines}
 use Rattle.xlsx_precedents.specs.Lines as of_sheet
 use Rattle.xlsx_properties.specs.declared.property.Property.{Property}
 use Rattle.xlsx_tables.specs.Tables.{SheetTable}
-use Rattle.xlsx_values.specs.Value.{Grounds}
-use Rattle.xlsx_workbook.specs.Sheets.{PlacedSheet}
-use Rattle.xlsx_rows.specs.declared.options.CsvOptions.{CsvOptions}
+use Rattle.xlsx_values.specs.Words.{ValueContext}
+use Rattle.xlsx_workbook.specs.Words.{PlacedSheet}
+use Rattle.csv_rows.specs.declared.options.CsvOptions.{CsvOptions}
 use Rattle.xlsx_commands.specs.BookLists.{AreSheetLines, AreNameLines, sheet_lines, name_lines}
 use Rattle.xlsx_commands.specs.CacheRows.{ArePivotRows, row_lines}
 use Rattle.xlsx_commands.specs.Command.{Command, cells, sheets, names, merges, links, props, csv}
@@ -81,7 +73,7 @@ use Rattle.xlsx_commands.specs.SheetLists.{merge_lines, link_lines, comment_line
 use Rattle.xlsx_commands.specs.TableLists.{AreTableLines, AreTableValueLines, table_lines}
 use Rattle.xlsx_commands.specs.TableLists.{HasDataIn, HasTable}
 use Rattle.xlsx_commands.specs.RowObjects.{objects_placed}
-use Rattle.xlsx_commands.specs.TableObjects.{table_keys, AreTableObjects}
+use Rattle.xlsx_commands.specs.TableObjects.{column_keys, AreTableObjects}
 use Rattle.xlsx_commands.specs.TableRows.{AreTableRows, table_records}
 use Rattle.xlsx_commands.specs.declared.asked_rows.AskedTable.{AskedTable}
 use Rattle.xlsx_commands.specs.declared.command.GraphList.{GraphList}
@@ -90,17 +82,16 @@ use Rattle.xlsx_commands.proofs.GraphsListed.{same_graph, same_sheet}
 use Rattle.xlsx_commands.proofs.NamedSheets.{same_path}
 use Rattle.xlsx_commands.proofs.OneListing.{AreReadAlike, one_form}
 use Rattle.xlsx_commands.proofs.ObjectsPlaced.{same_json_rows}
-use Rattle.xlsx_commands.proofs.RowsPlaced.{HaveSameRowValues, same_rows}
-use Rattle.xlsx_commands.proofs.RowsPlaced.{row_values_alike}
+use Rattle.xlsx_commands.proofs.RowsPlaced.{HaveSameRowValues, same_rows, row_values_alike}
 use Rattle.xlsx_commands.proofs.TablesNamed.{same_tables, same_table}
-use Rattle.list_lines.specs.Lines.{text_line}
+use Rattle.list_lines.specs.Lines.{lone_text_line}
 use Rattle.sheet_listing.specs.SheetListing.{value_lines}
 
 -- ---- what is read of a sheet
 
 -- what two readings of values and formulas make
-by_both : (print : PlacedValues → Placed → List ℕ) (values more : PlacedValues)
-    (formulas further : Placed) → values ≡ more → formulas ≡ further
+by_both : (print : PlacedValues → PlacedFormulas → List ℕ) (values more : PlacedValues)
+    (formulas further : PlacedFormulas) → values ≡ more → formulas ≡ further
     → print values formulas ≡ print more further
 by_both print values more formulas further same alike =
     ap (λ (own : PlacedValues). print own formulas) same ∙ ap (print more) alike
@@ -119,7 +110,7 @@ one_dependents parts name position one other law first second =
     let same = law first.values second.values first.formulas second.formulas first.styles
     second.styles first.reads second.reads in
     first.listed
-    ∙ ap (λ (own : Placed). of_sheet.dependents_lines own position) same.1
+    ∙ ap (λ (own : PlacedFormulas). of_sheet.dependents_lines own position) same.1
     ∙ sym second.listed
 
 one_check : (parts : List Part) (name one other : List ℕ) → AreReadAlike parts parts name
@@ -155,7 +146,7 @@ one_file parts name one other law first second =
     ∙ sym second.saved
 
 -- how much of a sheet has a style goes by the ids of its positions
-sample_alike : (rows : ℕ) (values : PlacedValues) (formulas : Placed) (one two : StyleMap)
+sample_alike : (rows : ℕ) (values : PlacedValues) (formulas : PlacedFormulas) (one two : StyleMap)
     → SayTheSame one two → sample_lines rows values formulas one
     ≡ sample_lines rows values formulas two
 sample_alike rows values formulas one two same = rw (same.bounds, same.ids) refl
@@ -240,7 +231,7 @@ one_part parts name one other first second =
     let both : Some first.path ≡ Some second.path =
     same_path parts name (Some first.path) (Some second.path) first.opens second.opens in
     let path : first.path ≡ second.path = cc in
-    first.printed ∙ ap text_line path ∙ sym second.printed
+    first.printed ∙ ap lone_text_line path ∙ sym second.printed
 
 -- ---- properties
 
@@ -318,25 +309,25 @@ one_tables form parts one other first second =
     ∙ sym second.listed
 
 -- the values in an area of a sheet are read once
-one_in_area : (grounds : Grounds) (area : Option Dimensions) (path : Option (List ℕ))
+one_in_area : (context : ValueContext) (area : Option Dimensions) (path : Option (List ℕ))
     (parts : List Part) (one two : Range Data)
-    → ReadsValuesIn grounds FirstNonEmptyRow area path parts one
-    → ReadsValuesIn grounds FirstNonEmptyRow area path parts two
+    → ReadsValuesIn context FirstNonEmptyRow area path parts one
+    → ReadsValuesIn context FirstNonEmptyRow area path parts two
     → value_pairs one ≡ value_pairs two
-one_in_area grounds None path parts one two first second =
+one_in_area context None path parts one two first second =
     ap (map (with_meaning value_of_data)) (first.cells ∙ sym second.cells)
-one_in_area grounds (Some area) path parts one two first second =
+one_in_area context (Some area) path parts one two first second =
     let both = both_at (events_at path parts)
-    (λ events. (values : PlacedValues) × AnswersValues grounds events values
-    × IsRangeIn value_of_data FirstNonEmptyRow area (with_texts grounds.strings values) nothing one)
-    (λ events. (values : PlacedValues) × AnswersValues grounds events values
-    × IsRangeIn value_of_data FirstNonEmptyRow area (with_texts grounds.strings values) nothing two)
+    (λ events. (values : PlacedValues) × AnswersValues context events values
+    × IsRangeIn value_of_data FirstNonEmptyRow area (with_texts context.strings values) nothing one)
+    (λ events. (values : PlacedValues) × AnswersValues context events values
+    × IsRangeIn value_of_data FirstNonEmptyRow area (with_texts context.strings values) nothing two)
     first second in
     let (events, (values, answers, is), (others, again, also)) = both in
     is.cells
     ∙ ap (λ (own : PlacedValues). filter (λ cell. is_in_area area cell.0)
-    (last_of_each (below_header FirstNonEmptyRow (with_texts grounds.strings own))))
-    (same_values grounds events values others answers again)
+    (last_of_each (below_header FirstNonEmptyRow (with_texts context.strings own))))
+    (same_values context events values others answers again)
     ∙ sym also.cells
 
 -- and so is what is shown there, of openings that are alike
@@ -345,15 +336,16 @@ one_data_in : (shown : Bool) (parts : List Part) (here there : Opening)
     → OpensAs parts here → OpensAs parts there → HasDataIn shown here area path parts one
     → HasDataIn shown there area path parts two → value_pairs one ≡ value_pairs two
 one_data_in false parts here there area path one two opens again first second =
-    one_in_area (opened_grounds there) area path parts one two
-    (subst (λ (own : Grounds). ReadsValuesIn own FirstNonEmptyRow area path parts one)
-    (same_grounds parts here there opens again) first) second
+    one_in_area (opened_context there) area path parts one two
+    (subst (λ (own : ValueContext). ReadsValuesIn own FirstNonEmptyRow area path parts one)
+    (same_context parts here there opens again) first) second
 one_data_in true parts here there area path one two opens again first second =
-    one_shown_in (opened_grounds there) here.shared there.shared here.is_1904 there.is_1904 area
+    one_shown_in (opened_context there) here.shared there.shared here.is_1904 there.is_1904 area
     path parts one two (same_shared parts here there opens again)
     (are_alike parts here there opens again).epoch
-    (subst (λ (own : Grounds). ShowsValuesIn own here.shared here.is_1904 FirstNonEmptyRow area path
-    parts one) (same_grounds parts here there opens again) first) second
+    (subst (λ (own : ValueContext). ShowsValuesIn own here.shared here.is_1904 FirstNonEmptyRow
+    area path
+    parts one) (same_context parts here there opens again) first) second
 
 -- the data of the first table of a name are had once
 one_table : (shown : Bool) (parts : List Part) (name : List ℕ) (one two : Table Data)
@@ -399,9 +391,10 @@ one_objects parts name options one other first second =
     let same = one_table false parts name first.table second.table first.has second.has in
     let own = second.has.own in
     first.listed
-    ∙ ap (λ (own : SheetTable). objects_placed options (table_keys own)
+    ∙ ap (λ (own : SheetTable). objects_placed options (column_keys own)
     (value_pairs (table_data first.table)) own.table.area 0) same.0
-    ∙ ap (λ (values : PlacedValues). objects_placed options (table_keys own) values own.table.area 0)
+    ∙ ap (λ (values : PlacedValues). objects_placed options (column_keys own) values
+    own.table.area 0)
     same.1
     ∙ sym second.listed
 
@@ -448,11 +441,12 @@ one_all parts name position one other first second =
     let sheet = same_sheet parts name first.has.opening second.has.opening first.sheet second.sheet
     first.has.opens second.has.opens first.called second.called in
     first.listed
-    ∙ ap (λ (book : Book). dependents_lines book first.formulas (cell_on first.sheet position))
+    ∙ ap (λ (book : Book). all_dependents_lines book first.formulas (cell_on first.sheet position))
     same.0
-    ∙ ap (λ (all : List GraphFormula). dependents_lines second.book all
+    ∙ ap (λ (all : List GraphFormula). all_dependents_lines second.book all
     (cell_on first.sheet position)) same.1
-    ∙ ap (λ (own : ℕ). dependents_lines second.book second.formulas (cell_on own position)) sheet
+    ∙ ap (λ (own : ℕ). all_dependents_lines second.book second.formulas
+    (cell_on own position)) sheet
     ∙ sym second.listed
 
 -- ---- a row for each command

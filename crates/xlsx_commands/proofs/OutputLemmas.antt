@@ -2,24 +2,22 @@
 use Rattle.std.proofs.Common.{◌≡◌, ◌⊎◌, ◌∙◌, ℕ, List, map, refl, sym, subst, Option, Some, None}
 use Rattle.std.proofs.Common.{false}
 use Rattle.std.specs.Prelude.{Result, Ok, Err, IfOk, IfErr, string_bytes}
-use Rattle.part_events.specs.Package.{Part}
-use Rattle.cell_data.specs.CellValue.{CellValue}
-use Rattle.cell_data.specs.Pairs.{value_pairs, formula_pairs}
-use Rattle.cell_styles.specs.StyleMap.{StyleMap}
+use Rattle.part_events.specs.Words.{Part}
+use Rattle.cell_data.specs.Words.{CellValue, value_pairs, formula_pairs}
+use Rattle.cell_styles.specs.Words.{StyleMap}
 use Rattle.list_lines.specs.declared.content.LineForm.{LineForm}
 use Rattle.list_lines.specs.declared.content.LineForm.TheVariants.{Text, Json}
 use Rattle.sheet_listing.specs.CellObjects.{object_listing}
 use Rattle.sheet_listing.specs.SheetListing.{listing}
 use Rattle.xlsx_error.specs.declared.error.XlsxError.{XlsxError}
 use Rattle.xlsx_areas.specs.Hyperlinks.{Link}
-use Rattle.xlsx_open.specs.Opening.{OpensSoundly, without_path}
+use Rattle.xlsx_open.specs.Words.{OpensSoundly, without_path}
 use Rattle.xlsx_comments.specs.CommentParts.{CommentsSaid}
 use Rattle.xlsx_comments.specs.Comments.{sheet_comments_ask}
-use Rattle.xlsx_core.specs.Comments.{named_comments_ask}
-use Rattle.xlsx_core.specs.Links.{links_placed, PlacedLinksCause}
-use Rattle.xlsx_core.specs.SheetReading.{ReadsAs, IsReadable, SheetCause}
+use Rattle.xlsx_core.specs.Words.{named_comments_ask, links_placed, PlacedLinksCause, ReadsAs}
+use Rattle.xlsx_core.specs.Words.{IsReadable, SheetCause}
 use Rattle.xlsx_commands.specs.BookLists.{sheet_lines, name_lines}
-use Rattle.xlsx_rows.specs.declared.options.CsvOptions.{CsvOptions}
+use Rattle.csv_rows.specs.declared.options.CsvOptions.{CsvOptions}
 use Rattle.xlsx_commands.specs.declared.asked_rows.AskedRows.{AskedRows}
 use Rattle.xlsx_commands.specs.AskedRows.{as_they_are}
 use Rattle.xlsx_commands.specs.Command.{Command, cells, sheets, names, merges, links, props, csv}
@@ -47,11 +45,9 @@ use Rattle.xlsx_commands.proofs.PartsNamed.{path_never}
 use Rattle.xlsx_commands.proofs.PivotsListed.{PivotsNever, pivots_never}
 use Rattle.xlsx_commands.proofs.PropertiesListed.{PropertiesNever, listed_never}
 use Rattle.xlsx_commands.proofs.OneListing.{AreReadAlike}
-use Rattle.xlsx_commands.proofs.ObjectsPlaced.{read_by_json_rows, json_rows_never}
-use Rattle.xlsx_commands.proofs.ObjectsPlaced.{headless_never, double_key_never, objects_never}
-use Rattle.xlsx_commands.proofs.ObjectsPlaced.{double_name_never}
-use Rattle.xlsx_commands.proofs.RowsPlaced.{rows_or_large, rows_never}
-use Rattle.xlsx_commands.proofs.RowsPlaced.{read_by_row_values}
+use Rattle.xlsx_commands.proofs.ObjectsPlaced.{read_by_json_rows, json_rows_never, headless_never}
+use Rattle.xlsx_commands.proofs.ObjectsPlaced.{double_key_never, objects_never, double_name_never}
+use Rattle.xlsx_commands.proofs.RowsPlaced.{rows_or_large, rows_never, read_by_row_values}
 use Rattle.xlsx_commands.proofs.TablesListed.{TablesNever, tables_never}
 use Rattle.xlsx_commands.proofs.TablesNamed.{AreasNever, table_never}
 use Rattle.xlsx_commands.proofs.TablesPlaced.{records_or_large, records_never, values_of_table}

@@ -1,11 +1,11 @@
 -- The part that a sheet is read from, and why it isn't named.
 use Rattle.std.proofs.Common.{ℕ, List, Option, Some}
-use Rattle.part_events.specs.Package.{Part, PackageState}
+use Rattle.part_events.specs.Words.{Part, PackageState}
 use Rattle.xlsx_error.specs.declared.error.XlsxError.{XlsxError}
 use Rattle.xlsx_error.specs.declared.error.XlsxError.TheVariants.{WorksheetNotFound, OutOfMemory}
 use Rattle.xlsx_error.specs.declared.error.XlsxError.TheVariants.{Io}
-use Rattle.xlsx_sections.specs.Failing.{FailsBy}
-use Rattle.xlsx_core.specs.Worksheets.{LacksPath}
+use Rattle.xlsx_sections.specs.Words.{FailsBy}
+use Rattle.xlsx_core.specs.Words.{LacksPath}
 use Rattle.xlsx_commands.specs.PartNames.{PartPathCause}
 
 -- a workbook that has no sheet of the name

@@ -2,17 +2,15 @@
 use Rattle.std.proofs.Common.{◌≡◌, ◌∙◌, ap, sym, ℕ, List, Some}
 use Rattle.std.specs.Arc.{arc_str_bytes}
 use Rattle.input_package.specs.Told.{Told}
-use Rattle.part_events.specs.Package.{Part}
+use Rattle.part_events.specs.Words.{Part}
 use Rattle.xlsx_error.specs.declared.error.XlsxError.{XlsxError}
-use Rattle.xlsx_error.specs.declared.error.XlsxError.TheVariants.{TableNotFound}
-use Rattle.xlsx_error.specs.declared.error.XlsxError.TheVariants.{PivotTableNotFound}
-use Rattle.xlsx_parts.specs.SheetPaths.{SheetPath}
-use Rattle.xlsx_relationships.specs.Paths.{folder_of}
-use Rattle.xlsx_pivots.specs.PivotErrors.{IsPivotsError}
-use Rattle.xlsx_pivots.specs.Pivots.{PivotSaid, pivots_of, PivotsCause}
-use Rattle.xlsx_open.specs.Opening.{Opening, OpensAs, HoldsOpening, LiesIn}
+use Rattle.xlsx_error.specs.declared.error.XlsxError.TheVariants.{TableNotFound, PivotTableNotFound}
+use Rattle.xlsx_parts.specs.Words.{SheetPath}
+use Rattle.xlsx_relationships.specs.Words.{folder_of}
+use Rattle.xlsx_pivots.specs.Words.{IsPivotsError, PivotSaid, pivots_of, PivotsCause}
+use Rattle.xlsx_open.specs.Words.{Opening, OpensAs, LiesIn}
 use Rattle.xlsx_open.proofs.Sound.{same_path}
-use Rattle.xlsx_core.specs.Merges.{sheets_of_book}
+use Rattle.xlsx_core.specs.Words.{IsWorkbookOf, sheets_of_book}
 use Rattle.xlsx_core.specs.declared.xlsx.Xlsx.{Xlsx}
 use Rattle.xlsx_commands.specs.PivotLists.{HasPivots, ListedPivotsCause}
 use Rattle.xlsx_commands.specs.SheetsOpened.{sheets_opened}
@@ -22,23 +20,24 @@ use Rattle.xlsx_commands.proofs.SheetsOpened.{sheets_listed, sheets_never, IsNot
 -- what is found in the sheets of a workbook that opened
 pub has_pivots : (parts : List Part) (opening : Opening) (xlsx : Xlsx Told)
     (pivots : List PivotSaid) → OpensAs parts opening
-    → HoldsOpening xlsx.metadata xlsx.paths.items xlsx.shared xlsx.is_1904 opening
-    → LiesIn parts (arc_str_bytes xlsx.folder) → xlsx.xml.source.parts ≡ parts
-    → pivots_of xlsx.xml.source.parts (arc_str_bytes xlsx.folder) (sheets_of_book xlsx)
+    → IsWorkbookOf opening xlsx.workbook
+    → LiesIn parts (arc_str_bytes xlsx.workbook.folder) → xlsx.xml.source.parts ≡ parts
+    → pivots_of xlsx.xml.source.parts (arc_str_bytes xlsx.workbook.folder) (sheets_of_book xlsx)
     ≡ Some pivots
     → HasPivots parts pivots
 has_pivots parts opening xlsx pivots opens holds lies same found =
-    let folder : arc_str_bytes xlsx.folder ≡ folder_of opens.path =
+    let folder : arc_str_bytes xlsx.workbook.folder ≡ folder_of opens.path =
     lies.2 ∙ ap folder_of (same_path parts lies.0 opens.path lies.1 opens.found) in
     let sheets : sheets_of_book xlsx ≡ sheets_opened opening.sheets =
-    sheets_listed xlsx.metadata.sheets.items xlsx.paths.items opening.sheets holds.sheets
+    sheets_listed xlsx.workbook.metadata.sheets.items xlsx.workbook.paths.items opening.sheets
+    holds.sheets
     holds.paths in
     record {
       opening = opening;
       opens = opens;
       found = ap (pivots_of parts (folder_of opens.path)) (sym sheets)
           ∙ ap (λ (own : List ℕ). pivots_of parts own (sheets_of_book xlsx)) (sym folder)
-          ∙ ap (λ (own : List Part). pivots_of own (arc_str_bytes xlsx.folder)
+          ∙ ap (λ (own : List Part). pivots_of own (arc_str_bytes xlsx.workbook.folder)
           (sheets_of_book xlsx)) (sym same)
           ∙ found;
     }

@@ -1,16 +1,15 @@
 -- Nothing in the workbook file of a sheet looks like a locator of records of 64 bits.
 use Rattle.std.proofs.Common.{◌≡◌, ℕ, ◌+◌, ◌-◌, List, [], ◌∷◌, ◌++◌, length, take, drop, get_or}
-use Rattle.std.proofs.Common.{refl, sym, ap, ◌∙◌, arith, append_assoc, length-append}
-use Rattle.std.proofs.Common.{append-nil}
+use Rattle.std.proofs.Common.{refl, sym, ap, ◌∙◌, arith, append_assoc, length-append, append-nil}
 use Rattle.std.specs.Prelude.{codes}
 use Rattle.std.proofs.lemmas.Bool.{and_right}
 use Rattle.std.proofs.Math.Seq.{drop-append_seam}
 use Rattle.zip_writer.specs.Written.{File, IsPlain, entries, entry, directory, front, header, four}
 use Rattle.zip_writer.specs.Written.{two, said}
 use Rattle.package_file.specs.PackageFile.{part_files}
-use Rattle.xlsx_out.specs.Groups.{Placed}
-use Rattle.xlsx_out.specs.WrittenSheet.{PlacedValues, written_parts}
-use Rattle.xlsx_out.specs.declared.form.WrittenForm.TheVariants.{WorkbookFile}
+use Rattle.xlsx_writer.specs.Words.{PlacedFormulas, PlacedValues}
+use Rattle.xlsx_writer.specs.WrittenSheet.{written_parts}
+use Rattle.xlsx_writer.specs.declared.form.WrittenForm.TheVariants.{WorkbookFile}
 
 -- bytes end so
 record EndIn (bytes tail : List ℕ) : Type 0 where
@@ -53,7 +52,7 @@ front_ends files tail long ends =
     omega (arith, ap length whole, length-append before tail, long) in
     (λ i. drop (at i) (whole i)) ∙ drop-append_seam before tail
 
-pub sheet_parts_plain : (name : List ℕ) (values : PlacedValues) (formulas : Placed)
+pub sheet_parts_plain : (name : List ℕ) (values : PlacedValues) (formulas : PlacedFormulas)
     → IsPlain (part_files (written_parts WorkbookFile name values formulas))
 unfolding written_parts
 sheet_parts_plain name values formulas =

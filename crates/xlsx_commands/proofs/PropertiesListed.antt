@@ -10,12 +10,12 @@ use Rattle.std.specs.Map.{keys_of, lookup}
 use Rattle.std.specs.Ordering.{nat_cmp}
 use Rattle.std.specs.declared.cmp.Ordering.{Ordering}
 use Rattle.std.specs.declared.cmp.Ordering.TheVariants.{Less}
-use Rattle.part_events.specs.Package.{Part}
+use Rattle.part_events.specs.Words.{Part}
 use Rattle.xlsx_error.specs.declared.error.XlsxError.{XlsxError}
 use Rattle.xlsx_properties.specs.Kept.{entry_texts}
 use Rattle.xlsx_properties.specs.Parts.{SayProperties, PropertiesCause}
 use Rattle.xlsx_properties.specs.declared.property.Property.{Property}
-use Rattle.xlsx_open.specs.Opening.{OpensSoundly}
+use Rattle.xlsx_open.specs.Words.{OpensSoundly}
 use Rattle.xlsx_commands.specs.PropertyLists.{ListedPropertiesCause, text_of_name, AreByName}
 use Rattle.xlsx_commands.proofs.NamedSheets.{OpeningsNever}
 

@@ -11,59 +11,50 @@ use Rattle.std.specs.FinMap.Entries.{put, by_order}
 use Rattle.std.specs.Str.{bytes_eq, trim, str_to_ascii_lowercase}
 use Rattle.std.specs.declared.cmp.Ordering.{Ordering}
 use Rattle.std.specs.declared.cmp.Ordering.TheVariants.{Less, Equal, Greater}
-use Rattle.attr_text.specs.Attributes.{lookup}
+use Rattle.attr_text.specs.Words.{lookup}
 use Rattle.attr_text.specs.declared.fault.AttrFault.{AttrFault}
-use Rattle.cell_refs.specs.Positions.{position_cmp, last_of_each, least_area, area_with}
+use Rattle.cell_refs.specs.Words.{position_cmp, least_area, area_with}
+use Rattle.cell_refs.specs.Positions.{last_of_each}
 use Rattle.cell_refs.specs.declared.dimensions.Dimensions.{Dimensions}
 use Rattle.cell_refs.proofs.PositionOrder.{position_total, and_both, and_from}
-use Rattle.decimals.specs.Decimals.{decimal_of}
-use Rattle.cell_data.specs.CellValue.{CellValue, nothing, integer, number, text, shared_text, truth}
-use Rattle.cell_data.specs.CellValue.{time, iso_time, failure, value_of_data}
-use Rattle.cell_data.specs.Pairs.{with_meaning, pairs_by, value_pairs, formula_pairs}
-use Rattle.cell_data.specs.Range.{cells_of, IsLeast}
+use Rattle.decimals.specs.Words.{decimal_of}
+use Rattle.cell_data.specs.Words.{CellValue, nothing, integer, number, text, shared_text, truth}
+use Rattle.cell_data.specs.Words.{time, iso_time, failure, value_of_data, with_meaning, pairs_by}
+use Rattle.cell_data.specs.Words.{value_pairs, formula_pairs, cells_of, IsLeast}
 use Rattle.cell_data.specs.declared.range.Range.{Range}
 use Rattle.cell_data.specs.declared.value.HeaderRow.TheVariants.{FirstNonEmptyRow}
-use Rattle.cell_styles.specs.StyleMap.{StyleMap}
+use Rattle.cell_styles.specs.Words.{StyleMap}
 use Rattle.cell_data.specs.declared.format.CellFormat.{CellFormat}
 use Rattle.cell_data.specs.declared.format.CellFormat.TheVariants as format
 use Rattle.cell_data.specs.declared.value.CellErrorType.{CellErrorType}
 use Rattle.cell_data.specs.declared.value.CellErrorType.TheVariants.{Div0, NA, Name, Null, Num, Ref}
 use Rattle.cell_data.specs.declared.value.CellErrorType.TheVariants.{Value}
 use Rattle.cell_data.proofs.Placing.{none_placed}
-use Rattle.part_events.specs.Event.{Tag, Event}
-use Rattle.part_events.specs.Package.{Part}
-use Rattle.part_events.specs.Section.{children}
-use Rattle.xlsx_sections.specs.Answers.{last_answer, or_later, and_others}
-use Rattle.xlsx_sections.specs.ElementText.{element_text}
-use Rattle.xlsx_sections.specs.NumberText.{number_text}
-use Rattle.xlsx_sections.specs.Refusal.{Refusal, plain, lacks_string, stray_child, answer_further}
-use Rattle.xlsx_sections.specs.Refusal.{events_behind}
+use Rattle.part_events.specs.Words.{Tag, Event, Part, children}
+use Rattle.xlsx_sections.specs.Words.{last_answer, or_later, and_others, element_text, number_text}
+use Rattle.xlsx_sections.specs.Words.{Refusal, plain, lacks_string, stray_child, answer_further}
+use Rattle.xlsx_sections.specs.Words.{count_behind, inside_of}
 use Rattle.xlsx_strings.specs.Strings.{string_of}
-use Rattle.xlsx_values.specs.CellType.{CellKind, untyped, of_number, of_shared, of_truth, of_error}
-use Rattle.xlsx_values.specs.CellType.{of_text, of_date, of_inline, of_unknown, kind_named}
-use Rattle.xlsx_values.specs.CellType.{is_joined, is_inline}
-use Rattle.xlsx_values.specs.Value.{Grounds, number_value, formatted, or_no_number, shared_value}
-use Rattle.xlsx_values.specs.Value.{truth_value, trimmed_truth, or_wrong_truth, lower_truth}
-use Rattle.xlsx_values.specs.Value.{error_value, or_wrong_error, value_of_first, value_of_joined}
-use Rattle.xlsx_values.specs.Value.{of_first, of_joined, first_text, first_event_value}
-use Rattle.xlsx_values.specs.Value.{joined_value, counted_value, some_value}
-use Rattle.xlsx_values.specs.Value.{inline_value, is_child, said_value, child_value, or_nothing}
-use Rattle.xlsx_values.specs.Value.{value_in, format_of, looked_value, cell_value}
-use Rattle.xlsx_values.specs.Value.{string_at, resolved}
-use Rattle.xlsx_cells.specs.Marks.{Mark, row_start, row_end, cell, marks}
-use Rattle.xlsx_cells.specs.Position.{row_named, cell_position}
-use Rattle.xlsx_cells.specs.Sheet.{behind_row, answers_from, at_position, placed_value, values_in}
-use Rattle.xlsx_cells.specs.Sheet.{is_nothing, used_values, with_texts, is_empty, used_formulas}
-use Rattle.xlsx_cells.specs.Sheet.{formulas_along}
-use Rattle.xlsx_core.specs.SheetReading.{ReadsAs, opened_grounds}
-use Rattle.xlsx_core.specs.Worksheets.{IsRangeOf, HasLeastRanges}
+use Rattle.xlsx_values.specs.Words.{CellKind, untyped, of_number, of_shared, of_truth, of_error}
+use Rattle.xlsx_values.specs.Words.{of_text, of_date, of_inline, of_unknown, kind_named, is_joined}
+use Rattle.xlsx_values.specs.Words.{is_inline, ValueContext, number_value, formatted, or_no_number}
+use Rattle.xlsx_values.specs.Words.{shared_value, truth_value, trimmed_truth, or_wrong_truth}
+use Rattle.xlsx_values.specs.Words.{lower_truth, error_value, or_wrong_error, value_of_first}
+use Rattle.xlsx_values.specs.Words.{value_of_joined, of_first, of_joined, first_text}
+use Rattle.xlsx_values.specs.Words.{first_event_value, joined_value, counted_value, some_value}
+use Rattle.xlsx_values.specs.Words.{inline_value, is_child, said_value, child_value, or_nothing}
+use Rattle.xlsx_values.specs.Words.{value_in, format_of, looked_value, cell_value, string_at}
+use Rattle.xlsx_values.specs.Words.{resolved}
+use Rattle.xlsx_cells.specs.Words.{Mark, row_start, row_end, cell, marks, row_named, cell_position}
+use Rattle.xlsx_cells.specs.Words.{behind_row, answers_from, at_position, placed_value, values_in}
+use Rattle.xlsx_cells.specs.Words.{is_nothing, used_values, with_texts, is_empty, used_formulas}
+use Rattle.xlsx_cells.specs.Words.{formulas_along}
+use Rattle.xlsx_core.specs.Words.{ReadsAs, opened_context, IsRangeOf, HasLeastRanges}
 use Rattle.xlsx_core.specs.declared.sheet_reading.SheetReading.{SheetReading}
-use Rattle.xlsx_sections.specs.PartSection.{inside_of}
-use Rattle.xlsx_out.specs.Groups.{Placed}
-use Rattle.xlsx_out.specs.Writable.{is_decimal, is_kept, is_written, counts_from, have_one_epoch}
-use Rattle.xlsx_out.specs.Writable.{are_writable_values, are_writable_formulas, IsWritable}
-use Rattle.xlsx_out.specs.WrittenSheet.{PlacedValues}
-use Rattle.xlsx_out.proofs.DecimalsRead.{decimal_is_read}
+use Rattle.xlsx_writer.specs.Words.{PlacedFormulas, is_decimal, is_kept, is_writable_value}
+use Rattle.xlsx_writer.specs.Words.{counts_from, have_one_epoch, are_writable_values}
+use Rattle.xlsx_writer.specs.Words.{are_writable_formulas, IsWritable, PlacedValues}
+use Rattle.xlsx_writer.proofs.DecimalsRead.{decimal_is_read}
 
 -- ---- one value
 
@@ -112,10 +103,10 @@ last_passes passes answer (x ∷ xs) each =
     later_passes passes (answer x) (last_answer answer xs) (each x)
     (last_passes passes answer xs each)
 
-module _ (grounds : Grounds) where
+module _ (context : ValueContext) where
   -- a value can be read of a cell of this workbook
   abbrev can_be : CellValue → Bool
-  can_be value = is_read grounds.is_1904 value
+  can_be value = is_read context.is_1904 value
 
   counts_itself : (epoch : Bool) (days : ℤ × ℤ) (kind : _) →
       counts_from epoch (time days kind epoch) ≡ true
@@ -123,20 +114,20 @@ module _ (grounds : Grounds) where
   counts_itself false days kind = refl
 
   formatted_passes : (own : CellFormat) (n : ℤ × ℤ) → is_decimal n ≡ true →
-      can_be (formatted grounds.is_1904 own n) ≡ true
+      can_be (formatted context.is_1904 own n) ≡ true
   formatted_passes format.Other n is = is
   formatted_passes format.DateTime n is =
-      and_from _ _ is (counts_itself grounds.is_1904 n _)
+      and_from _ _ is (counts_itself context.is_1904 n _)
   formatted_passes format.TimeDelta n is =
-      and_from _ _ is (counts_itself grounds.is_1904 n _)
+      and_from _ _ is (counts_itself context.is_1904 n _)
 
   number_passes : (own : CellFormat) (typed : Bool) (written : List ℕ) →
-      passes_if can_be (number_value grounds.is_1904 own typed written) ≡ true
+      passes_if can_be (number_value context.is_1904 own typed written) ≡ true
   number_passes own typed [] = refl
   number_passes own typed (b ∷ bs) = by (decimal_of (b ∷ bs)) refl typed where
     by : (o : Option (ℤ × ℤ)) → decimal_of (b ∷ bs) ≡ o → (t : Bool) →
         passes_if can_be (or_no_number t (b ∷ bs)
-        (option_map (formatted grounds.is_1904 own) o)) ≡ true
+        (option_map (formatted context.is_1904 own) o)) ≡ true
     by (Some n) is t = formatted_passes own n (decimal_is_read (b ∷ bs) n is)
     by None is true = refl
     by None is false = refl
@@ -181,10 +172,10 @@ module _ (grounds : Grounds) where
       (error_or written (bytes_eq written (codes "#VALUE!")) Value None refl refl))))))
 
   first_passes : (own : CellFormat) (kind : CellKind) (written : List ℕ) →
-      passes_if can_be (value_of_first grounds own kind written) ≡ true
+      passes_if can_be (value_of_first context own kind written) ≡ true
   first_passes own untyped written = number_passes own false written
   first_passes own of_number written = number_passes own true written
-  first_passes own of_shared written = shared_passes grounds.strings written
+  first_passes own of_shared written = shared_passes context.strings written
   first_passes own of_truth written = truth_passes written
   first_passes own of_error written = error_passes written
   first_passes own of_text written = refl
@@ -205,7 +196,7 @@ module _ (grounds : Grounds) where
   joined_passes (of_unknown typ) written = refl
 
   counted_passes : (own : CellFormat) (kind : CellKind) (inside : List Event) →
-      passes_if can_be (counted_value grounds own kind inside) ≡ true
+      passes_if can_be (counted_value context own kind inside) ≡ true
   counted_passes own kind inside = by (is_joined kind) where
     joined : (r : Result (List ℕ) Refusal) →
         passes_if can_be (of_joined (value_of_joined kind) r) ≡ true
@@ -213,12 +204,12 @@ module _ (grounds : Grounds) where
     joined (Err refusal) = refl
 
     first : (o : Option (List ℕ)) →
-        passes_if can_be (of_first (value_of_first grounds own kind) o) ≡ true
+        passes_if can_be (of_first (value_of_first context own kind) o) ≡ true
     first None = refl
     first (Some written) = first_passes own kind written
 
     by : (t : Bool) → passes_if can_be (cond t (joined_value kind inside)
-        (first_event_value grounds own kind inside)) ≡ true
+        (first_event_value context own kind inside)) ≡ true
     by true = joined (element_text false inside)
     by false = first (first_text inside)
 
@@ -235,27 +226,27 @@ module _ (grounds : Grounds) where
     by (Err refusal) = refl
 
   said_passes : (own : CellFormat) (kind : CellKind) (tag : Tag) (inside : List Event) →
-      passes_some can_be (said_value grounds own kind tag inside) ≡ true
+      passes_some can_be (said_value context own kind tag inside) ≡ true
   said_passes own kind tag inside =
       by (is_child (codes "f") tag) (is_child (codes "v") tag) (is_child (codes "is") tag)
       (is_inline kind) where
         by : (f v is inline : Bool) → passes_some can_be (cond f (Ok None) (cond v
-            (cond inline (Ok None) (some_value (counted_value grounds own kind inside)))
+            (cond inline (Ok None) (some_value (counted_value context own kind inside)))
             (cond is (some_value (inline_value inside)) (Err (plain stray_child))))) ≡ true
         by true v is inline = refl
         by false true is true = refl
         by false true is false =
-            some_passes (counted_value grounds own kind inside) (counted_passes own kind inside)
+            some_passes (counted_value context own kind inside) (counted_passes own kind inside)
         by false false true inline = some_passes (inline_value inside) (inline_passes inside)
         by false false false inline = refl
 
   value_passes : (own : CellFormat) (kind : CellKind) (inside : List Event) →
-      passes_if can_be (value_in grounds own kind inside) ≡ true
+      passes_if can_be (value_in context own kind inside) ≡ true
   value_passes own kind inside =
-      by (last_answer (child_value grounds own kind) (children inside))
-      (last_passes can_be (child_value grounds own kind) (children inside)
-      (λ child. further_some can_be (events_behind child)
-      (said_value grounds own kind child.tag child.inside)
+      by (last_answer (child_value context own kind) (children inside))
+      (last_passes can_be (child_value context own kind) (children inside)
+      (λ child. further_some can_be (count_behind child)
+      (said_value context own kind child.tag child.inside)
       (said_passes own kind child.tag child.inside))) where
         by : (r : Result (Option CellValue) Refusal) → passes_some can_be r ≡ true →
             passes_if can_be (or_nothing r) ≡ true
@@ -264,17 +255,17 @@ module _ (grounds : Grounds) where
         by (Err refusal) is = refl
 
   pub cell_passes : (tag : Tag) (inside : List Event) →
-      passes_if can_be (cell_value grounds tag inside) ≡ true
+      passes_if can_be (cell_value context tag inside) ≡ true
   cell_passes tag inside =
       by (lookup (codes "r" ∷ codes "s" ∷ codes "t" ∷ []) tag.attributes) where
         by : (r : Result (List (Option (List ℕ))) AttrFault) →
-            passes_if can_be (looked_value grounds inside r) ≡ true
+            passes_if can_be (looked_value context inside r) ≡ true
         by (Err fault) = refl
         by (Ok []) = refl
         by (Ok (a ∷ [])) = refl
         by (Ok (a ∷ b ∷ [])) = refl
         by (Ok (a ∷ b ∷ c ∷ [])) =
-            value_passes (format_of grounds.formats b) (kind_named c) inside
+            value_passes (format_of context.formats b) (kind_named c) inside
         by (Ok (a ∷ b ∷ c ∷ d ∷ values)) = refl
 
   -- ---- the values of a sheet
@@ -284,10 +275,10 @@ module _ (grounds : Grounds) where
   can_be_all values = list_all (λ entry. can_be entry.1) values
 
   marks_pass : (before rest : List Mark) →
-      passes_if can_be_all (answers_from (placed_value grounds) before rest) ≡ true
+      passes_if can_be_all (answers_from (placed_value context) before rest) ≡ true
   marks_pass before [] = refl
   marks_pass before (row_start tag ∷ rest) =
-      by (row_named tag) (answers_from (placed_value grounds) (row_start tag ∷ before) rest)
+      by (row_named tag) (answers_from (placed_value context) (row_start tag ∷ before) rest)
       (marks_pass (row_start tag ∷ before) rest) where
         by : (row : Result (Option ℕ) Refusal) (others : Result PlacedValues Refusal) →
             passes_if can_be_all others ≡ true → passes_if can_be_all (behind_row row others) ≡ true
@@ -295,14 +286,14 @@ module _ (grounds : Grounds) where
         by (Err refusal) others is = refl
   marks_pass before (row_end ∷ rest) = marks_pass (row_end ∷ before) rest
   marks_pass before (cell element ∷ rest) =
-      both (cell_position before element.tag) (cell_value grounds element.tag element.inside)
-      (answers_from (placed_value grounds) (cell element ∷ before) rest)
+      both (cell_position before element.tag) (cell_value context element.tag element.inside)
+      (answers_from (placed_value context) (cell element ∷ before) rest)
       (cell_passes element.tag element.inside) (marks_pass (cell element ∷ before) rest) where
         both : (place : Result (ℕ × ℕ) Refusal) (value : Result CellValue Refusal)
             (others : Result PlacedValues Refusal) → passes_if can_be value ≡ true →
             passes_if can_be_all others ≡ true →
             passes_if can_be_all (and_others (at_position place
-            (answer_further (events_behind element) value)) others) ≡ true
+            (answer_further (count_behind element) value)) others) ≡ true
         both (Ok p) (Ok v) (Ok vs) is all = and_from _ _ is all
         both (Ok p) (Ok v) (Err refusal) is all = refl
         both (Ok p) (Err refusal) others is all = refl
@@ -310,19 +301,20 @@ module _ (grounds : Grounds) where
         both (Err refusal) (Err other) others is all = refl
 
   pub values_can_be : (inside : List Event) (all : PlacedValues) →
-      values_in grounds inside ≡ Ok all → can_be_all all ≡ true
+      values_in context inside ≡ Ok all → can_be_all all ≡ true
   values_can_be inside all is =
       ap (passes_if can_be_all) (sym is) ∙ marks_pass [] (marks inside)
 
   -- a value that can be written, and counts from the first year
   abbrev is_well : CellValue → Bool
-  is_well value = is_written value && counts_from grounds.is_1904 value
+  is_well value = is_writable_value value && counts_from context.is_1904 value
 
-  counts_other : (value : CellValue) → is_read grounds.is_1904 value ≡ true →
-      is_nothing value ≡ false → is_well (resolved grounds.strings value) ≡ true
-  counts_other value is some = by grounds.is_1904 value is some where
+  counts_other : (value : CellValue) → is_read context.is_1904 value ≡ true →
+      is_nothing value ≡ false → is_well (resolved context.strings value) ≡ true
+  counts_other value is some = by context.is_1904 value is some where
     by : (epoch : Bool) (v : CellValue) → is_read epoch v ≡ true → is_nothing v ≡ false →
-        (is_written (resolved grounds.strings v) && counts_from epoch (resolved grounds.strings v))
+        (is_writable_value (resolved context.strings v)
+        && counts_from epoch (resolved context.strings v))
         ≡ true
     by epoch nothing is some = absurd (cc)
     by epoch (integer n) is some = absurd (cc)
@@ -341,14 +333,14 @@ module _ (grounds : Grounds) where
     by false (failure error) is some = and_from _ _ is refl
 
   used_well : (all : PlacedValues) → can_be_all all ≡ true →
-      list_all (λ entry. is_well entry.1) (with_texts grounds.strings (used_values all)) ≡ true
+      list_all (λ entry. is_well entry.1) (with_texts context.strings (used_values all)) ≡ true
   used_well [] is = refl
   used_well (entry ∷ all) is =
       let (first, rest) = and_both (can_be entry.1) (can_be_all all) is in
       by (is_nothing entry.1) refl first (used_well all rest) where
         by : (t : Bool) → is_nothing entry.1 ≡ t → can_be entry.1 ≡ true →
-            list_all (λ e. is_well e.1) (with_texts grounds.strings (used_values all)) ≡ true →
-            list_all (λ e. is_well e.1) (with_texts grounds.strings
+            list_all (λ e. is_well e.1) (with_texts context.strings (used_values all)) ≡ true →
+            list_all (λ e. is_well e.1) (with_texts context.strings
             (cond t (used_values all) (entry ∷ used_values all))) ≡ true
         by true none first rest = rest
         by false none first rest = and_from _ _ (counts_other entry.1 first none) rest
@@ -423,20 +415,20 @@ one_epoch false values all = by (list_all (λ e. counts_from true e.1) values) w
   by false = all
 
 -- the values that are read of a sheet can be written
-pub values_writable : (grounds : Grounds) (inside : List Event) (all : PlacedValues) →
-    values_in grounds inside ≡ Ok all →
-    are_writable_values (last_of_each (with_texts grounds.strings (used_values all))) ≡ true
-values_writable grounds inside all is =
-    let es : PlacedValues = last_of_each (with_texts grounds.strings (used_values all)) in
-    let parts = both_lists (λ (e : (ℕ × ℕ) × CellValue). is_written e.1)
-    (λ (e : (ℕ × ℕ) × CellValue). counts_from grounds.is_1904 e.1) es
-    (last_pass (is_well grounds) (with_texts grounds.strings (used_values all))
-    (used_well grounds all (values_can_be grounds inside all is))) in
-    and_from (list_all (λ e. is_written e.1) es) (have_one_epoch es) parts.0
-    (one_epoch grounds.is_1904 es parts.1)
+pub values_writable : (context : ValueContext) (inside : List Event) (all : PlacedValues) →
+    values_in context inside ≡ Ok all →
+    are_writable_values (last_of_each (with_texts context.strings (used_values all))) ≡ true
+values_writable context inside all is =
+    let es : PlacedValues = last_of_each (with_texts context.strings (used_values all)) in
+    let parts = both_lists (λ (e : (ℕ × ℕ) × CellValue). is_writable_value e.1)
+    (λ (e : (ℕ × ℕ) × CellValue). counts_from context.is_1904 e.1) es
+    (last_pass (is_well context) (with_texts context.strings (used_values all))
+    (used_well context all (values_can_be context inside all is))) in
+    and_from (list_all (λ e. is_writable_value e.1) es) (have_one_epoch es) parts.0
+    (one_epoch context.is_1904 es parts.1)
 
 -- and so can its formulas
-pub formulas_writable : (all : Placed) →
+pub formulas_writable : (all : PlacedFormulas) →
     are_writable_formulas (last_of_each (used_formulas all)) ≡ true
 formulas_writable all =
     last_pass (λ (formula : List ℕ). not (length formula == 0)) (used_formulas all)
@@ -445,7 +437,7 @@ formulas_writable all =
       full [] some = absurd (cc)
       full (b ∷ bs) some = grind (arith, nat_tests)
 
-      used : (all : Placed) → are_writable_formulas (used_formulas all) ≡ true
+      used : (all : PlacedFormulas) → are_writable_formulas (used_formulas all) ≡ true
       used [] = refl
       used (entry ∷ all) = by (is_empty entry.1) refl (used all) where
         by : (t : Bool) → is_empty entry.1 ≡ t → are_writable_formulas (used_formulas all) ≡ true →
@@ -468,11 +460,11 @@ least_range meaning other range is = is.bounds ∙ least_meant meaning (cells_of
 
 -- the values and the formulas that are read of a sheet can be written
 pub reads_writable : {parts : List Part} {name : List ℕ} {values : PlacedValues}
-    {formulas : Placed} {styles : StyleMap} → ReadsAs parts name values formulas styles →
+    {formulas : PlacedFormulas} {styles : StyleMap} → ReadsAs parts name values formulas styles →
     (are_writable_values values ≡ true) × (are_writable_formulas formulas ≡ true)
 reads_writable reads = (
   ap are_writable_values reads.holds.valued
-      ∙ values_writable (opened_grounds reads.opening) (inside_of reads.holds.sheet.section)
+      ∙ values_writable (opened_context reads.opening) (inside_of reads.holds.sheet.section)
       reads.holds.all reads.holds.sheet.valued,
   ap are_writable_formulas reads.holds.listed
       ∙ formulas_writable (formulas_along [] reads.holds.written),

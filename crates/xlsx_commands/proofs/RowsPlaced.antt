@@ -1,8 +1,7 @@
 -- The rows of a sheet: those of a range by what its values mean, and when there are none.
-use Rattle.std.proofs.Common.{◌≡◌, ◌∙◌, ℕ, ◌+◌, ◌-◌, ◌<◌, ◌≤◌, List, [], ◌∷◌, ◌++◌, map, cond}
-use Rattle.std.proofs.Common.{Bool, true, false, refl, sym, ap, subst, arith, inl, inr, ◌⊎◌}
-use Rattle.std.proofs.Common.{Option, Some, None}
-use Rattle.std.proofs.Common.{Result, Ok, Err}
+use Rattle.std.proofs.Common.{◌≡◌, ◌∙◌, ℕ, ◌+◌, ◌-◌, ◌<◌, ◌≤◌, List, [], ◌∷◌, ◌++◌, map, cond, Bool}
+use Rattle.std.proofs.Common.{true, false, refl, sym, ap, subst, arith, inl, inr, ◌⊎◌, Option, Some}
+use Rattle.std.proofs.Common.{None, Result, Ok, Err}
 use mathlib.Core.Path.{fun_ext}
 use Rattle.std.specs.Prelude.{Vec, ◌↔◌}
 use Rattle.std.specs.FinMap.{find}
@@ -15,36 +14,31 @@ use Rattle.std.proofs.lemmas.Bool.Decides.{nat_tests}
 use Rattle.std.proofs.lemmas.List.{append-nil}
 use Rattle.std.proofs.lemmas.List.Folds.{flat_map-map}
 use Rattle.std.proofs.lemmas.Simd.{map-map}
-use Rattle.cell_data.specs.CellValue.{CellValue, nothing, value_of_data}
-use Rattle.cell_data.specs.Range.{cells_of, bounds_of, blank_of, start_of, width_of, height_of}
-use Rattle.cell_data.specs.Range.{filled}
-use Rattle.cell_data.specs.RangeItems.{box_count, row_values}
+use Rattle.cell_data.specs.Words.{CellValue, nothing, value_of_data, cells_of, bounds_of, blank_of}
+use Rattle.cell_data.specs.Words.{start_of, width_of, height_of, filled, box_count, row_values}
+use Rattle.cell_data.specs.Words.{with_meaning, value_pairs}
 use Rattle.cell_data.specs.declared.range.Range.{Range}
 use Rattle.cell_data.specs.declared.value.Data.{Data}
-use Rattle.cell_refs.specs.Positions.{position_cmp, least_area, is_in_area, lie_inside}
+use Rattle.cell_refs.specs.Words.{position_cmp, least_area, is_in_area, lie_inside}
 use Rattle.cell_refs.proofs.PositionOrder.{and_both}
 use Rattle.cell_refs.specs.declared.dimensions.Dimensions.{Dimensions}
 use Rattle.csv.specs.Writing.{row_text}
-use Rattle.part_events.specs.Package.{Part}
+use Rattle.part_events.specs.Words.{Part}
 use Rattle.sheet_listing.specs.SheetListing.{value_placed}
-use Rattle.json_rows.specs.RowValues.{row_line, data_line, array_lines}
-use Rattle.xlsx_core.specs.Agreement.{HaveSameSheet}
-use Rattle.xlsx_core.specs.SheetReading.{IsReadable}
-use Rattle.xlsx_core.specs.ShownSheet.{ShownAs}
+use Rattle.json_rows.specs.RowValues.{row_json_line, data_line, array_lines}
+use Rattle.xlsx_core.specs.Words.{HaveSameSheet, IsReadable, ShownAs, HasLeastRange}
 use Rattle.xlsx_core.proofs.Agreeing.{reads_over}
 use Rattle.xlsx_core.proofs.ShownLaws.{shown_where_read, read_where_shown, one_shown, shown_over}
-use Rattle.cell_data.specs.Pairs.{with_meaning, value_pairs}
-use Rattle.xlsx_core.specs.Worksheets.{HasLeastRange}
 use Rattle.xlsx_error.specs.declared.error.XlsxError.{XlsxError}
-use Rattle.xlsx_rows.specs.RowsText.{field_of, data_field, header_text, record_text, rows_text}
-use Rattle.xlsx_rows.specs.RowsText.{bom_text, writer_of}
-use Rattle.xlsx_rows.specs.declared.options.CsvOptions.{CsvOptions}
-use Rattle.xlsx_rows.specs.declared.error.CsvError.{CsvError}
-use Rattle.xlsx_rows.specs.declared.error.CsvError.TheVariants.{BoxTooLarge, OutOfMemory}
+use Rattle.csv_rows.specs.RowsText.{field_of, data_field, header_text, record_text, rows_text}
+use Rattle.csv_rows.specs.RowsText.{bom_text, writer_of}
+use Rattle.csv_rows.specs.declared.options.CsvOptions.{CsvOptions}
+use Rattle.csv_rows.specs.declared.error.CsvError.{CsvError}
+use Rattle.csv_rows.specs.declared.error.CsvError.TheVariants.{BoxTooLarge, OutOfMemory}
 use Rattle.xlsx_commands.specs.Outputs.{CallFails, RowsFail}
 use Rattle.xlsx_commands.specs.RowArrays.{values_placed, arrays_placed, AreArraysOf}
-use Rattle.xlsx_commands.specs.SheetRows.{fields_placed, rows_placed, area_count, AreRowsOf}
-use Rattle.xlsx_commands.specs.SheetRows.{HasLargeArea, asked_area, from_first, rows_asked}
+use Rattle.xlsx_commands.specs.SheetRows.{fields_placed, area_records, area_count, AreRowsOf}
+use Rattle.xlsx_commands.specs.SheetRows.{HasLargeArea, asked_area, from_first, rows_in_area}
 use Rattle.xlsx_commands.specs.SheetRows.{HasRowValues}
 use Rattle.xlsx_commands.specs.declared.asked_rows.AskedRows.{AskedRows}
 use Rattle.xlsx_commands.specs.Status.{of_rows}
@@ -87,7 +81,7 @@ pub rows_meant : (options : CsvOptions) (header : Option (List (List ℕ))) (ran
     → value_of_data (blank_of range) ≡ nothing
     → rows_text options header range
     ≡ (bom_text options.bom ++ header_text options header)
-    ++ rows_placed options (value_pairs range) (bounds_of range)
+    ++ area_records options (value_pairs range) (bounds_of range)
 unfolding rows_text
 rows_meant options header range is =
     let rows = range_with_len 0 (height_of (bounds_of range)) in
@@ -117,7 +111,7 @@ arrays_meant options range is =
     let rows = range_with_len 0 (height_of (bounds_of range)) in
     flat_map-map (data_line options) (λ row. row_values range row 0) rows
     ∙ ap (λ (line_at : ℕ → List ℕ). flat_map line_at rows)
-    (fun_ext (λ row. ap (row_line options) (values_meant range row is)))
+    (fun_ext (λ row. ap (row_json_line options) (values_meant range row is)))
 
 -- the same cells in the area that is asked for
 pub record IsAskedRange (from_a1 : Bool) (values range : Range Data) : Type 0 where
@@ -168,13 +162,13 @@ module _ (parts : List Part) (name : List ℕ) (asked : AskedRows) (values : Ran
         listed = is
             ∙ rows_meant options None range (ap value_of_data same.blank ∙ least.blank)
             ∙ ap (λ (front : List ℕ). front
-            ++ rows_placed options (value_pairs range) (bounds_of range))
+            ++ area_records options (value_pairs range) (bounds_of range))
             (append-nil (bom_text options.bom))
             ∙ ap (λ (own : List ((ℕ × ℕ) × CellValue)). bom_text options.bom
-            ++ rows_placed options own (bounds_of range))
+            ++ area_records options own (bounds_of range))
             (ap (map (with_meaning value_of_data)) same.cells)
             ∙ ap (λ (area : Option Dimensions). bom_text options.bom
-            ++ rows_placed options (value_pairs values) area) area_asked;
+            ++ area_records options (value_pairs values) area) area_asked;
       }
 
   pub arrays_of_sheet : (rows : List ℕ) → box_count range ≤ 16777216
@@ -270,7 +264,7 @@ rows_or_large parts name asked readable =
     elim (cases_lt 16777216 (area_count (asked_area asked.from_a1 (least_area values)))) [
       | inl large ↦ inr (record { values = values; reads = reads; large = large })
       | inr fits ↦ inl (
-        rows_asked asked values (least_area values),
+        rows_in_area asked values (least_area values),
         record { values = values; reads = reads; fits = fits; listed = refl },
       )
     ]
@@ -281,7 +275,7 @@ pub same_rows : (parts other : List Part) (name : List ℕ) (asked : AskedRows)
     → AreRowsOf other name asked others → rows ≡ others
 same_rows parts other name asked rows others law first second =
     first.listed
-    ∙ ap (λ (own : List ((ℕ × ℕ) × CellValue)). rows_asked asked own (least_area own))
+    ∙ ap (λ (own : List ((ℕ × ℕ) × CellValue)). rows_in_area asked own (least_area own))
     (law asked.shown first.values second.values first.reads second.reads)
     ∙ sym second.listed
 

@@ -6,9 +6,9 @@ use Rattle.equalities.proofs.Equality.{of_number, of_pairs, of_text, unequal}
 use Rattle.xlsx_error.proofs.SameRefusals.{refusal_law}
 use Rattle.xlsx_commands.specs.Status.{SeenError, error_seen, of_book, usage, read_fault}
 use Rattle.xlsx_commands.specs.Status.{input_too_large, not_a_package, write_fault, out_of_memory}
-use Rattle.xlsx_commands.specs.Status.{file_too_large, not_a_workbook_file}
-use Rattle.xlsx_commands.specs.Status.{box_too_large, unwritable, not_chosen, no_header}
-use Rattle.xlsx_commands.specs.Status.{two_columns, graph_too_large}
+use Rattle.xlsx_commands.specs.Status.{file_too_large, not_a_workbook_file, box_too_large}
+use Rattle.xlsx_commands.specs.Status.{unwritable, not_chosen, no_header, two_columns}
+use Rattle.xlsx_commands.specs.Status.{graph_too_large}
 use Rattle.xlsx_commands.specs.contracts.error.ToolErrorPartialEq.TheImpl as error
 use Rattle.xlsx_commands.specs.contracts.sheet_choice.SheetFaultPartialEq.TheImpl as choice
 use Rattle.xlsx_commands.specs.declared.error.ToolError.{ToolError}

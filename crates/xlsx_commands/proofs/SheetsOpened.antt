@@ -1,21 +1,20 @@
 -- The sheets of a workbook that opened, and why what is asked of all isn't had.
-use Rattle.std.proofs.Common.{◌≡◌, ◌∙◌, inl, inr, ap, subst, refl, ℕ, List, [], ◌∷◌, map}
-use Rattle.std.proofs.Common.{Bool, string_bytes}
+use Rattle.std.proofs.Common.{◌≡◌, ◌∙◌, inl, inr, ap, subst, refl, ℕ, List, [], ◌∷◌, map, Bool}
+use Rattle.std.proofs.Common.{string_bytes}
 use Rattle.input_package.specs.Told.{Told, told_state}
-use Rattle.part_events.specs.Package.{Part, PackageState, SameParts}
+use Rattle.part_events.specs.Words.{Part, PackageState, SameParts}
 use Rattle.xlsx_error.specs.declared.error.XlsxError.{XlsxError}
 use Rattle.xlsx_error.specs.declared.error.XlsxError.TheVariants as workbook
-use Rattle.xlsx_sections.specs.Failing.{FailsBy}
-use Rattle.xlsx_parts.specs.SheetPaths.{SheetPath, sheet_at}
-use Rattle.xlsx_workbook.specs.KeptContents.{path_kept}
-use Rattle.xlsx_workbook.specs.Sheets.{PlacedSheet}
-use Rattle.xlsx_workbook.specs.declared.paths.KeptPath.{KeptPath}
+use Rattle.xlsx_sections.specs.Words.{FailsBy}
+use Rattle.xlsx_parts.specs.Words.{SheetPath, sheet_at}
+use Rattle.xlsx_workbook.specs.Words.{path_kept, PlacedSheet}
+use Rattle.xlsx_workbook.specs.declared.paths.PartPath.{PartPath}
 use Rattle.xlsx_workbook.specs.declared.sheet.Metadata.{Metadata}
 use Rattle.xlsx_workbook.specs.declared.sheet.Sheet.{Sheet}
-use Rattle.xlsx_open.specs.Opening.{Opening, OpensAs, HoldsOpening, OpeningCause, ListedSheet}
-use Rattle.xlsx_open.specs.Opening.{listed_sheet, without_path, OpeningFails, IsOpeningError}
+use Rattle.xlsx_open.specs.Words.{Opening, OpensAs, HoldsOpening, OpeningCause, ListedSheet}
+use Rattle.xlsx_open.specs.Words.{listed_sheet, without_path, OpeningFails, IsOpeningError}
 use Rattle.xlsx_open.specs.declared.shared_parts.SharedParts.{SharedParts}
-use Rattle.xlsx_core.specs.Merges.{sheet_paths}
+use Rattle.xlsx_core.specs.Words.{sheet_paths}
 use Rattle.xlsx_core.proofs.SheetLaws.{are_alike}
 use Rattle.xlsx_commands.specs.Outputs.{CallFails}
 use Rattle.xlsx_commands.specs.SheetsOpened.{sheets_opened, ListedCause}
@@ -27,7 +26,7 @@ use Rattle.xlsx_commands.proofs.MemoryCalls.{IsInMemory, memory_fails}
 use Rattle.xlsx_commands.proofs.NamedSheets.{OpeningsNever}
 
 -- the lists of a workbook that opened are the sheets of the opening
-pub sheets_listed : (sheets : List Sheet) (paths : List KeptPath) (placed : List PlacedSheet)
+pub sheets_listed : (sheets : List Sheet) (paths : List PartPath) (placed : List PlacedSheet)
     → map listed_sheet sheets ≡ map without_path placed
     → map path_kept paths ≡ map (λ (sheet : PlacedSheet). sheet.path) placed
     → sheet_paths sheets paths ≡ sheets_opened placed
@@ -84,7 +83,7 @@ opening_unlisted cause_of old new error is fails =
     (told_state new) error (new, refl) refl (λ cause. inl cause) fails)
 
 -- what is asked of all sheets is refused
-pub sheets_unlisted : {metadata : Metadata} {paths : List KeptPath}
+pub sheets_unlisted : {metadata : Metadata} {paths : List PartPath}
     {shared : SharedParts} {is_1904 : Bool}
     (cause_of : List Part → List SheetPath → XlsxError → Type 0) (opening : Opening)
     (old : Told) (mid new : PackageState) (error : XlsxError)
@@ -97,7 +96,7 @@ sheets_unlisted {metadata = metadata} {paths = paths} cause_of opening old mid n
     let sheets = sheet_paths metadata.sheets.items paths in
     listing_fails cause_of old.parts error there
     (memory_fails (ListedCause cause_of old.parts) (cause_of mid.parts sheets) mid new error memory
-    same.is_told (λ cause. inr (record {
+    same.is_visible (λ cause. inr (record {
       opening = opening;
       opens = opens;
       cause = subst (λ (own : List SheetPath). cause_of old.parts own error)

@@ -1,10 +1,10 @@
 -- The tables of a workbook that opened, and why they aren't had.
-use Rattle.std.proofs.Common.{◌≡◌, ◌∙◌, inl, inr, ap, sym, refl, ℕ, List, [], ◌∷◌, map}
-use Rattle.std.proofs.Common.{true, Option, Some, None, Global}
-use Rattle.std.proofs.Common.{zero, suc, ◌<◌, ◌++◌, ◌&&◌, length, drop, append_assoc, arith}
+use Rattle.std.proofs.Common.{◌≡◌, ◌∙◌, inl, inr, ap, sym, refl, ℕ, List, [], ◌∷◌, map, true}
+use Rattle.std.proofs.Common.{Option, Some, None, Global, zero, suc, ◌<◌, ◌++◌, ◌&&◌, length, drop}
+use Rattle.std.proofs.Common.{append_assoc, arith}
 use Rattle.std.specs.Prelude.{Vec, slice_get, option_map, IfSome, nat_le, nat_lt}
 use Rattle.std.proofs.lemmas.Bool.Decides.{nat_tests}
-use Rattle.cell_refs.specs.Positions.{are_sheet_bounds}
+use Rattle.cell_refs.specs.Words.{are_sheet_bounds}
 use Rattle.cell_refs.specs.declared.TheConstants.{MAX_ROWS, MAX_COLUMNS}
 use Rattle.cell_refs.specs.declared.dimensions.Dimensions.{Dimensions}
 use Rattle.cell_refs.proofs.PositionOrder.{and_both}
@@ -13,36 +13,30 @@ use Rattle.list_lines.specs.Lines.{table_line}
 use Rattle.list_lines.specs.declared.content.LineForm.{LineForm}
 use Rattle.cell_data.specs.declared.value.HeaderRow.TheVariants.{FirstNonEmptyRow}
 use Rattle.input_package.specs.Told.{Told}
-use Rattle.part_events.specs.Package.{Part, SameParts}
+use Rattle.part_events.specs.Words.{Part, SameParts}
 use Rattle.xlsx_error.specs.declared.error.XlsxError.{XlsxError}
-use Rattle.xlsx_error.specs.declared.error.XlsxError.TheVariants.{TableNotFound}
-use Rattle.xlsx_error.specs.declared.error.XlsxError.TheVariants.{PivotTableNotFound}
-use Rattle.xlsx_parts.specs.SheetPaths.{SheetPath}
+use Rattle.xlsx_error.specs.declared.error.XlsxError.TheVariants.{TableNotFound, PivotTableNotFound}
+use Rattle.xlsx_parts.specs.Words.{SheetPath}
 use Rattle.xlsx_tables.specs.Tables.{SheetTable, tables_of, TablesCause, IsTablesError}
-use Rattle.xlsx_workbook.specs.KeptContents.{pair_of, path_kept}
-use Rattle.xlsx_workbook.specs.declared.paths.KeptPath.{KeptPath}
+use Rattle.xlsx_workbook.specs.Words.{pair_of, path_kept}
+use Rattle.xlsx_workbook.specs.declared.paths.PartPath.{PartPath}
 use Rattle.xlsx_workbook.specs.declared.sheet.Metadata.{Metadata}
-use Rattle.xlsx_open.specs.Opening.{Opening, OpensAs, HoldsOpening, listed_sheet}
-use Rattle.xlsx_open.specs.SharedParts.{shared_said}
-use Rattle.xlsx_core.specs.Merges.{sheets_of_book}
-use Rattle.xlsx_core.specs.TableList.{loaded_tables}
-use Rattle.xlsx_core.specs.Worksheets.{KeepsBook}
+use Rattle.xlsx_open.specs.Words.{Opening, OpensAs, listed_sheet, shared_said}
+use Rattle.xlsx_core.specs.Words.{IsWorkbookOf, sheets_of_book, loaded_tables, KeepsBook}
 use Rattle.xlsx_core.specs.declared.xlsx.Xlsx.{Xlsx}
 use Rattle.xlsx_commands.specs.SheetsOpened.{sheets_opened}
-use Rattle.xlsx_commands.specs.TableLists.{HasTables, ListedTablesCause, line_of_table}
-use Rattle.xlsx_commands.specs.TableLists.{table_lines}
+use Rattle.xlsx_commands.specs.TableLists.{HasTables, ListedTablesCause, line_of_table, table_lines}
 use Rattle.xlsx_commands.specs.TablesOpened.{OpensWithTables}
 use Rattle.xlsx_commands.proofs.NamedSheets.{OpeningsNever}
 use Rattle.xlsx_commands.proofs.SheetsOpened.{sheets_listed, sheets_never, IsNotMissing}
 
 -- a call that keeps the workbook keeps what it holds of the opening
 holds_kept : (opening : Opening) (old new : Xlsx Told) → KeepsBook old new
-    → HoldsOpening old.metadata old.paths.items old.shared old.is_1904 opening
-    → HoldsOpening new.metadata new.paths.items new.shared new.is_1904 opening
+    → IsWorkbookOf opening old.workbook → IsWorkbookOf opening new.workbook
 holds_kept opening old new keeps holds = record {
   sheets = ap (λ (own : Metadata). map listed_sheet own.sheets.items) keeps.metadata
       ∙ holds.sheets;
-  paths = ap (λ (own : Vec KeptPath Global). map path_kept own.items) keeps.paths
+  paths = ap (λ (own : Vec PartPath Global). map path_kept own.items) keeps.paths
       ∙ holds.paths;
   names = ap (λ (own : Metadata). map pair_of own.names.items) keeps.metadata ∙ holds.names;
   shared = ap shared_said keeps.shared ∙ holds.shared;
@@ -51,10 +45,9 @@ holds_kept opening old new keeps holds = record {
 
 -- a workbook that opened, with its tables
 pub opened_with : (parts : List Part) (opening : Opening) (old new : Xlsx Told)
-    → OpensAs parts opening
-    → HoldsOpening old.metadata old.paths.items old.shared old.is_1904 opening
-    → old.xml.source.is_told ≡ true → old.xml.source.parts ≡ parts
-    → old.header_row ≡ FirstNonEmptyRow → KeepsBook old new
+    → OpensAs parts opening → IsWorkbookOf opening old.workbook
+    → old.xml.source.is_visible ≡ true → old.xml.source.parts ≡ parts
+    → old.workbook.header_row ≡ FirstNonEmptyRow → KeepsBook old new
     → SameParts old.xml.source new.xml.source
     → tables_of old.xml.source.parts (sheets_of_book old) ≡ Some (loaded_tables new)
     → OpensWithTables parts new
@@ -63,11 +56,12 @@ opened_with parts opening old new opens holds told same header keeps parts_kept 
   opens = opens;
   holds = holds_kept opening old new keeps holds;
   taken = ap (tables_of parts)
-      (sym (sheets_listed old.metadata.sheets.items old.paths.items opening.sheets holds.sheets
+      (sym (sheets_listed old.workbook.metadata.sheets.items old.workbook.paths.items opening.sheets
+      holds.sheets
       holds.paths))
       ∙ ap (λ (own : List Part). tables_of own (sheets_of_book old)) (sym same) ∙ taken;
   header_row = keeps.header_row ∙ header;
-  told = parts_kept.is_told ∙ told;
+  told = parts_kept.is_visible ∙ told;
   same = parts_kept.parts ∙ same;
 }
 

@@ -2,7 +2,7 @@
 use Rattle.std.proofs.Common.{◌≡◌, ◌∙◌, ◌⊎◌, inl, inr, ap, sym, subst, refl, ℕ, List, Option, Some}
 use Rattle.std.proofs.Common.{None, Bool, true, false}
 use Rattle.std.specs.Prelude.{IsSome, IsSomeAnd}
-use Rattle.cell_data.specs.Table.{table_data}
+use Rattle.cell_data.specs.Words.{table_data}
 use Rattle.cell_data.specs.declared.range.Range.{Range}
 use Rattle.cell_data.specs.declared.table.Table.{Table}
 use Rattle.cell_data.specs.declared.value.Data.{Data}
@@ -10,29 +10,26 @@ use Rattle.cell_data.specs.declared.value.HeaderRow.{HeaderRow}
 use Rattle.cell_data.specs.declared.value.HeaderRow.TheVariants.{FirstNonEmptyRow}
 use Rattle.cell_refs.specs.declared.dimensions.Dimensions.{Dimensions}
 use Rattle.input_package.specs.Told.{Told}
-use Rattle.part_events.specs.Package.{Part, PackageState}
+use Rattle.part_events.specs.Words.{Part, PackageState}
 use Rattle.xlsx_error.specs.declared.error.XlsxError.{XlsxError}
 use Rattle.xlsx_error.specs.declared.error.XlsxError.TheVariants as workbook
-use Rattle.xlsx_cells.specs.CellsReader.{values_alone, values_and_styles}
-use Rattle.xlsx_values.specs.Value.{Grounds}
+use Rattle.xlsx_cells.specs.Words.{values_alone, values_and_styles}
+use Rattle.xlsx_values.specs.Words.{ValueContext}
 use Rattle.xlsx_tables.specs.Tables.{SheetTable, tables_of, TablesCause}
-use Rattle.xlsx_workbook.specs.Sheets.{PlacedSheet}
-use Rattle.xlsx_open.specs.Opening.{Opening}
-use Rattle.xlsx_open.specs.SharedParts.{SharedSaid, shared_said}
-use Rattle.xlsx_core.specs.SheetReading.{opened_grounds, path_named}
-use Rattle.xlsx_core.specs.ShownTable.{ShowsValuesIn}
-use Rattle.xlsx_core.specs.TableData.{first_named, table_of_book, AreaFails, TableDataFails}
-use Rattle.xlsx_core.specs.TableData.{IsOfTable, ReadsValuesIn}
-use Rattle.xlsx_core.specs.TableList.{loaded_tables}
-use Rattle.xlsx_core.specs.Worksheets.{RangeCause, path_of, grounds_of_book}
+use Rattle.xlsx_workbook.specs.Words.{PlacedSheet}
+use Rattle.xlsx_open.specs.Words.{Opening, SharedSaid, shared_said}
+use Rattle.xlsx_core.specs.Words.{opened_context, path_named, ShowsValuesIn, first_table}
+use Rattle.xlsx_core.specs.Words.{table_of_book, AreaFails, TableDataFails, IsOfTable}
+use Rattle.xlsx_core.specs.Words.{ReadsValuesIn, loaded_tables, RangeCause, path_of}
+use Rattle.xlsx_core.specs.Words.{context_of_book}
 use Rattle.xlsx_core.specs.declared.xlsx.Xlsx.{Xlsx}
-use Rattle.xlsx_core.proofs.SheetLaws.{are_alike, same_grounds}
+use Rattle.xlsx_core.proofs.SheetLaws.{are_alike, same_context}
 use Rattle.xlsx_core.proofs.SheetsRead.{opens_placed}
 use Rattle.xlsx_commands.specs.Outputs.{CallFails}
 use Rattle.xlsx_commands.specs.Status.{of_workbook}
-use Rattle.xlsx_commands.specs.TableLists.{HasTables, ListedTablesCause}
-use Rattle.xlsx_commands.specs.TableLists.{HasNamedTable, NamesNoTable, HasTableCause}
-use Rattle.xlsx_commands.specs.TableLists.{NamedTableCause, HasDataIn, HasTable, table_wants}
+use Rattle.xlsx_commands.specs.TableLists.{HasTables, ListedTablesCause, HasNamedTable}
+use Rattle.xlsx_commands.specs.TableLists.{NamesNoTable, HasTableCause, NamedTableCause, HasDataIn}
+use Rattle.xlsx_commands.specs.TableLists.{HasTable, table_wants}
 use Rattle.xlsx_commands.specs.SheetsRefused.{ListingFails}
 use Rattle.xlsx_commands.specs.TablesOpened.{OpensWithTables}
 use Rattle.xlsx_commands.specs.declared.error.ToolError.{ToolError}
@@ -69,15 +66,15 @@ cause_is_named shown parts name (workbook.TableNotFound asked) other has = absur
 cause_is_named shown parts name error other has = inr has
 
 -- what is shown by the same is shown alike
-shows_alike : (rests grounds : Grounds) (shares shared : SharedSaid) (counts is_1904 : Bool)
+shows_alike : (rests context : ValueContext) (shares shared : SharedSaid) (counts is_1904 : Bool)
     (over header : HeaderRow) (area : Option Dimensions) (at path : Option (List ℕ))
-    (held parts : List Part) (range : Range Data) → rests ≡ grounds → shares ≡ shared
+    (held parts : List Part) (range : Range Data) → rests ≡ context → shares ≡ shared
     → counts ≡ is_1904 → over ≡ header → at ≡ path → held ≡ parts
     → ShowsValuesIn rests shares counts over area at held range
-    → ShowsValuesIn grounds shared is_1904 header area path parts range
-shows_alike rests grounds shares shared counts is_1904 over header area at path held parts range
+    → ShowsValuesIn context shared is_1904 header area path parts range
+shows_alike rests context shares shared counts is_1904 over header area at path held parts range
     resting sharing counting heading standing holding shows =
-    subst (λ (own : Grounds). ShowsValuesIn own shared is_1904 header area path parts range)
+    subst (λ (own : ValueContext). ShowsValuesIn own shared is_1904 header area path parts range)
     resting
     (subst (λ (own : SharedSaid). ShowsValuesIn rests own is_1904 header area path parts range)
     sharing
@@ -105,25 +102,25 @@ module _ (parts : List Part) (name : List ℕ) (xlsx : Xlsx Told)
       ∙ ap (path_named sheet)
       (are_alike parts placed.opening opened.opening placed.opens opened.opens).sheets
 
-  book_grounds : grounds_of_book xlsx ≡ opened_grounds opened.opening
-  book_grounds =
+  book_context : context_of_book xlsx ≡ opened_context opened.opening
+  book_context =
       let placed = opens_placed name opened.opening opened.holds opened.opens in
-      placed.rests ∙ same_grounds parts placed.opening opened.opening placed.opens opened.opens
+      placed.rests ∙ same_context parts placed.opening opened.opening placed.opens opened.opens
 
   own_cause : (shown : Bool) (own : SheetTable) (error : XlsxError)
       → table_of_book xlsx name ≡ Some own → IsSome own.table.area
-      → RangeCause own.sheet (table_wants shown) (grounds_of_book xlsx) (path_of xlsx own.sheet)
+      → RangeCause own.sheet (table_wants shown) (context_of_book xlsx) (path_of xlsx own.sheet)
       xlsx.xml.source.parts error → HasTableCause shown parts name error
   own_cause shown own error is area cause = record {
     own = own;
     has = record { tables = loaded_tables xlsx; has = has_tables; named = is };
     area = area;
-    cause = subst (λ (grounds : Grounds). RangeCause own.sheet (table_wants shown) grounds
-        (path_named own.sheet opened.opening.sheets) parts error) book_grounds
+    cause = subst (λ (context : ValueContext). RangeCause own.sheet (table_wants shown) context
+        (path_named own.sheet opened.opening.sheets) parts error) book_context
         (subst (λ (path : Option (List ℕ)). RangeCause own.sheet (table_wants shown)
-        (grounds_of_book xlsx) path parts error) (book_path own.sheet)
+        (context_of_book xlsx) path parts error) (book_path own.sheet)
         (subst (λ (held : List Part). RangeCause own.sheet (table_wants shown)
-        (grounds_of_book xlsx) (path_of xlsx own.sheet) held error) opened.same cause));
+        (context_of_book xlsx) (path_of xlsx own.sheet) held error) opened.same cause));
   }
 
   area_fails : (shown : Bool) (own : SheetTable) (new : PackageState) (error : XlsxError)
@@ -134,7 +131,7 @@ module _ (parts : List Part) (name : List ℕ) (xlsx : Xlsx Told)
   area_fails shown own new (workbook.NotAWorksheet kind) memory is other fails = absurd fails.1
   area_fails shown own new error memory is other fails =
       memory_fails (NamedTableCause shown parts name)
-      (RangeCause own.sheet (table_wants shown) (grounds_of_book xlsx) (path_of xlsx own.sheet)
+      (RangeCause own.sheet (table_wants shown) (context_of_book xlsx) (path_of xlsx own.sheet)
       xlsx.xml.source.parts) xlsx.xml.source new error memory opened.told
       (λ cause. cause_is_named shown parts name error other
       (own_cause shown own error is fails.0 cause)) fails.1
@@ -156,13 +153,13 @@ module _ (parts : List Part) (name : List ℕ) (xlsx : Xlsx Told)
 
   pub has_table : (table : Table Data)
       → IsSomeAnd (table_of_book xlsx name) (λ own. IsOfTable own table)
-      → IsSomeAnd (table_of_book xlsx name) (λ own. ReadsValuesIn (grounds_of_book xlsx)
-      xlsx.header_row own.table.area (path_of xlsx own.sheet) xlsx.xml.source.parts
+      → IsSomeAnd (table_of_book xlsx name) (λ own. ReadsValuesIn (context_of_book xlsx)
+      xlsx.workbook.header_row own.table.area (path_of xlsx own.sheet) xlsx.xml.source.parts
       (table_data table)) → HasTable false parts name table
   has_table table named reads =
       let (own, is, of_own, from) = both_of (table_of_book xlsx name)
       (λ own. IsOfTable own table)
-      (λ own. ReadsValuesIn (grounds_of_book xlsx) xlsx.header_row own.table.area
+      (λ own. ReadsValuesIn (context_of_book xlsx) xlsx.workbook.header_row own.table.area
       (path_of xlsx own.sheet) xlsx.xml.source.parts (table_data table)) named reads in
       let area = own.table.area in
       let there = path_named own.sheet opened.opening.sheets in
@@ -170,38 +167,41 @@ module _ (parts : List Part) (name : List ℕ) (xlsx : Xlsx Told)
         own = own;
         has = record { tables = loaded_tables xlsx; has = has_tables; named = is };
         is = of_own;
-        reads = subst (λ (grounds : Grounds). ReadsValuesIn grounds FirstNonEmptyRow area there
-            parts (table_data table)) book_grounds
-            (subst (λ (header : HeaderRow). ReadsValuesIn (grounds_of_book xlsx) header area there
+        reads = subst (λ (context : ValueContext). ReadsValuesIn context FirstNonEmptyRow area there
+            parts (table_data table)) book_context
+            (subst (λ (header : HeaderRow). ReadsValuesIn (context_of_book xlsx) header area there
             parts (table_data table)) opened.header_row
-            (subst (λ (path : Option (List ℕ)). ReadsValuesIn (grounds_of_book xlsx)
-            xlsx.header_row area path parts (table_data table)) (book_path own.sheet)
-            (subst (λ (held : List Part). ReadsValuesIn (grounds_of_book xlsx) xlsx.header_row area
+            (subst (λ (path : Option (List ℕ)). ReadsValuesIn (context_of_book xlsx)
+            xlsx.workbook.header_row area path parts (table_data table)) (book_path own.sheet)
+            (subst (λ (held : List Part). ReadsValuesIn (context_of_book xlsx)
+            xlsx.workbook.header_row area
             (path_of xlsx own.sheet) held (table_data table)) opened.same from)));
       }
 
   pub has_shown_table : (table : Table Data)
       → IsSomeAnd (table_of_book xlsx name) (λ own. IsOfTable own table)
-      → IsSomeAnd (table_of_book xlsx name) (λ own. ShowsValuesIn (grounds_of_book xlsx)
-      (shared_said xlsx.shared) xlsx.is_1904 xlsx.header_row own.table.area
+      → IsSomeAnd (table_of_book xlsx name) (λ own. ShowsValuesIn (context_of_book xlsx)
+      (shared_said xlsx.workbook.shared) xlsx.workbook.is_1904 xlsx.workbook.header_row
+      own.table.area
       (path_of xlsx own.sheet) xlsx.xml.source.parts (table_data table))
       → HasTable true parts name table
   has_shown_table table named shows =
       let opening = opened.opening in
       let (own, is, of_own, from) = both_of (table_of_book xlsx name)
       (λ own. IsOfTable own table)
-      (λ own. ShowsValuesIn (grounds_of_book xlsx) (shared_said xlsx.shared) xlsx.is_1904
-      xlsx.header_row own.table.area (path_of xlsx own.sheet) xlsx.xml.source.parts
+      (λ own. ShowsValuesIn (context_of_book xlsx) (shared_said xlsx.workbook.shared)
+      xlsx.workbook.is_1904 xlsx.workbook.header_row own.table.area (path_of xlsx own.sheet)
+      xlsx.xml.source.parts
       (table_data table)) named shows in
       record {
         own = own;
         has = record { tables = loaded_tables xlsx; has = has_tables; named = is };
         is = of_own;
-        reads = shows_alike (grounds_of_book xlsx) (opened_grounds opening)
-            (shared_said xlsx.shared) opening.shared xlsx.is_1904 opening.is_1904
-            xlsx.header_row FirstNonEmptyRow own.table.area (path_of xlsx own.sheet)
+        reads = shows_alike (context_of_book xlsx) (opened_context opening)
+            (shared_said xlsx.workbook.shared) opening.shared xlsx.workbook.is_1904 opening.is_1904
+            xlsx.workbook.header_row FirstNonEmptyRow own.table.area (path_of xlsx own.sheet)
             (path_named own.sheet opening.sheets) xlsx.xml.source.parts parts (table_data table)
-            book_grounds opened.holds.shared opened.holds.epoch opened.header_row
+            book_context opened.holds.shared opened.holds.epoch opened.header_row
             (book_path own.sheet) opened.same from;
       }
 
@@ -210,27 +210,27 @@ module _ (parts : List Part) (name : List ℕ) (xlsx : Xlsx Told)
 -- what is read in an area isn't refused, as each is, and so isn't what is shown
 pub record AreasNever : Type 0 where
   pub values :
-      (grounds : Grounds) (header : HeaderRow) (name : List ℕ) (area : Dimensions)
+      (context : ValueContext) (header : HeaderRow) (name : List ℕ) (area : Dimensions)
       (path : Option (List ℕ)) (parts : List Part) (range : Range Data) (error : XlsxError) →
-      ReadsValuesIn grounds header (Some area) path parts range →
-      RangeCause name values_alone grounds path parts error → ⊥
+      ReadsValuesIn context header (Some area) path parts range →
+      RangeCause name values_alone context path parts error → ⊥
   pub shown :
-      (grounds : Grounds) (shared : SharedSaid) (is_1904 : Bool) (header : HeaderRow)
+      (context : ValueContext) (shared : SharedSaid) (is_1904 : Bool) (header : HeaderRow)
       (name : List ℕ) (area : Dimensions) (path : Option (List ℕ)) (parts : List Part)
       (range : Range Data) (error : XlsxError) →
-      ShowsValuesIn grounds shared is_1904 header (Some area) path parts range →
-      RangeCause name values_and_styles grounds path parts error → ⊥
+      ShowsValuesIn context shared is_1904 header (Some area) path parts range →
+      RangeCause name values_and_styles context path parts error → ⊥
 
 area_never : AreasNever → (shown : Bool) (opening : Opening) (name : List ℕ)
     (area : Option Dimensions) (path : Option (List ℕ)) (parts : List Part) (range : Range Data)
     (error : XlsxError) → IsSome area → HasDataIn shown opening area path parts range
-    → RangeCause name (table_wants shown) (opened_grounds opening) path parts error → ⊥
+    → RangeCause name (table_wants shown) (opened_context opening) path parts error → ⊥
 area_never areas shown opening name None path parts range error there reads cause = absurd (cc)
 area_never areas false opening name (Some area) path parts range error there reads cause =
-    areas.values (opened_grounds opening) FirstNonEmptyRow name area path parts range error reads
+    areas.values (opened_context opening) FirstNonEmptyRow name area path parts range error reads
     cause
 area_never areas true opening name (Some area) path parts range error there shows cause =
-    areas.shown (opened_grounds opening) opening.shared opening.is_1904 FirstNonEmptyRow name area
+    areas.shown (opened_context opening) opening.shared opening.is_1904 FirstNonEmptyRow name area
     path parts range error shows cause
 
 -- the tables of a workbook are had once
@@ -245,7 +245,7 @@ pub same_table : (parts : List Part) (name : List ℕ) (one two : SheetTable)
     → HasNamedTable parts name one → HasNamedTable parts name two → one ≡ two
 same_table parts name one two first second =
     let both : Some one ≡ Some two = sym first.named
-    ∙ ap (first_named name) (same_tables parts first.tables second.tables first.has second.has)
+    ∙ ap (first_table name) (same_tables parts first.tables second.tables first.has second.has)
     ∙ second.named in
     cc
 
@@ -253,7 +253,7 @@ lacks_never : (parts : List Part) (name : List ℕ) (own : SheetTable)
     → HasNamedTable parts name own → NamesNoTable parts name → ⊥
 lacks_never parts name own has lacks =
     let both : Some own ≡ None = sym has.named
-    ∙ ap (first_named name) (same_tables parts has.tables lacks.tables has.has lacks.has)
+    ∙ ap (first_table name) (same_tables parts has.tables lacks.tables has.has lacks.has)
     ∙ lacks.none in
     absurd (cc)
 
@@ -265,17 +265,17 @@ cause_never shown parts name table error areas has cause =
     let there = cause.has.has in
     let wants = table_wants shown in
     let sheets = (are_alike parts there.opening here.opening there.opens here.opens).sheets in
-    let grounds = same_grounds parts there.opening here.opening there.opens here.opens in
+    let context = same_context parts there.opening here.opening there.opens here.opens in
     let own = same_table parts name cause.own has.own cause.has has.has in
     let sheet = has.own.sheet in
     area_never areas shown here.opening sheet has.own.table.area
     (path_named sheet here.opening.sheets) parts (table_data table) error
     (subst (λ (one : SheetTable). IsSome one.table.area) own cause.area) has.reads
-    (subst (λ (rests : Grounds). RangeCause sheet wants rests
-    (path_named sheet here.opening.sheets) parts error) grounds
-    (subst (λ (placed : List PlacedSheet). RangeCause sheet wants (opened_grounds there.opening)
+    (subst (λ (rests : ValueContext). RangeCause sheet wants rests
+    (path_named sheet here.opening.sheets) parts error) context
+    (subst (λ (placed : List PlacedSheet). RangeCause sheet wants (opened_context there.opening)
     (path_named sheet placed) parts error) sheets
-    (subst (λ (one : SheetTable). RangeCause one.sheet wants (opened_grounds there.opening)
+    (subst (λ (one : SheetTable). RangeCause one.sheet wants (opened_context there.opening)
     (path_named one.sheet there.opening.sheets) parts error) own cause.cause)))
 
 either_never : (shown : Bool) (parts : List Part) (name : List ℕ) (table : Table Data)

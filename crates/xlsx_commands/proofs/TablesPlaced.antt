@@ -1,39 +1,30 @@
 -- The records of a table: its header and the rows of its data, and when there are none.
-use Rattle.std.proofs.Common.{◌≡◌, ◌∙◌, ℕ, ◌+◌, ◌<◌, ◌≤◌, List, [], ◌∷◌, ◌++◌, length, map}
-use Rattle.std.proofs.Common.{refl, sym, ap, subst, arith, inl, inr, ◌⊎◌, Option, Some, None}
-use Rattle.std.proofs.Common.{String, Global, string_bytes, Bool, true, false}
+use Rattle.std.proofs.Common.{◌≡◌, ◌∙◌, ℕ, ◌+◌, ◌<◌, ◌≤◌, List, [], ◌∷◌, ◌++◌, length, map, refl}
+use Rattle.std.proofs.Common.{sym, ap, subst, arith, inl, inr, ◌⊎◌, Option, Some, None, String}
+use Rattle.std.proofs.Common.{Global, string_bytes, Bool, true, false}
 use Rattle.std.specs.Prelude.{slice_get, IfSome, IsSomeAnd}
 use Rattle.std.specs.Option.{unwrap_or}
 use Rattle.std.proofs.lemmas.Bool.{cases_lt}
 use Rattle.std.proofs.lemmas.List.{length-map, map-append}
 use Rattle.std.proofs.lemmas.List.FromFn.{map-range_with_len_more, length-map-range_with_len}
-use Rattle.cell_data.specs.CellValue.{CellValue, nothing, value_of_data}
-use Rattle.cell_data.specs.Range.{bounds_of, blank_of, width_of}
-use Rattle.cell_data.specs.RangeItems.{box_count}
-use Rattle.cell_data.specs.Table.{table_columns, table_data}
+use Rattle.cell_data.specs.Words.{CellValue, nothing, value_of_data, bounds_of, blank_of, width_of}
+use Rattle.cell_data.specs.Words.{box_count, table_columns, table_data, value_pairs}
 use Rattle.cell_data.specs.declared.range.Range.{Range}
 use Rattle.cell_data.specs.declared.table.Table.{Table}
 use Rattle.cell_data.specs.declared.value.Data.{Data}
 use Rattle.cell_data.specs.declared.value.HeaderRow.{HeaderRow}
 use Rattle.cell_data.specs.declared.value.HeaderRow.TheVariants.{FirstNonEmptyRow}
 use Rattle.cell_refs.specs.declared.dimensions.Dimensions.{Dimensions}
-use Rattle.part_events.specs.Event.{Event}
-use Rattle.part_events.specs.Package.{Part}
+use Rattle.part_events.specs.Words.{Event, Part}
 use Rattle.sheet_listing.specs.SheetListing.{value_lines}
-use Rattle.xlsx_values.specs.Value.{Grounds}
-use Rattle.cell_data.specs.Pairs.{value_pairs}
-use Rattle.xlsx_core.specs.SheetReading.{events_at, opened_grounds, path_named}
-use Rattle.xlsx_core.specs.ShownSheet.{shown_cells}
-use Rattle.xlsx_core.specs.ShownTable.{AnswersStyledValues}
-use Rattle.xlsx_core.specs.TableData.{IsRangeIn, ReadsValuesIn}
-use Rattle.xlsx_cells.specs.CellsReader.{values_and_styles}
-use Rattle.xlsx_cells.specs.Sheet.{with_texts}
-use Rattle.xlsx_open.specs.Opening.{Opening}
-use Rattle.xlsx_open.specs.SharedParts.{SharedSaid}
-use Rattle.xlsx_core.specs.Worksheets.{AnswersValues}
-use Rattle.xlsx_rows.specs.RowsText.{bom_text, header_text, rows_text}
-use Rattle.xlsx_rows.specs.declared.options.CsvOptions.{CsvOptions}
-use Rattle.xlsx_commands.specs.SheetRows.{rows_placed, area_count}
+use Rattle.xlsx_values.specs.Words.{ValueContext}
+use Rattle.xlsx_core.specs.Words.{events_at, opened_context, path_named, shown_cells}
+use Rattle.xlsx_core.specs.Words.{AnswersStyledValues, IsRangeIn, ReadsValuesIn, AnswersValues}
+use Rattle.xlsx_cells.specs.Words.{values_and_styles, with_texts}
+use Rattle.xlsx_open.specs.Words.{Opening, SharedSaid}
+use Rattle.csv_rows.specs.RowsText.{bom_text, header_text, rows_text}
+use Rattle.csv_rows.specs.declared.options.CsvOptions.{CsvOptions}
+use Rattle.xlsx_commands.specs.SheetRows.{area_records, area_count}
 use Rattle.xlsx_commands.specs.TableLists.{HasDataIn, HasTable, AreTableValueLines}
 use Rattle.xlsx_commands.specs.TableRows.{fitted_names, header_over, table_records, AreTableRows}
 use Rattle.xlsx_commands.specs.TableRows.{HasLargeTable}
@@ -68,42 +59,43 @@ header_fits (Some area) names header is =
 
 -- ---- the rows
 
-blank_of_used : (grounds : Grounds) (header : HeaderRow) (area : Dimensions)
+blank_of_used : (context : ValueContext) (header : HeaderRow) (area : Dimensions)
     (events : Option (List Event)) (range : Range Data)
     → IsSomeAnd events (λ own. (values : List ((ℕ × ℕ) × CellValue))
-    × AnswersValues grounds own values
-    × IsRangeIn value_of_data header area (with_texts grounds.strings values) nothing range)
+    × AnswersValues context own values
+    × IsRangeIn value_of_data header area (with_texts context.strings values) nothing range)
     → value_of_data (blank_of range) ≡ nothing
-blank_of_used grounds header area None range reads = absurd reads
-blank_of_used grounds header area (Some events) range (values, answers, is) = is.blank
+blank_of_used context header area None range reads = absurd reads
+blank_of_used context header area (Some events) range (values, answers, is) = is.blank
 
-blank_of_shown : (grounds : Grounds) (shared : SharedSaid) (is_1904 : Bool) (header : HeaderRow)
+blank_of_shown : (context : ValueContext) (shared : SharedSaid) (is_1904 : Bool)
+    (header : HeaderRow)
     (area : Dimensions) (events : Option (List Event)) (range : Range Data)
     → IsSomeAnd events (λ own. (found : List ((ℕ × ℕ) × (CellValue × ℕ)))
-    × AnswersStyledValues values_and_styles grounds own found
+    × AnswersStyledValues values_and_styles context own found
     × IsRangeIn value_of_data header area (shown_cells shared is_1904 found) nothing range)
     → value_of_data (blank_of range) ≡ nothing
-blank_of_shown grounds shared is_1904 header area None range shows = absurd shows
-blank_of_shown grounds shared is_1904 header area (Some events) range (found, answers, is) =
+blank_of_shown context shared is_1904 header area None range shows = absurd shows
+blank_of_shown context shared is_1904 header area (Some events) range (found, answers, is) =
     is.blank
 
 -- what is read in an area has no value where it has no cell
-pub blank_in : (grounds : Grounds) (header : HeaderRow) (area : Option Dimensions)
+pub blank_in : (context : ValueContext) (header : HeaderRow) (area : Option Dimensions)
     (path : Option (List ℕ)) (parts : List Part) (range : Range Data)
-    → ReadsValuesIn grounds header area path parts range → value_of_data (blank_of range) ≡ nothing
-blank_in grounds header None path parts range reads = reads.blank
-blank_in grounds header (Some area) path parts range reads =
-    blank_of_used grounds header area (events_at path parts) range reads
+    → ReadsValuesIn context header area path parts range → value_of_data (blank_of range) ≡ nothing
+blank_in context header None path parts range reads = reads.blank
+blank_in context header (Some area) path parts range reads =
+    blank_of_used context header area (events_at path parts) range reads
 
 -- nor has what is shown
 pub blank_of_data : (shown : Bool) (opening : Opening) (area : Option Dimensions)
     (path : Option (List ℕ)) (parts : List Part) (range : Range Data)
     → HasDataIn shown opening area path parts range → value_of_data (blank_of range) ≡ nothing
 blank_of_data false opening area path parts range reads =
-    blank_in (opened_grounds opening) FirstNonEmptyRow area path parts range reads
+    blank_in (opened_context opening) FirstNonEmptyRow area path parts range reads
 blank_of_data true opening None path parts range shows = shows.blank
 blank_of_data true opening (Some area) path parts range shows =
-    blank_of_shown (opened_grounds opening) opening.shared opening.is_1904 FirstNonEmptyRow area
+    blank_of_shown (opened_context opening) opening.shared opening.is_1904 FirstNonEmptyRow area
     (events_at path parts) range shows
 
 module _ (shown : Bool) (parts : List Part) (name : List ℕ) (table : Table Data)
@@ -141,7 +133,7 @@ module _ (shown : Bool) (parts : List Part) (name : List ℕ) (table : Table Dat
         listed = is ∙ ap (rows_text options (Some (map string_bytes header))) same
             ∙ rows_meant options (Some (map string_bytes header)) held blank
             ∙ ap (λ (own : List (List ℕ)). (bom_text options.bom ++ header_text options (Some own))
-            ++ rows_placed options values (bounds_of held)) fitted
+            ++ area_records options values (bounds_of held)) fitted
             ∙ ap (λ (own : Option Dimensions). table_records options own (table_columns table)
             values) has.is.area
             ∙ ap (λ (own : List (List ℕ)). table_records options has.own.table.area own values)

@@ -1,14 +1,14 @@
 -- What words behind a name ask of the rows of a sheet or of a table as JSON: `--json`, and behind
 -- it
 -- what is asked of rows, but for the options of CSV alone.
-use Rattle.std.specs.Prelude.{ℕ, ◌||◌, if◌then◌else◌, List, [], ◌∷◌, codes, is_some}
-use Rattle.std.specs.Prelude.{Option, Some, None, option_and_then}
+use Rattle.std.specs.Prelude.{ℕ, ◌||◌, if◌then◌else◌, List, [], ◌∷◌, codes, is_some, Option, Some}
+use Rattle.std.specs.Prelude.{None, option_and_then}
 use Rattle.std.specs.Str.{bytes_eq}
-use Rattle.xlsx_rows.specs.declared.options.CsvOptions.{CsvOptions}
+use Rattle.csv_rows.specs.declared.options.CsvOptions.{CsvOptions}
 use Rattle.xlsx_commands.specs.AskedRows.{options_asked, plain_rows, of_table}
 use Rattle.xlsx_commands.specs.declared.asked_rows.AskedRows.{AskedRows}
 
--- what is asked says nothing of the bytes of CSV
+-- what is asked of rows as JSON, which says nothing of the bytes of CSV
 abbrev pub of_json : AskedRows → Option AskedRows
 of_json asked =
     if is_some asked.options.delimiter || (asked.options.crlf || asked.options.bom) then None

@@ -5,14 +5,14 @@ use Rattle.std.specs.Prelude.{if◌then◌else◌, List, [], ◌∷◌, codes, t
 use Rattle.std.specs.Prelude.{Option, Some, None, option_and_then}
 use Rattle.std.specs.Char.{is_ascii_digit}
 use Rattle.std.specs.Str.{bytes_eq}
-use Rattle.xlsx_rows.specs.Settings.{delimiter_by, digits_by}
-use Rattle.xlsx_rows.specs.declared.delimiter.Delimiter.{Delimiter}
-use Rattle.xlsx_rows.specs.declared.delimiter.Digits.{Digits}
-use Rattle.xlsx_rows.specs.declared.options.CsvOptions.{CsvOptions}
+use Rattle.csv_rows.specs.Settings.{delimiter_by, digits_by}
+use Rattle.csv_rows.specs.declared.delimiter.Delimiter.{Delimiter}
+use Rattle.csv_rows.specs.declared.delimiter.Digits.{Digits}
+use Rattle.csv_rows.specs.declared.options.CsvOptions.{CsvOptions}
 use Rattle.xlsx_commands.specs.declared.asked_rows.AskedRows.{AskedRows}
 use Rattle.xlsx_commands.specs.declared.asked_rows.AskedTable.{AskedTable}
 
--- nothing is asked
+-- what is asked of rows where no words ask for anything
 abbrev pub plain_rows : AskedRows
 plain_rows = record {
   options = record {
@@ -28,17 +28,17 @@ plain_rows = record {
 }
 
 -- what stands behind a front of a text
-abbrev pub behind : List ℕ → List ℕ → Option (List ℕ)
-behind front text =
+abbrev pub behind_front : List ℕ → List ℕ → Option (List ℕ)
+behind_front front text =
     if bytes_eq (take (length front) text) front then Some (drop (length front) text) else None
 
--- the delimiter of one character
+-- the delimiter that a text of one byte is, if it may be one
 abbrev pub one_delimiter : List ℕ → Option Delimiter
 one_delimiter [] = None
 one_delimiter (byte ∷ []) = delimiter_by byte
 one_delimiter (byte ∷ next ∷ bytes) = None
 
--- such a delimiter, or a tab by its name
+-- the delimiter that a text asks for: one character, or a tab by its name
 abbrev pub delimiter_asked : List ℕ → Option Delimiter
 delimiter_asked text =
     if bytes_eq text (codes "tab") then Some (record { byte = 9 }) else one_delimiter text
@@ -47,7 +47,7 @@ delimiter_asked text =
 abbrev pub one_digit : ℕ → Option Digits
 one_digit unit = if is_ascii_digit unit then digits_by (unit - 48) else None
 
--- so many as two digits say, of which the first is no zero
+-- so many digits as two digits say, of which the first is no zero
 abbrev pub two_digits : ℕ → ℕ → Option Digits
 two_digits ten unit =
     if is_ascii_digit ten && not (ten == 48) && is_ascii_digit unit
@@ -64,14 +64,14 @@ digits_asked (hundred ∷ ten ∷ unit ∷ bytes) = None
 abbrev pub unless : Bool → AskedRows → Option AskedRows
 unless given asked = if given then None else Some asked
 
--- a delimiter is asked for
+-- what is asked of rows, with this delimiter
 abbrev pub with_delimiter : AskedRows → Delimiter → AskedRows
 with_delimiter asked delimiter =
     record asked { options = record (asked.options) { delimiter = Some delimiter } }
 
--- digits are asked for
-abbrev pub with_digits : AskedRows → Digits → AskedRows
-with_digits asked digits =
+-- what is asked of rows, with so many digits
+abbrev pub asks_digits : AskedRows → Digits → AskedRows
+asks_digits asked digits =
     record asked { options = record (asked.options) { digits = Some digits } }
 
 -- the delimiter that a text asks for
@@ -85,7 +85,7 @@ delimiter_given asked text =
 abbrev pub digits_given : AskedRows → List ℕ → Option AskedRows
 digits_given asked text =
     option_and_then
-    (λ own. unless (is_some asked.options.digits || asked.shown) (with_digits asked own))
+    (λ own. unless (is_some asked.options.digits || asked.shown) (asks_digits asked own))
     (digits_asked text)
 
 -- what a text asks further, or else another answer
@@ -94,12 +94,12 @@ abbrev pub given_or :
 given_or given other None = other
 given_or given other (Some text) = given text
 
--- a word with a value
+-- what a word with a value behind it asks further
 abbrev pub setting_asked : AskedRows → List ℕ → Option AskedRows
 setting_asked asked word =
     given_or (delimiter_given asked)
-    (given_or (digits_given asked) None (behind (codes "--digits=") word))
-    (behind (codes "--delimiter=") word)
+    (given_or (digits_given asked) None (behind_front (codes "--digits=") word))
+    (behind_front (codes "--delimiter=") word)
 
 -- what is shown was asked for, or how numbers and dates are written that aren't shown
 abbrev pub are_spelled : AskedRows → Bool
@@ -151,7 +151,7 @@ abbrev pub of_table : AskedRows → Option CsvOptions
 of_table asked =
     if asked.from_a1 || asked.shown || asked.header then None else Some asked.options
 
--- a table's rows that are written so, of values as they are
+-- what is asked of a table's rows, of values as they are
 abbrev pub as_they_are : CsvOptions → AskedTable
 as_they_are options = record { options = options; shown = false }
 

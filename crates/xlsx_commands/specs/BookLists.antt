@@ -1,23 +1,23 @@
 -- What `sheets` and `names` print of a workbook that opens.
 use Rattle.std.specs.Prelude.{◌≡◌, ℕ, List, codes, map}
 use Rattle.std.specs.List.{flat_map}
-use Rattle.part_events.specs.Package.{Part}
+use Rattle.part_events.specs.Words.{Part}
 use Rattle.list_lines.specs.Lines.{sheet_line, name_line}
 use Rattle.list_lines.specs.declared.content.LineForm.{LineForm}
-use Rattle.xlsx_workbook.specs.KeptContents.{pair_of}
+use Rattle.xlsx_workbook.specs.Words.{pair_of}
 use Rattle.xlsx_workbook.specs.declared.sheet.Metadata.{Metadata}
 use Rattle.xlsx_workbook.specs.declared.sheet.SheetType.{SheetType}
 use Rattle.xlsx_workbook.specs.declared.sheet.SheetType.TheVariants.{WorkSheet, ChartSheet}
 use Rattle.xlsx_workbook.specs.declared.sheet.SheetType.TheVariants.{DialogSheet}
 use Rattle.xlsx_workbook.specs.declared.sheet.SheetVisible.{SheetVisible}
 use Rattle.xlsx_workbook.specs.declared.sheet.SheetVisible.TheVariants.{Visible, Hidden, VeryHidden}
-use Rattle.xlsx_open.specs.Opening.{Opening, OpensAs, ListedSheet, without_path, listed_sheet}
+use Rattle.xlsx_open.specs.Words.{Opening, OpensAs, ListedSheet, without_path, listed_sheet}
 
 -- the word for the type of a sheet
-abbrev pub type_word : SheetType → List ℕ
-type_word WorkSheet = codes "worksheet"
-type_word ChartSheet = codes "chartsheet"
-type_word DialogSheet = codes "dialogsheet"
+abbrev pub sheet_type_word : SheetType → List ℕ
+sheet_type_word WorkSheet = codes "worksheet"
+sheet_type_word ChartSheet = codes "chartsheet"
+sheet_type_word DialogSheet = codes "dialogsheet"
 
 -- the word for the state of a sheet
 abbrev pub state_word : SheetVisible → List ℕ
@@ -29,7 +29,8 @@ state_word VeryHidden = codes "veryHidden"
 abbrev pub sheet_lines : LineForm → List ListedSheet → List ℕ
 sheet_lines form sheets =
     flat_map
-    (λ sheet. sheet_line form sheet.name (type_word sheet.typ) (state_word sheet.visible)) sheets
+    (λ sheet. sheet_line form sheet.name (sheet_type_word sheet.typ)
+    (state_word sheet.visible)) sheets
 
 -- the lines of defined names
 abbrev pub name_lines : LineForm → List (List ℕ × List ℕ) → List ℕ

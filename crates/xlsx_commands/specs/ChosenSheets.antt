@@ -1,12 +1,12 @@
 -- The sheet that words choose where they tell none by its name.
 use Rattle.std.specs.Prelude.{◌≡◌, ℕ, zero, suc, List, [], ◌∷◌, ◌++◌, Bool, true, false, not, ◌&&◌}
-use Rattle.std.specs.Prelude.{if◌then◌else◌, length, Option, Some, None, option_and_then}
-use Rattle.std.specs.Prelude.{Result, Ok, Err, codes, map, slice_get, take, nat_lt}
+use Rattle.std.specs.Prelude.{if◌then◌else◌, length, Option, Some, None, option_and_then, Result}
+use Rattle.std.specs.Prelude.{Ok, Err, codes, map, slice_get, take, nat_lt}
 use Rattle.std.specs.List.{list_any}
 use Rattle.std.specs.Str.{bytes_eq}
-use Rattle.part_events.specs.Package.{Part}
-use Rattle.xlsx_open.specs.Opening.{Opening, OpensAs, OpeningCause, ListedSheet, without_path}
-use Rattle.xlsx_sections.specs.NumberText.{number_text}
+use Rattle.part_events.specs.Words.{Part}
+use Rattle.xlsx_open.specs.Words.{Opening, OpensAs, OpeningCause, ListedSheet, without_path}
+use Rattle.xlsx_sections.specs.Words.{number_text}
 use Rattle.xlsx_workbook.specs.declared.sheet.SheetType.{SheetType}
 use Rattle.xlsx_workbook.specs.declared.sheet.SheetType.TheVariants.{WorkSheet, ChartSheet}
 use Rattle.xlsx_workbook.specs.declared.sheet.SheetType.TheVariants.{DialogSheet}
@@ -31,13 +31,13 @@ choice_of word =
     else option_and_then if_number (number_text word)
 
 -- one of these sheets has this name
-abbrev pub has_name : List ℕ → List ListedSheet → Bool
-has_name name sheets = list_any (λ sheet. bytes_eq sheet.name name) sheets
+abbrev pub has_sheet_name : List ℕ → List ListedSheet → Bool
+has_sheet_name name sheets = list_any (λ sheet. bytes_eq sheet.name name) sheets
 
 -- what stands at a number, counted from 1
-abbrev pub sheet_at : ℕ → List ListedSheet → Option ListedSheet
-sheet_at zero sheets = None
-sheet_at (suc place) sheets = slice_get sheets place
+abbrev pub sheet_by_number : ℕ → List ListedSheet → Option ListedSheet
+sheet_by_number zero sheets = None
+sheet_by_number (suc place) sheets = slice_get sheets place
 
 -- the sheet that stands at a number is had by its name: an earlier one of that name would be taken
 -- in its place
@@ -46,10 +46,10 @@ abbrev pub chosen_at :
 chosen_at number sheets None = Err (NoSheet number (length sheets))
 chosen_at zero sheets (Some sheet) = Err (NoSheet zero (length sheets))
 chosen_at (suc place) sheets (Some sheet) =
-    if has_name sheet.name (take place sheets) then Err (NamedBefore (suc place))
+    if has_sheet_name sheet.name (take place sheets) then Err (NamedBefore (suc place))
     else Ok sheet.name
 
--- a sheet of rows and columns
+-- a sheet is a worksheet: it has rows and columns
 abbrev pub is_worksheet : SheetType → Bool
 is_worksheet WorkSheet = true
 is_worksheet ChartSheet = false
@@ -59,12 +59,12 @@ is_worksheet DialogSheet = false
 unfoldable pub first_worksheet : List ListedSheet → List ListedSheet → Result (List ℕ) SheetFault
 first_worksheet earlier [] = Err NoWorksheet
 first_worksheet earlier (sheet ∷ sheets) =
-    if is_worksheet sheet.typ && not (has_name sheet.name earlier) then Ok sheet.name
+    if is_worksheet sheet.typ && not (has_sheet_name sheet.name earlier) then Ok sheet.name
     else first_worksheet (earlier ++ sheet ∷ []) sheets
 
 -- the name of the sheet that is chosen among these, or why none is
 abbrev pub chosen_name : SheetChoice → List ListedSheet → Result (List ℕ) SheetFault
-chosen_name (Numbered number) sheets = chosen_at number sheets (sheet_at number sheets)
+chosen_name (Numbered number) sheets = chosen_at number sheets (sheet_by_number number sheets)
 chosen_name FirstWorksheet sheets = first_worksheet [] sheets
 
 -- the workbook opens, and this is the name of the sheet that is chosen
@@ -80,13 +80,13 @@ pub record CannotChoose (parts : List Part) (choice : SheetChoice) (fault : Shee
   pub opens : OpensAs parts opening
   pub none : chosen_name choice (map without_path opening.sheets) ≡ Err fault
 
--- why no sheet is chosen
+-- why no sheet is chosen: opening is refused, or no sheet is what the choice asks for
 abbrev pub ChoiceCause : SheetChoice → List Part → ToolError → Type 0
 ChoiceCause choice parts (Workbook error) = OpeningCause parts error
 ChoiceCause choice parts (NotChosen fault) = CannotChoose parts choice fault
 ChoiceCause choice parts _ = ⊥
 
--- when the choice is refused; want of memory may come at any time
+-- when the choice of a sheet is refused; want of memory may come at any time
 abbrev pub ChoiceFails : SheetChoice → List Part → ToolError → Type 0
 ChoiceFails choice parts OutOfMemory = Unit {0}
 ChoiceFails choice parts error = ChoiceCause choice parts error

@@ -4,14 +4,14 @@ use Rattle.std.specs.Prelude.{String, string_bytes, nat_lt, nat_le, ◌&&◌, op
 use Rattle.std.specs.Prelude.{option_map, Result, Ok, Err}
 use Rattle.std.specs.Str.{bytes_eq}
 use Rattle.std.specs.declared.alloc.Global.{Global}
-use Rattle.cell_refs.specs.A1.{corner}
+use Rattle.cell_refs.specs.Words.{corner}
 use Rattle.cell_refs.specs.declared.error.RefError.{RefError}
 use Rattle.list_lines.specs.declared.content.LineForm.{LineForm}
 use Rattle.list_lines.specs.declared.content.LineForm.TheVariants.{Text, Json}
-use Rattle.part_events.specs.Package.{Part}
+use Rattle.part_events.specs.Words.{Part}
 use Rattle.xlsx_sample.specs.Sample.{sample_parts}
-use Rattle.xlsx_sections.specs.NumberText.{number_text}
-use Rattle.xlsx_rows.specs.declared.options.CsvOptions.{CsvOptions}
+use Rattle.xlsx_sections.specs.Words.{number_text}
+use Rattle.csv_rows.specs.declared.options.CsvOptions.{CsvOptions}
 use Rattle.xlsx_commands.specs.AskedRows.{plain_rows, as_they_are, csv_asked, table_rows_asked}
 use Rattle.xlsx_commands.specs.AskedArrays.{arrays_asked, objects_asked}
 use Rattle.xlsx_commands.specs.declared.asked_rows.AskedRows.{AskedRows}
@@ -21,11 +21,11 @@ use Rattle.xlsx_commands.specs.declared.command.Command.TheVariants as asked
 use Rattle.xlsx_commands.specs.declared.command.GraphList.{GraphList}
 use Rattle.xlsx_commands.specs.declared.command.GraphList.TheVariants.{Graph, Order, Cycles}
 
--- the words as texts
+-- the words of a command line as texts
 abbrev pub texts : List (String Global) → List (List ℕ)
 texts words = map string_bytes words
 
--- what is asked for
+-- what words ask for: a command, with the names and the options that it takes
 pub data Command : Type 0 where
   cells : LineForm → List ℕ → Command
   sheets : LineForm → Command
@@ -81,7 +81,7 @@ command_meant (asked.Resave name) = resave name.now
 command_meant (asked.ResaveFile name) = resave_file name.now
 command_meant (asked.Sample rows) = sample rows
 
--- so many rows are those of a sample
+-- a number of rows, where a sample may have so many
 abbrev pub if_rows : ℕ → Option ℕ
 if_rows rows = if nat_lt 0 rows && nat_le rows 20000 then Some rows else None
 
@@ -128,7 +128,7 @@ bare_command word =
     else (if bytes_eq word (codes "cycles") then Some (workbook_graph Cycles)
     else book_list Text word)))
 
--- this command, or else the other
+-- a command, or where there is none the other
 abbrev pub or_command : Option Command → Option Command → Option Command
 or_command None other = other
 or_command (Some command) other = Some command
@@ -138,11 +138,12 @@ abbrev pub listed_command : List ℕ → List ℕ → Option Command
 listed_command word name =
     or_command (sheet_list Text word name) (if_json name (book_list Json word))
 
--- a command of two
+-- the command that a word and one name are
 abbrev pub named_command : List ℕ → List ℕ → Option Command
 named_command word name =
     if bytes_eq word (codes "csv") then Some (csv name plain_rows)
-    else (if bytes_eq word (codes "csv-table") then Some (csv_table name (as_they_are plain_rows.options))
+    else (if bytes_eq word (codes "csv-table") then Some
+    (csv_table name (as_they_are plain_rows.options))
     else (if bytes_eq word (codes "table") then Some (table name)
     else (if bytes_eq word (codes "precedents") then Some (precedents name)
     else (if bytes_eq word (codes "check") then Some (check name)
@@ -155,7 +156,7 @@ named_command word name =
 abbrev pub resave_asked : List ℕ → List ℕ → Option Command
 resave_asked name word = if bytes_eq word (codes "--xlsx") then Some (resave_file name) else None
 
--- a command of three
+-- the command that a word and two names are
 abbrev pub placed_command : List ℕ → List ℕ → List ℕ → Option Command
 placed_command word sheet name =
     if bytes_eq word (codes "pivot") then Some (pivot sheet name)
@@ -170,7 +171,7 @@ all_asked sheet name option =
     if bytes_eq option (codes "--all") then option_map (all_dependents sheet) (position_asked name)
     else None
 
--- a command of four
+-- the command that a word, two names and an option are
 abbrev pub option_command : List ℕ → List ℕ → List ℕ → List ℕ → Option Command
 option_command word sheet name option =
     if bytes_eq word (codes "dependents") then all_asked sheet name option else None

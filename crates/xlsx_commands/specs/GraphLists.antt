@@ -4,24 +4,22 @@ use Rattle.std.specs.Prelude.{◌≡◌, ◌⊎◌, ℕ, List, Option, Some, IsS
 use Rattle.std.specs.List.{position_from}
 use Rattle.std.specs.Str.{bytes_eq}
 use Rattle.book_names.specs.Book.{Book}
-use Rattle.graph_reading.specs.BookRead.{AreFormulas, BookCause, book_with}
-use Rattle.part_events.specs.Package.{Part}
+use Rattle.graph_reading.specs.BookRead.{AreFormulas, GraphCause, book_with}
+use Rattle.part_events.specs.Words.{Part}
 use Rattle.xlsx_error.specs.declared.error.XlsxError.{XlsxError}
-use Rattle.xlsx_graph.specs.Gathered.{is_too_large}
-use Rattle.xlsx_graph.specs.Graph.{GraphFormula}
-use Rattle.xlsx_graph.specs.GraphLines.{graph_lines, order_lines, cycles_lines, dependents_lines}
+use Rattle.xlsx_graph.specs.Words.{is_too_large, GraphFormula, graph_lines, order_lines}
+use Rattle.xlsx_graph.specs.Words.{cycles_lines, all_dependents_lines}
 use Rattle.xlsx_graph.specs.declared.named.Standing.{Standing}
 use Rattle.xlsx_tables.specs.TableParts.{TableSaid}
-use Rattle.xlsx_workbook.specs.Paths.{workbook_part}
-use Rattle.xlsx_workbook.specs.Sheets.{PlacedSheet}
-use Rattle.xlsx_open.specs.Opening.{Opening, OpensAs, scopes_at}
+use Rattle.xlsx_workbook.specs.Words.{workbook_part, PlacedSheet}
+use Rattle.xlsx_open.specs.Words.{Opening, OpensAs, scopes_at}
 use Rattle.xlsx_commands.specs.PartNames.{PartPathCause}
 use Rattle.xlsx_commands.specs.SheetLists.{PathCause, NamedCause}
 use Rattle.xlsx_commands.specs.SheetsOpened.{sheets_opened, HasSheetsCause, ListedCause}
 use Rattle.xlsx_commands.specs.declared.command.GraphList.{GraphList}
 use Rattle.xlsx_commands.specs.declared.command.GraphList.TheVariants.{Graph, Order, Cycles}
 
--- the names of sheets
+-- the names of the sheets of an opening, in order
 abbrev pub sheet_names : List PlacedSheet → List (List ℕ)
 sheet_names sheets = map (λ (sheet : PlacedSheet). sheet.name) sheets
 
@@ -40,11 +38,11 @@ pub record HasGraph (parts : List Part) (book : Book) (formulas : List GraphForm
       AreFormulas (opened_book parts opening opens) parts (sheets_opened opening.sheets) book
       formulas
 
--- why its formulas aren't had
+-- why the formulas of a workbook, with what each names, aren't had
 abbrev pub ListedGraphCause : List Part → XlsxError → Type 0
-ListedGraphCause parts error = ListedCause BookCause parts error
+ListedGraphCause parts error = ListedCause GraphCause parts error
 
--- they are had, and name more than there is room for
+-- the formulas of a workbook are had, and name more than there is room for
 pub record HasLargeBook (parts : List Part) : Type 0 where
   pub book : Book
   pub formulas : List GraphFormula
@@ -59,7 +57,7 @@ graph_list_lines Graph book formulas = graph_lines book formulas
 graph_list_lines Order book formulas = order_lines book formulas
 graph_list_lines Cycles book formulas = cycles_lines book formulas
 
--- these are the lines of the list of all formulas
+-- the workbook opens, and these are the lines of a list of all its formulas
 pub record AreGraphLines (list : GraphList) (parts : List Part) (lines : List ℕ) : Type 0 where
   pub book : Book
   pub formulas : List GraphFormula
@@ -77,8 +75,8 @@ sheet_called name names = position_from (λ own. bytes_eq own name) 0 names
 abbrev pub cell_on : ℕ → ℕ × ℕ → Standing
 cell_on sheet position = record { sheet = sheet; row = position.0; column = position.1 }
 
--- these are the lines of all formulas that need the cell at a position of the first sheet of this
--- name, themselves or through others
+-- the workbook opens, and these are the lines of all formulas that need the cell at a position of
+-- the first sheet of this name, themselves or through others
 pub record AreAllDependents (parts : List Part) (name : List ℕ) (position : ℕ × ℕ)
     (lines : List ℕ) : Type 0 where
   pub book : Book
@@ -87,15 +85,15 @@ pub record AreAllDependents (parts : List Part) (name : List ℕ) (position : �
   pub has : HasGraph parts book formulas
   pub called : sheet_called name (sheet_names has.opening.sheets) ≡ Some sheet
   pub fits : is_too_large formulas ≡ false
-  pub listed : lines ≡ dependents_lines book formulas (cell_on sheet position)
+  pub listed : lines ≡ all_dependents_lines book formulas (cell_on sheet position)
 
--- why these aren't had where the path of the sheet's part is this, if there is one: the workbook
--- has no sheet of the name, or it has one, and its formulas aren't had
+-- why the formulas that need a cell of a sheet aren't had, by the path of its part, if there is
+-- one: the workbook has no sheet of the name, or it has one, and its formulas aren't had
 abbrev pub DependentsPathCause : List ℕ → PathCause
 DependentsPathCause name path parts error =
-    PartPathCause name path parts error ⊎ (IsSome path × HasSheetsCause BookCause parts error)
+    PartPathCause name path parts error ⊎ (IsSome path × HasSheetsCause GraphCause parts error)
 
--- why they aren't had of the sheet of a name
+-- why the formulas that need a cell of the sheet of a name aren't had
 abbrev pub NamedDependentsCause : List Part → List ℕ → XlsxError → Type 0
 NamedDependentsCause parts name error = NamedCause (DependentsPathCause name) parts name error
 

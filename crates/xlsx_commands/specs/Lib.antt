@@ -24,3 +24,4 @@ pub mod TableLists
 pub mod TableObjects
 pub mod TableRows
 pub mod TablesOpened
+pub mod Words

@@ -1,25 +1,25 @@
 -- What each command prints of a package, and why it can't: a row for each command.
 use Rattle.std.specs.Prelude.{◌≡◌, ℕ, false, List, [], ◌∷◌, ◌++◌, string_bytes}
-use Rattle.part_events.specs.Package.{Part}
+use Rattle.part_events.specs.Words.{Part}
 use Rattle.xlsx_error.specs.declared.error.XlsxError.{XlsxError}
-use Rattle.cell_data.specs.CellValue.{CellValue}
-use Rattle.cell_styles.specs.StyleMap.{StyleMap}
+use Rattle.cell_data.specs.Words.{CellValue}
+use Rattle.cell_styles.specs.Words.{StyleMap}
 use Rattle.list_lines.specs.declared.content.LineForm.{LineForm}
 use Rattle.list_lines.specs.declared.content.LineForm.TheVariants.{Text, Json}
 use Rattle.sheet_listing.specs.CellObjects.{object_listing}
 use Rattle.sheet_listing.specs.SheetListing.{listing}
 use Rattle.package_text.specs.WrittenPackage.{written_package}
-use Rattle.xlsx_open.specs.Opening.{OpeningCause}
-use Rattle.xlsx_core.specs.SheetReading.{ReadsAs, SheetCause}
-use Rattle.xlsx_out.specs.WrittenSheet.{written_parts}
-use Rattle.xlsx_out.specs.declared.form.WrittenForm.TheVariants.{PackageText}
+use Rattle.xlsx_open.specs.Words.{OpeningCause}
+use Rattle.xlsx_core.specs.Words.{ReadsAs, SheetCause}
+use Rattle.xlsx_writer.specs.Words.{written_parts}
+use Rattle.xlsx_writer.specs.declared.form.WrittenForm.TheVariants.{PackageText}
 use Rattle.xlsx_commands.specs.BookLists.{AreSheetLines, AreNameLines}
 use Rattle.xlsx_commands.specs.Command.{Command, cells, sheets, names, merges, links, props, csv}
-use Rattle.xlsx_commands.specs.CacheRows.{ArePivotRows, NamedPivotCause}
 use Rattle.xlsx_commands.specs.Command.{csv_table, tables, table, pivots, pivot, precedents}
 use Rattle.xlsx_commands.specs.Command.{dependents, check, part, upgrade, resave, sample, comments}
 use Rattle.xlsx_commands.specs.Command.{resave_file, json_rows, table_objects, all_dependents}
 use Rattle.xlsx_commands.specs.Command.{workbook_graph}
+use Rattle.xlsx_commands.specs.CacheRows.{ArePivotRows, NamedPivotCause}
 use Rattle.xlsx_commands.specs.FormulaLists.{ArePrecedentLines, AreDependentLines, AreCheckLines}
 use Rattle.xlsx_commands.specs.GraphLists.{AreGraphLines, ListedGraphCause, HasLargeBook}
 use Rattle.xlsx_commands.specs.GraphLists.{AreAllDependents, NamedDependentsCause}
@@ -43,7 +43,7 @@ use Rattle.xlsx_commands.specs.declared.error.ToolError.TheVariants.{BoxTooLarge
 use Rattle.xlsx_commands.specs.declared.error.ToolError.TheVariants.{NoHeader, TwoColumns}
 use Rattle.xlsx_commands.specs.declared.error.ToolError.TheVariants.{GraphTooLarge}
 
--- these are the lines of the sheet of this name, as it is read from these parts
+-- the sheet of this name is read from these parts, and these are its lines
 pub record AreLinesOf (parts : List Part) (name lines : List ℕ) : Type 0 where
   pub values : List ((ℕ × ℕ) × CellValue)
   pub formulas : List ((ℕ × ℕ) × List ℕ)
@@ -51,7 +51,8 @@ pub record AreLinesOf (parts : List Part) (name lines : List ℕ) : Type 0 where
   pub reads : ReadsAs parts name values formulas styles
   pub listed : lines ≡ listing values formulas styles
 
--- these are the objects of JSON of that sheet, each in a line
+-- the sheet of this name is read from these parts, and these are its objects of JSON, each in a
+-- line
 pub record AreObjectsOf (parts : List Part) (name lines : List ℕ) : Type 0 where
   pub values : List ((ℕ × ℕ) × CellValue)
   pub formulas : List ((ℕ × ℕ) × List ℕ)
@@ -59,7 +60,8 @@ pub record AreObjectsOf (parts : List Part) (name lines : List ℕ) : Type 0 whe
   pub reads : ReadsAs parts name values formulas styles
   pub listed : lines ≡ object_listing values formulas styles
 
--- these are the lines of that sheet in their form
+-- the sheet of this name is read from these parts, and these are its lines in a form, as text or as
+-- JSON
 abbrev pub AreCellLines : LineForm → List Part → List ℕ → List ℕ → Type 0
 AreCellLines Text parts name lines = AreLinesOf parts name lines
 AreCellLines Json parts name lines = AreObjectsOf parts name lines
@@ -79,7 +81,7 @@ pub record IsResaved (parts : List Part) (name output : List ℕ) : Type 0 where
 
 -- ---- the rows
 
--- these bytes are the output of a command on a package of these parts
+-- bytes are the output of a command on a package of these parts
 unfoldable pub IsOutput : Command → List Part → List ℕ → Type 0
 IsOutput (cells form name) parts output = AreCellLines form parts name output
 IsOutput (sheets form) parts output = AreSheetLines form parts output
@@ -107,7 +109,7 @@ IsOutput (resave name) parts output = IsResaved parts name output
 IsOutput (resave_file name) parts output = IsResavedFile parts name output
 IsOutput (sample rows) parts output = AreSampleLines rows parts output
 
--- why its workbook refuses it
+-- why a command's workbook refuses it
 unfoldable pub RefusedWorkbookCause : Command → List Part → XlsxError → Type 0
 RefusedWorkbookCause (cells form name) parts error = SheetCause parts name error
 RefusedWorkbookCause (sheets form) parts error = OpeningCause parts error
@@ -138,7 +140,7 @@ RefusedWorkbookCause (resave name) parts error = SheetCause parts name error
 RefusedWorkbookCause (resave_file name) parts error = SheetCause parts name error
 RefusedWorkbookCause (sample rows) parts error = SheetCause parts sample_name error
 
--- why it is refused because an area has too many cells
+-- why a command is refused because an area has too many cells
 unfoldable pub IsTooLarge : Command → List Part → Type 0
 IsTooLarge (csv name asked) parts = HasLargeArea parts name asked
 IsTooLarge (csv_table name asked) parts = HasLargeTable asked.shown parts name
@@ -146,23 +148,23 @@ IsTooLarge (json_rows name asked) parts = HasLargeArea parts name asked
 IsTooLarge (table_objects name options) parts = HasLargeTable false parts name
 IsTooLarge _ parts = ⊥
 
--- why it is refused because formulas name more than there is room for
+-- why a command is refused because formulas name more than there is room for
 unfoldable pub HasLargeGraph : Command → List Part → Type 0
 HasLargeGraph (all_dependents name position) parts = HasLargeDependents parts name
 HasLargeGraph (workbook_graph list) parts = HasLargeBook parts
 HasLargeGraph _ parts = ⊥
 
--- why it is refused because no workbook file can hold what is read
+-- why a command is refused because no workbook file can hold what is read
 unfoldable pub IsUnwritable : Command → List Part → Type 0
 IsUnwritable (resave_file name) parts = HasNoFile parts name
 IsUnwritable _ parts = ⊥
 
--- why it is refused because no row gives the keys that are asked for
+-- why a command is refused because no row gives the keys that are asked for
 unfoldable pub HasNoKeys : Command → List Part → Type 0
 HasNoKeys (json_rows name asked) parts = LacksHeader asked.header parts name asked
 HasNoKeys _ parts = ⊥
 
--- why it is refused because this key is given twice
+-- why a command is refused because this key is given twice
 unfoldable pub HasTwoColumns : Command → List Part → List ℕ → Type 0
 HasTwoColumns (json_rows name asked) parts key = GivesTwice asked.header parts name asked key
 HasTwoColumns (table_objects name options) parts key = HasDoubleName parts name key
@@ -174,7 +176,7 @@ HasTwoColumns _ parts key = ⊥
 abbrev pub HasOutput : Command → List Part → Type 0
 HasOutput command parts = (output : List ℕ) × IsOutput command parts output
 
--- why it has none
+-- why a package has no output for a command
 abbrev pub OutputCause : Command → List Part → ToolError → Type 0
 OutputCause command parts (Workbook error) = RefusedWorkbookCause command parts error
 OutputCause command parts BoxTooLarge = IsTooLarge command parts
@@ -212,9 +214,9 @@ ObjectsFail cause large none twice error = CallFails cause error
 
 -- when a call is refused that has these causes, or whose formulas by this name more than there is
 -- room for
-abbrev pub GraphFails : (XlsxError → Type 0) → Type 0 → ToolError → Type 0
-GraphFails cause large GraphTooLarge = large
-GraphFails cause large error = CallFails cause error
+abbrev pub GraphListFails : (XlsxError → Type 0) → Type 0 → ToolError → Type 0
+GraphListFails cause large GraphTooLarge = large
+GraphListFails cause large error = CallFails cause error
 
 -- when a call is refused that has these causes, or for which this says that no file can be written
 abbrev pub FileFails : (XlsxError → Type 0) → Type 0 → ToolError → Type 0

@@ -1,7 +1,7 @@
 -- What names the part that a sheet is read from, and why none does.
 use Rattle.std.specs.Prelude.{◌≡◌, ℕ, List, Some, None, string_bytes}
-use Rattle.part_events.specs.Package.{Part}
-use Rattle.list_lines.specs.Lines.{text_line}
+use Rattle.part_events.specs.Words.{Part}
+use Rattle.list_lines.specs.Lines.{lone_text_line}
 use Rattle.xlsx_error.specs.declared.error.XlsxError.{XlsxError}
 use Rattle.xlsx_error.specs.declared.error.XlsxError.TheVariants.{WorksheetNotFound}
 use Rattle.xlsx_commands.specs.SheetLists.{OpensAt, PathCause, NamedCause}
@@ -10,7 +10,7 @@ use Rattle.xlsx_commands.specs.SheetLists.{OpensAt, PathCause, NamedCause}
 pub record IsPartLine (parts : List Part) (name line : List ℕ) : Type 0 where
   pub path : List ℕ
   pub opens : OpensAt parts name (Some path)
-  pub printed : line ≡ text_line path
+  pub printed : line ≡ lone_text_line path
 
 -- why the path of a sheet's part isn't told: the workbook has no sheet of this name
 abbrev pub PartPathCause : List ℕ → PathCause

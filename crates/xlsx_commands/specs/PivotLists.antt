@@ -3,12 +3,11 @@ use Rattle.std.specs.Prelude.{◌≡◌, ℕ, List, Some}
 use Rattle.std.specs.List.{flat_map}
 use Rattle.list_lines.specs.Lines.{pivot_line}
 use Rattle.list_lines.specs.declared.content.LineForm.{LineForm}
-use Rattle.part_events.specs.Package.{Part}
+use Rattle.part_events.specs.Words.{Part}
 use Rattle.xlsx_error.specs.declared.error.XlsxError.{XlsxError}
-use Rattle.xlsx_relationships.specs.Paths.{folder_of}
-use Rattle.xlsx_pivots.specs.PivotTables.{pairs_of}
-use Rattle.xlsx_pivots.specs.Pivots.{PivotSaid, pivots_of, PivotsCause}
-use Rattle.xlsx_open.specs.Opening.{Opening, OpensAs}
+use Rattle.xlsx_relationships.specs.Words.{folder_of}
+use Rattle.xlsx_pivots.specs.Words.{pairs_of, PivotSaid, pivots_of, PivotsCause}
+use Rattle.xlsx_open.specs.Words.{Opening, OpensAs}
 use Rattle.xlsx_commands.specs.SheetsOpened.{sheets_opened, ListedCause}
 
 -- the workbook opens, and its sheets have these pivot tables
@@ -18,7 +17,7 @@ pub record HasPivots (parts : List Part) (pivots : List PivotSaid) : Type 0 wher
   pub found :
       pivots_of parts (folder_of opens.path) (sheets_opened opening.sheets) ≡ Some pivots
 
--- why its pivot tables aren't had
+-- why the pivot tables of a workbook aren't had
 abbrev pub ListedPivotsCause : List Part → XlsxError → Type 0
 ListedPivotsCause parts error = ListedCause PivotsCause parts error
 
@@ -26,7 +25,7 @@ ListedPivotsCause parts error = ListedCause PivotsCause parts error
 abbrev pub pivot_lines : LineForm → List (List ℕ × List ℕ) → List ℕ
 pivot_lines form pairs = flat_map (λ pair. pivot_line form pair.0 pair.1) pairs
 
--- these are the lines of the pivot tables
+-- the workbook opens, and these are the lines of its pivot tables
 pub record ArePivotLines (form : LineForm) (parts : List Part) (lines : List ℕ) : Type 0 where
   pub pivots : List PivotSaid
   pub has : HasPivots parts pivots

@@ -1,14 +1,13 @@
 -- What words ask for: a command, or one of a sheet that they choose without telling its name.
-use Rattle.std.specs.Prelude.{◌⊎◌, ℕ, List, [], ◌∷◌, Bool, true, false, if◌then◌else◌}
-use Rattle.std.specs.Prelude.{Option, Some, None, codes, option_map, option_and_then}
+use Rattle.std.specs.Prelude.{◌⊎◌, ℕ, List, [], ◌∷◌, Bool, true, false, if◌then◌else◌, Option, Some}
+use Rattle.std.specs.Prelude.{None, codes, option_map, option_and_then}
 use Rattle.std.specs.Str.{bytes_eq}
-use Rattle.part_events.specs.Package.{Part}
+use Rattle.part_events.specs.Words.{Part}
 use Rattle.xlsx_commands.specs.ChosenSheets.{choice_of, Chooses, ChoiceCause}
 use Rattle.xlsx_commands.specs.Command.{Command, cells, merges, links, comments, csv, json_rows}
 use Rattle.xlsx_commands.specs.Command.{pivot, precedents, dependents, check, part, resave}
-use Rattle.xlsx_commands.specs.Command.{resave_file, all_dependents}
-use Rattle.xlsx_commands.specs.Command.{command_meant, command_of, command_on}
-use Rattle.xlsx_commands.specs.Command.{own_parts}
+use Rattle.xlsx_commands.specs.Command.{resave_file, all_dependents, command_meant, command_of}
+use Rattle.xlsx_commands.specs.Command.{command_on, own_parts}
 use Rattle.xlsx_commands.specs.Outputs.{IsOutput, OutputCause}
 use Rattle.xlsx_commands.specs.declared.error.ToolError.{ToolError}
 use Rattle.xlsx_commands.specs.declared.error.ToolError.TheVariants.{OutOfMemory}
@@ -26,45 +25,45 @@ abbrev pub request_meant : Asked → Request
 request_meant (asked.Told command) = told (command_meant command)
 request_meant (asked.Chosen choice command) = chosen choice (command_meant command)
 
--- it is asked of a sheet by its name
-abbrev pub is_of_sheet : Command → Bool
-is_of_sheet (cells form name) = true
-is_of_sheet (merges form name) = true
-is_of_sheet (links form name) = true
-is_of_sheet (comments form name) = true
-is_of_sheet (csv name asked) = true
-is_of_sheet (json_rows name asked) = true
-is_of_sheet (pivot sheet name) = true
-is_of_sheet (precedents name) = true
-is_of_sheet (dependents name position) = true
-is_of_sheet (all_dependents name position) = true
-is_of_sheet (check name) = true
-is_of_sheet (part name) = true
-is_of_sheet (resave name) = true
-is_of_sheet (resave_file name) = true
-is_of_sheet _ = false
+-- a command is asked of a sheet by its name
+abbrev pub asks_of_sheet : Command → Bool
+asks_of_sheet (cells form name) = true
+asks_of_sheet (merges form name) = true
+asks_of_sheet (links form name) = true
+asks_of_sheet (comments form name) = true
+asks_of_sheet (csv name asked) = true
+asks_of_sheet (json_rows name asked) = true
+asks_of_sheet (pivot sheet name) = true
+asks_of_sheet (precedents name) = true
+asks_of_sheet (dependents name position) = true
+asks_of_sheet (all_dependents name position) = true
+asks_of_sheet (check name) = true
+asks_of_sheet (part name) = true
+asks_of_sheet (resave name) = true
+asks_of_sheet (resave_file name) = true
+asks_of_sheet _ = false
 
--- the same command, asked of the sheet of this name where it is asked of one
-abbrev pub on_sheet : List ℕ → Command → Command
-on_sheet name (cells form other) = cells form name
-on_sheet name (merges form other) = merges form name
-on_sheet name (links form other) = links form name
-on_sheet name (comments form other) = comments form name
-on_sheet name (csv other asked) = csv name asked
-on_sheet name (json_rows other asked) = json_rows name asked
-on_sheet name (pivot other own) = pivot name own
-on_sheet name (precedents other) = precedents name
-on_sheet name (dependents other position) = dependents name position
-on_sheet name (all_dependents other position) = all_dependents name position
-on_sheet name (check other) = check name
-on_sheet name (part other) = part name
-on_sheet name (resave other) = resave name
-on_sheet name (resave_file other) = resave_file name
-on_sheet name command = command
+-- a command, asked of the sheet of this name where it is asked of a sheet
+abbrev pub asked_of_sheet : List ℕ → Command → Command
+asked_of_sheet name (cells form other) = cells form name
+asked_of_sheet name (merges form other) = merges form name
+asked_of_sheet name (links form other) = links form name
+asked_of_sheet name (comments form other) = comments form name
+asked_of_sheet name (csv other asked) = csv name asked
+asked_of_sheet name (json_rows other asked) = json_rows name asked
+asked_of_sheet name (pivot other own) = pivot name own
+asked_of_sheet name (precedents other) = precedents name
+asked_of_sheet name (dependents other position) = dependents name position
+asked_of_sheet name (all_dependents other position) = all_dependents name position
+asked_of_sheet name (check other) = check name
+asked_of_sheet name (part other) = part name
+asked_of_sheet name (resave other) = resave name
+asked_of_sheet name (resave_file other) = resave_file name
+asked_of_sheet name command = command
 
 -- a command, where it is asked of a sheet
 abbrev pub if_of_sheet : Command → Option Command
-if_of_sheet command = if is_of_sheet command then Some command else None
+if_of_sheet command = if asks_of_sheet command then Some command else None
 
 -- a command behind whose word stand `--sheet` and what chooses the sheet, in place of a name
 abbrev pub chosen_command : List ℕ → List ℕ → List (List ℕ) → Option Request
@@ -73,7 +72,7 @@ chosen_command word which further =
     option_map (chosen choice) (option_and_then if_of_sheet (command_on word [] further)))
     (choice_of which)
 
--- the words `WORD --sheet WHICH ..`
+-- what the words `WORD --sheet WHICH ..` ask for
 abbrev pub chosen_request : List (List ℕ) → Option Request
 chosen_request (word ∷ option ∷ which ∷ further) =
     if bytes_eq option (codes "--sheet") then chosen_command word which further else None
@@ -90,31 +89,32 @@ told_or words None = chosen_request words
 abbrev pub request_of : List (List ℕ) → Option Request
 request_of words = told_or words (command_of words)
 
--- the parts that it works on where it reads no input
+-- the parts that a request works on where it reads no input
 abbrev pub request_parts : Request → Option (List Part)
 request_parts (told command) = own_parts command
 request_parts (chosen choice command) = None
 
--- these bytes are the answer to it on a package of these parts: the output of the command, on the
+-- bytes are the answer to a request on a package of these parts: the output of the command, on the
 -- sheet that is chosen where its name isn't told
 abbrev pub IsAnswer : Request → List Part → List ℕ → Type 0
 IsAnswer (told command) parts output = IsOutput command parts output
 IsAnswer (chosen choice command) parts output =
-    (name : List ℕ) × Chooses parts choice name × IsOutput (on_sheet name command) parts output
+    (name : List ℕ) × Chooses parts choice name × IsOutput (asked_of_sheet name command)
+    parts output
 
--- why it has none: no sheet is chosen, or the command on that sheet has no output
+-- why a request has no answer: no sheet is chosen, or the command on that sheet has no output
 abbrev pub AnswerCause : Request → List Part → ToolError → Type 0
 AnswerCause (told command) parts error = OutputCause command parts error
 AnswerCause (chosen choice command) parts error =
     ChoiceCause choice parts error
     ⊎ ((name : List ℕ) × Chooses parts choice name
-    × OutputCause (on_sheet name command) parts error)
+    × OutputCause (asked_of_sheet name command) parts error)
 
--- the package has an answer to it
+-- the package has an answer to a request
 abbrev pub HasAnswer : Request → List Part → Type 0
 HasAnswer request parts = (output : List ℕ) × IsAnswer request parts output
 
--- when it is refused; want of memory may come at any time
+-- when a request is refused; want of memory may come at any time
 abbrev pub AnswerFails : Request → List Part → ToolError → Type 0
 AnswerFails request parts OutOfMemory = Unit {0}
 AnswerFails request parts error = AnswerCause request parts error

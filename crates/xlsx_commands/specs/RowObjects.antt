@@ -1,15 +1,13 @@
 -- What `rows --json --header` prints of the values of a sheet, and why it can't: an object of JSON
 -- for each row behind the first, whose fields are the keys.
-use Rattle.std.specs.Prelude.{◌≡◌, ◌≤◌, ◌<◌, ℕ, ◌-◌, List, Bool, true, false}
-use Rattle.std.specs.Prelude.{Option, Some, None}
+use Rattle.std.specs.Prelude.{◌≡◌, ◌≤◌, ◌<◌, ℕ, ◌-◌, List, Bool, true, false, Option, Some, None}
 use Rattle.std.specs.List.{flat_map, range_with_len}
-use Rattle.cell_data.specs.CellValue.{CellValue}
-use Rattle.cell_data.specs.Range.{height_of}
-use Rattle.cell_refs.specs.Positions.{least_area}
+use Rattle.cell_data.specs.Words.{CellValue, height_of}
+use Rattle.cell_refs.specs.Words.{least_area}
 use Rattle.cell_refs.specs.declared.dimensions.Dimensions.{Dimensions}
-use Rattle.json_rows.specs.RowObjects.{object_line, first_double}
-use Rattle.part_events.specs.Package.{Part}
-use Rattle.xlsx_rows.specs.declared.options.CsvOptions.{CsvOptions}
+use Rattle.json_rows.specs.RowObjects.{row_object_line, first_double}
+use Rattle.part_events.specs.Words.{Part}
+use Rattle.csv_rows.specs.declared.options.CsvOptions.{CsvOptions}
 use Rattle.xlsx_commands.specs.RowArrays.{values_placed, AreArraysOf}
 use Rattle.xlsx_commands.specs.SheetRows.{HasRowValues, area_count, asked_area, fields_placed}
 use Rattle.xlsx_commands.specs.declared.asked_rows.AskedRows.{AskedRows}
@@ -18,7 +16,7 @@ use Rattle.xlsx_commands.specs.declared.asked_rows.AskedRows.{AskedRows}
 abbrev pub objects_placed :
     CsvOptions → List (List ℕ) → List ((ℕ × ℕ) × CellValue) → Option Dimensions → ℕ → List ℕ
 objects_placed options keys values area first =
-    flat_map (λ row. object_line options keys (values_placed values area row))
+    flat_map (λ row. row_object_line options keys (values_placed values area row))
     (range_with_len first (height_of area - first))
 
 -- the keys that the first row of an area gives: its fields
@@ -26,8 +24,7 @@ abbrev pub keys_placed :
     CsvOptions → List ((ℕ × ℕ) × CellValue) → Option Dimensions → List (List ℕ)
 keys_placed options values area = fields_placed options values area 0
 
--- these are the objects of the rows of an area behind its first, which gives keys of which no two
--- are equal
+-- the objects of the rows of an area behind its first, which gives keys of which no two are equal
 pub record ArePlacedObjects
     (options : CsvOptions) (values : List ((ℕ × ℕ) × CellValue)) (area : Option Dimensions)
     (rows : List ℕ) : Type 0 where
@@ -55,13 +52,14 @@ pub record AreRowObjects
   pub reads : HasRowValues asked.shown parts name values
   pub placed : ArePlacedObjects asked.options values (rows_area asked values) rows
 
--- it is read, and that area has no row
+-- the sheet of this name is read, and the area of the rows that are asked for has no row
 pub record HasNoHeader (parts : List Part) (name : List ℕ) (asked : AskedRows) : Type 0 where
   pub values : List ((ℕ × ℕ) × CellValue)
   pub reads : HasRowValues asked.shown parts name values
   pub none : height_of (rows_area asked values) ≡ 0
 
--- it is read, and the first row of that area gives this key twice
+-- the sheet of this name is read, and the first row of the area of the rows that are asked for
+-- gives this key twice
 pub record HasDoubleKey
     (parts : List Part) (name : List ℕ) (asked : AskedRows) (key : List ℕ) : Type 0 where
   pub values : List ((ℕ × ℕ) × CellValue)
@@ -70,7 +68,7 @@ pub record HasDoubleKey
 
 -- ---- rows as arrays, or as objects where a header is asked for
 
--- these are the rows of the sheet of this name as JSON
+-- the sheet of this name is read, and these are its rows as JSON, under keys or not
 abbrev pub AreJsonRows : Bool → List Part → List ℕ → AskedRows → List ℕ → Type 0
 AreJsonRows false parts name asked rows = AreArraysOf parts name asked rows
 AreJsonRows true parts name asked rows = AreRowObjects parts name asked rows

@@ -2,7 +2,7 @@
 use Rattle.std.specs.Prelude.{◌≡◌, ◌⊎◌, ℕ, List, Option, Some}
 use Rattle.std.specs.List.{flat_map}
 use Rattle.cell_refs.specs.declared.dimensions.Dimensions.{Dimensions}
-use Rattle.part_events.specs.Package.{Part}
+use Rattle.part_events.specs.Words.{Part}
 use Rattle.list_lines.specs.Inside.{LiesInWorksheet}
 use Rattle.list_lines.specs.Lines.{area_line, comment_line, link_line}
 use Rattle.list_lines.specs.declared.content.LineForm.{LineForm}
@@ -12,11 +12,9 @@ use Rattle.xlsx_areas.specs.Hyperlinks.{Link, link_said}
 use Rattle.xlsx_areas.specs.MergeErrors.{MergesCause}
 use Rattle.xlsx_areas.specs.declared.hyperlink.Hyperlink.{Hyperlink}
 use Rattle.xlsx_comments.specs.CommentParts.{CommentSaid, CommentsSaid, author_of}
-use Rattle.xlsx_open.specs.Opening.{Opening, OpensAs, OpeningCause}
-use Rattle.xlsx_core.specs.Comments.{named_comments_ask}
-use Rattle.xlsx_core.specs.Links.{links_placed, PlacedLinksCause}
-use Rattle.xlsx_core.specs.Merges.{merges_placed}
-use Rattle.xlsx_core.specs.SheetReading.{PlacedCause, path_named}
+use Rattle.xlsx_open.specs.Words.{Opening, OpensAs, OpeningCause}
+use Rattle.xlsx_core.specs.Words.{named_comments_ask, links_placed, PlacedLinksCause, merges_placed}
+use Rattle.xlsx_core.specs.Words.{PlacedCause, path_named}
 
 -- the workbook opens, and the part of its first sheet of this name is at this path, if there is one
 pub record OpensAt (parts : List Part) (name : List ℕ) (path : Option (List ℕ)) : Type 0 where
@@ -36,7 +34,8 @@ PathCause = Option (List ℕ) → List Part → XlsxError → Type 0
 abbrev pub HasNamedCause : PathCause → List Part → List ℕ → XlsxError → Type 0
 HasNamedCause cause parts name error = HasNamed (λ path own. cause path own error) parts name
 
--- why something isn't had of that sheet; an opening is never refused because a sheet isn't found
+-- why something isn't had of the first sheet of a name; an opening is never refused because a sheet
+-- isn't found
 abbrev pub NamedCause : PathCause → List Part → List ℕ → XlsxError → Type 0
 NamedCause cause parts name (WorksheetNotFound asked) =
     HasNamedCause cause parts name (WorksheetNotFound asked)
@@ -49,7 +48,7 @@ NamedCause cause parts name error =
 abbrev pub HasMerges : List Part → List ℕ → List Dimensions → Type 0
 HasMerges parts name areas = HasNamed (λ path own. merges_placed path own ≡ Some areas) parts name
 
--- why these aren't had
+-- why the merged cells of a sheet aren't had, whose part is at a path
 abbrev pub MergesPathCause : List ℕ → PathCause
 MergesPathCause name path parts error = PlacedCause name path MergesCause parts error
 
@@ -61,7 +60,7 @@ NamedMergesCause parts name error = NamedCause (MergesPathCause name) parts name
 abbrev pub merge_lines : LineForm → List Dimensions → List ℕ
 merge_lines form areas = flat_map (area_line form) areas
 
--- these are the lines of the merged cells of that sheet
+-- the workbook opens, and these are the lines of the merged cells of its first sheet of this name
 pub record AreMergeLines (form : LineForm) (parts : List Part) (name lines : List ℕ) : Type 0 where
   pub areas : List Dimensions
   pub has : HasMerges parts name areas
@@ -73,20 +72,20 @@ pub record AreMergeLines (form : LineForm) (parts : List Part) (name lines : Lis
 abbrev pub HasLinks : List Part → List ℕ → List Link → Type 0
 HasLinks parts name links = HasNamed (λ path own. links_placed path own ≡ Some links) parts name
 
--- why these aren't had
+-- why the links of the sheet of a name are refused
 abbrev pub NamedLinksCause : List Part → List ℕ → XlsxError → Type 0
 NamedLinksCause parts name error = NamedCause (PlacedLinksCause name) parts name error
 
--- the line of a link
+-- the line of a link by its fields: its cells, where it leads, what is shown, and its tip
 abbrev pub line_of_link : LineForm → Link → List ℕ
 line_of_link form own =
     link_line form own.range own.target own.location own.displayed_text own.tooltip
 
--- the lines of links
+-- a line for each link, in order
 abbrev pub link_lines : LineForm → List Link → List ℕ
 link_lines form links = flat_map (line_of_link form) links
 
--- these are the lines of the links of that sheet
+-- the workbook opens, and these are the lines of the links of its first sheet of this name
 pub record AreLinkLines (form : LineForm) (parts : List Part) (name lines : List ℕ) : Type 0 where
   pub links : List Link
   pub has : HasLinks parts name links
@@ -107,11 +106,11 @@ abbrev pub HasComments : List Part → List ℕ → List CommentsSaid → Type 0
 HasComments parts name all =
     HasNamed (λ path own. (named_comments_ask name path).said own ≡ Some all) parts name
 
--- why these aren't had
+-- why the comments of a sheet aren't had, whose part is at a path
 abbrev pub CommentsPathCause : List ℕ → PathCause
 CommentsPathCause name path parts error = (named_comments_ask name path).cause parts error
 
--- why the comments of the sheet of a name aren't
+-- why the comments of the sheet of a name are refused
 abbrev pub NamedCommentsCause : List Part → List ℕ → XlsxError → Type 0
 NamedCommentsCause parts name error = NamedCause (CommentsPathCause name) parts name error
 
@@ -123,11 +122,11 @@ line_of_comment form part own = comment_line form own.position (author_of part o
 abbrev pub part_lines : LineForm → CommentsSaid → List ℕ
 part_lines form part = flat_map (line_of_comment form part) part.comments
 
--- those of all parts
+-- the lines of the comments of all parts of a sheet
 abbrev pub comment_lines : LineForm → List CommentsSaid → List ℕ
 comment_lines form all = flat_map (part_lines form) all
 
--- these are the lines of the comments of that sheet
+-- the workbook opens, and these are the lines of the comments of its first sheet of this name
 pub record AreCommentLines (form : LineForm) (parts : List Part) (name lines : List ℕ)
     : Type 0 where
   pub all : List CommentsSaid

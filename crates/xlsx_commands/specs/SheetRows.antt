@@ -1,18 +1,16 @@
 -- What `csv` prints of the values of a sheet, and when their area has too many cells for it.
-use Rattle.std.specs.Prelude.{◌≡◌, ◌≤◌, ◌<◌, ℕ, ◌+◌, ◌*◌, List, ◌++◌, map, Option, option_map}
-use Rattle.std.specs.Prelude.{Bool, true, false, if◌then◌else◌}
+use Rattle.std.specs.Prelude.{◌≡◌, ◌≤◌, ◌<◌, ℕ, ◌+◌, ◌*◌, List, ◌++◌, map, Option, option_map, Bool}
+use Rattle.std.specs.Prelude.{true, false, if◌then◌else◌}
 use Rattle.std.specs.List.{flat_map, range_with_len}
-use Rattle.cell_data.specs.CellValue.{CellValue}
-use Rattle.cell_data.specs.Range.{start_of, width_of, height_of}
-use Rattle.cell_refs.specs.Positions.{least_area}
+use Rattle.cell_data.specs.Words.{CellValue, start_of, width_of, height_of}
+use Rattle.cell_refs.specs.Words.{least_area}
 use Rattle.cell_refs.specs.declared.dimensions.Dimensions.{Dimensions}
 use Rattle.csv.specs.Writing.{row_text}
-use Rattle.part_events.specs.Package.{Part}
+use Rattle.part_events.specs.Words.{Part}
 use Rattle.sheet_listing.specs.SheetListing.{value_placed}
-use Rattle.xlsx_core.specs.SheetReading.{ReadsValuesAs}
-use Rattle.xlsx_core.specs.ShownSheet.{ShownAs}
-use Rattle.xlsx_rows.specs.RowsText.{bom_text, field_of, writer_of}
-use Rattle.xlsx_rows.specs.declared.options.CsvOptions.{CsvOptions}
+use Rattle.xlsx_core.specs.Words.{ReadsValuesAs, ShownAs}
+use Rattle.csv_rows.specs.RowsText.{bom_text, field_of, writer_of}
+use Rattle.csv_rows.specs.declared.options.CsvOptions.{CsvOptions}
 use Rattle.xlsx_commands.specs.declared.asked_rows.AskedRows.{AskedRows}
 
 -- a field for each column of an area, in a row of it that is counted from its first one
@@ -23,10 +21,10 @@ fields_placed options values area row =
     map (λ column. field_of options (value_placed (start.0 + row, start.1 + column) values))
     (range_with_len 0 (width_of area))
 
--- a record for each row of the area
-abbrev pub rows_placed :
+-- a record for each row of an area, as CSV has it
+abbrev pub area_records :
     CsvOptions → List ((ℕ × ℕ) × CellValue) → Option Dimensions → List ℕ
-rows_placed options values area =
+area_records options values area =
     flat_map (λ row. row_text (writer_of options) (fields_placed options values area row))
     (range_with_len 0 (height_of area))
 
@@ -34,15 +32,15 @@ rows_placed options values area =
 abbrev pub from_first : Dimensions → Dimensions
 from_first area = record { start = (0, 0); end = area.end }
 
--- the area that is asked for
+-- the area of a sheet that is asked for, from A1 or from its own first cell
 abbrev pub asked_area : Bool → Option Dimensions → Option Dimensions
 asked_area from_a1 area = if from_a1 then option_map from_first area else area
 
--- the rows in the area that is asked for, behind a byte order mark where one is
-abbrev pub rows_asked :
+-- the rows of values in the area that is asked for, behind a byte order mark where one is asked for
+abbrev pub rows_in_area :
     AskedRows → List ((ℕ × ℕ) × CellValue) → Option Dimensions → List ℕ
-rows_asked asked values area =
-    bom_text asked.options.bom ++ rows_placed asked.options values (asked_area asked.from_a1 area)
+rows_in_area asked values area =
+    bom_text asked.options.bom ++ area_records asked.options values (asked_area asked.from_a1 area)
 
 -- how many cells an area has
 abbrev pub area_count : Option Dimensions → ℕ
@@ -60,9 +58,9 @@ pub record AreRowsOf
   pub values : List ((ℕ × ℕ) × CellValue)
   pub reads : HasRowValues asked.shown parts name values
   pub fits : area_count (asked_area asked.from_a1 (least_area values)) ≤ 16777216
-  pub listed : rows ≡ rows_asked asked values (least_area values)
+  pub listed : rows ≡ rows_in_area asked values (least_area values)
 
--- it is read, and that area has more cells than are written
+-- the sheet of this name is read, and the area that is asked for has more cells than are written
 pub record HasLargeArea (parts : List Part) (name : List ℕ) (asked : AskedRows) : Type 0 where
   pub values : List ((ℕ × ℕ) × CellValue)
   pub reads : HasRowValues asked.shown parts name values

@@ -1,18 +1,18 @@
 -- What the program ends with after each refusal: a status and a text.
 use Rattle.std.specs.Prelude.{ℕ, List, ◌++◌, codes, string_bytes}
 use Rattle.std.specs.Fmt.{decimal}
-use Rattle.xlsx_error.specs.XlsxError.{text_of, Refusal, refusal_seen}
+use Rattle.xlsx_error.specs.XlsxError.{text_of, RefusalSeen, refusal_seen}
 use Rattle.xlsx_error.specs.declared.error.XlsxError.{XlsxError}
 use Rattle.xlsx_error.specs.declared.error.XlsxError.TheVariants as workbook
 use Rattle.xlsx_commands.specs.declared.error.ToolError.{ToolError}
 use Rattle.xlsx_commands.specs.declared.error.ToolError.TheVariants.{Usage, ReadFault}
-use Rattle.xlsx_commands.specs.declared.error.ToolError.TheVariants.{InputTooLarge}
-use Rattle.xlsx_commands.specs.declared.error.ToolError.TheVariants.{FileTooLarge, NotAPackage}
-use Rattle.xlsx_commands.specs.declared.error.ToolError.TheVariants.{NotAWorkbookFile, Workbook}
-use Rattle.xlsx_commands.specs.declared.error.ToolError.TheVariants.{WriteFault, OutOfMemory}
-use Rattle.xlsx_commands.specs.declared.error.ToolError.TheVariants.{BoxTooLarge, Unwritable}
-use Rattle.xlsx_commands.specs.declared.error.ToolError.TheVariants.{NotChosen, NoHeader}
-use Rattle.xlsx_commands.specs.declared.error.ToolError.TheVariants.{TwoColumns, GraphTooLarge}
+use Rattle.xlsx_commands.specs.declared.error.ToolError.TheVariants.{InputTooLarge, FileTooLarge}
+use Rattle.xlsx_commands.specs.declared.error.ToolError.TheVariants.{NotAPackage, NotAWorkbookFile}
+use Rattle.xlsx_commands.specs.declared.error.ToolError.TheVariants.{Workbook, WriteFault}
+use Rattle.xlsx_commands.specs.declared.error.ToolError.TheVariants.{OutOfMemory, BoxTooLarge}
+use Rattle.xlsx_commands.specs.declared.error.ToolError.TheVariants.{Unwritable, NotChosen}
+use Rattle.xlsx_commands.specs.declared.error.ToolError.TheVariants.{NoHeader, TwoColumns}
+use Rattle.xlsx_commands.specs.declared.error.ToolError.TheVariants.{GraphTooLarge}
 use Rattle.xlsx_commands.specs.declared.sheet_choice.SheetFault.{SheetFault}
 use Rattle.xlsx_commands.specs.declared.sheet_choice.SheetFault.TheVariants.{NoSheet, NamedBefore}
 use Rattle.xlsx_commands.specs.declared.sheet_choice.SheetFault.TheVariants.{NoWorksheet}
@@ -20,8 +20,8 @@ use Rattle.graph_reading.specs.declared.error.GraphError.{GraphError}
 use Rattle.graph_reading.specs.declared.error.GraphError.TheVariants as graph
 use Rattle.json_rows.specs.declared.error.ObjectsError.{ObjectsError}
 use Rattle.json_rows.specs.declared.error.ObjectsError.TheVariants as objects
-use Rattle.xlsx_rows.specs.declared.error.CsvError.{CsvError}
-use Rattle.xlsx_rows.specs.declared.error.CsvError.TheVariants as rows
+use Rattle.csv_rows.specs.declared.error.CsvError.{CsvError}
+use Rattle.csv_rows.specs.declared.error.CsvError.TheVariants as rows
 use Rattle.zip_archive.specs.declared.fault.ArchiveFault.{ArchiveFault}
 use Rattle.zip_archive.specs.declared.fault.ArchiveFault.TheVariants.{Compound, Damaged, NoArchive}
 
@@ -31,7 +31,7 @@ file_status NoArchive = 13
 file_status (Damaged at) = 13
 file_status Compound = 14
 
--- 0 is success, and 1 is kept for the system
+-- the status with which the program ends for an error; 0 is success, and 1 is kept for the system
 abbrev pub status_of : ToolError → ℕ
 status_of Usage = 2
 status_of ReadFault = 3
@@ -50,10 +50,10 @@ status_of (TwoColumns key) = 16
 status_of GraphTooLarge = 17
 
 -- why the input is no workbook file. The byte is counted from 0
-abbrev pub fault_text : ArchiveFault → List ℕ
-fault_text NoArchive = codes "no record of the end of an archive"
-fault_text Compound = codes "a compound file, as of .xls or encrypted ones"
-fault_text (Damaged at) = codes "no header in the directory at byte " ++ decimal at
+abbrev pub file_fault_text : ArchiveFault → List ℕ
+file_fault_text NoArchive = codes "no record of the end of an archive"
+file_fault_text Compound = codes "a compound file, as of .xls or encrypted ones"
+file_fault_text (Damaged at) = codes "no header in the directory at byte " ++ decimal at
 
 -- why no sheet is chosen. Sheets are counted from 1
 abbrev pub choice_text : SheetFault → List ℕ
@@ -71,7 +71,7 @@ error_text ReadFault = codes "read fault"
 error_text InputTooLarge = codes "input too large"
 error_text FileTooLarge = codes "file too large"
 error_text NotAPackage = codes "not a package"
-error_text (NotAWorkbookFile fault) = codes "not a workbook file: " ++ fault_text fault
+error_text (NotAWorkbookFile fault) = codes "not a workbook file: " ++ file_fault_text fault
 error_text (Workbook error) = text_of error
 error_text WriteFault = codes "write fault"
 error_text OutOfMemory = codes "out of memory"
@@ -113,7 +113,7 @@ pub data SeenError : Type 0 where
   file_too_large : SeenError
   not_a_package : SeenError
   not_a_workbook_file : ArchiveFault → SeenError
-  of_book : Refusal → SeenError
+  of_book : RefusalSeen → SeenError
   write_fault : SeenError
   out_of_memory : SeenError
   box_too_large : SeenError

@@ -1,14 +1,14 @@
 //! What is asked of rows behind the name of a sheet or of a table.
 ghost use Rattle.std.specs.Prelude.{◌≡◌, map, string_bytes, option_map};
-ghost use Rattle.xlsx_commands.specs.AskedRows.{behind, are_spelled, one_delimiter};
+ghost use Rattle.xlsx_commands.specs.AskedRows.{behind_front, are_spelled, one_delimiter};
 ghost use Rattle.xlsx_commands.specs.AskedRows.{delimiter_asked, one_digit, two_digits};
 ghost use Rattle.xlsx_commands.specs.AskedRows.{digits_asked, unless, delimiter_given};
 ghost use Rattle.xlsx_commands.specs.AskedRows.{digits_given, setting_asked, option_asked};
-ghost use Rattle.xlsx_commands.specs.AskedRows.{written_asked};
-ghost use Rattle.xlsx_commands.specs.AskedRows.{options_asked, plain_rows, table_rows_asked};
-ghost use Rattle.xlsx_commands.specs.AskedRows.{csv_asked, of_table, of_csv_table};
+ghost use Rattle.xlsx_commands.specs.AskedRows.{written_asked, options_asked, plain_rows};
+ghost use Rattle.xlsx_commands.specs.AskedRows.{table_rows_asked, csv_asked, of_table};
+ghost use Rattle.xlsx_commands.specs.AskedRows.{of_csv_table};
 
-use xlsx_rows::{CsvOptions, Delimiter, Digits};
+use csv_rows::{CsvOptions, Delimiter, Digits};
 
 /// How rows are written, and where their area begins.
 #[derive(Clone, Copy)]
@@ -50,7 +50,7 @@ impl AskedTable {
 
 /// What stands behind a front of a text.
 fn behind<'a>(text: &'a [u8], front: &[u8]) -> Option<&'a [u8]>
-    ensures { option_map (λ rest. rest.now) result ≡ behind front.now text.now }
+    ensures { option_map (λ rest. rest.now) result ≡ behind_front front.now text.now }
 {
     text.strip_prefix(front)
 }

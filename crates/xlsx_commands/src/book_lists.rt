@@ -1,8 +1,9 @@
 ghost use Rattle.std.specs.Prelude.{◌≡◌, map, string_bytes, IfOk, IfErr};
-ghost use Rattle.xlsx_workbook.specs.KeptContents.{pair_of};
-ghost use Rattle.xlsx_open.specs.Opening.{listed_sheet, OpeningCause};
-ghost use Rattle.xlsx_commands.specs.BookLists.{type_word, state_word, sheet_lines, name_lines};
-ghost use Rattle.xlsx_commands.specs.BookLists.{AreSheetLines, AreNameLines, HasMetadata};
+ghost use Rattle.xlsx_workbook.specs.Words.{pair_of};
+ghost use Rattle.xlsx_open.specs.Words.{listed_sheet, OpeningCause};
+ghost use Rattle.xlsx_commands.specs.BookLists.{sheet_type_word, state_word, sheet_lines};
+ghost use Rattle.xlsx_commands.specs.BookLists.{name_lines, AreSheetLines, AreNameLines};
+ghost use Rattle.xlsx_commands.specs.BookLists.{HasMetadata};
 ghost use Rattle.xlsx_commands.specs.Outputs.{CallFails};
 
 use crate::error::ToolError;
@@ -13,7 +14,7 @@ use std::alloc::{AllocError, Global};
 use xlsx_open::{Metadata, Opened, Sheet, SheetType, SheetVisible, open};
 
 fn type_word(typ: SheetType) -> &'static str
-    ensures { result.now ≡ type_word typ }
+    ensures { result.now ≡ sheet_type_word typ }
 {
     match typ {
         SheetType::WorkSheet => "worksheet",

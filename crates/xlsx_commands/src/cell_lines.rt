@@ -1,9 +1,7 @@
 ghost use Rattle.std.specs.Prelude.{IfOk, IfErr};
-ghost use Rattle.cell_data.specs.Pairs.{value_pairs, formula_pairs};
-ghost use Rattle.xlsx_core.specs.ReadCells.{HoldsCells, LieOnSheet};
-ghost use Rattle.xlsx_core.specs.SheetReading.{SheetCause, ReadsAs, ReadsValuesAs};
-ghost use Rattle.xlsx_core.specs.ShownSheet.{ShownAs};
-ghost use Rattle.xlsx_core.specs.Worksheets.{HasLeastRange, HasLeastRanges};
+ghost use Rattle.cell_data.specs.Words.{value_pairs, formula_pairs};
+ghost use Rattle.xlsx_core.specs.Words.{HoldsCells, LieOnSheet, SheetCause, ReadsAs, ReadsValuesAs};
+ghost use Rattle.xlsx_core.specs.Words.{ShownAs, HasLeastRange, HasLeastRanges};
 ghost use Rattle.xlsx_commands.specs.Outputs.{AreLinesOf, AreObjectsOf, AreCellLines, CallFails};
 
 use crate::error::ToolError;

@@ -1,10 +1,11 @@
 //! Laws of what is asked of a sheet that is chosen.
 ghost use Rattle.std.specs.Prelude.{◌≡◌, ℕ, List};
-ghost use Rattle.part_events.specs.Package.{Part};
+ghost use Rattle.part_events.specs.Words.{Part};
 ghost use Rattle.xlsx_commands.specs.ChosenSheets.{Chooses};
 ghost use Rattle.xlsx_commands.specs.Command.{Command};
 ghost use Rattle.xlsx_commands.specs.Outputs.{IsOutput};
-ghost use Rattle.xlsx_commands.specs.Request.{Request, chosen, on_sheet, IsAnswer, AnswerCause};
+ghost use Rattle.xlsx_commands.specs.Request.{Request, chosen, asked_of_sheet, IsAnswer};
+ghost use Rattle.xlsx_commands.specs.Request.{AnswerCause};
 ghost use Rattle.xlsx_commands.specs.declared.error.ToolError.{ToolError};
 ghost use Rattle.xlsx_commands.specs.declared.sheet_choice.SheetChoice.{SheetChoice};
 
@@ -28,9 +29,9 @@ pub fn chosen_sheets_answer_by_their_names()
     ensures onward { (parts : List Part) (choice : SheetChoice) (name output : List ℕ)
         (command : Command) → Chooses parts choice name →
         IsAnswer (chosen choice command) parts output →
-        IsOutput (on_sheet name command) parts output }
+        IsOutput (asked_of_sheet name command) parts output }
     ensures back { (parts : List Part) (choice : SheetChoice) (name output : List ℕ)
         (command : Command) → Chooses parts choice name →
-        IsOutput (on_sheet name command) parts output →
+        IsOutput (asked_of_sheet name command) parts output →
         IsAnswer (chosen choice command) parts output }
 {}

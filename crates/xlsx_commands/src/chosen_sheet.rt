@@ -1,12 +1,12 @@
 //! The sheet that is chosen among those of a workbook, and the answer to what is asked of it.
-ghost use Rattle.std.specs.Prelude.{◌≡◌, ◌&&◌, ℕ, List, true, not, map, option_map};
-ghost use Rattle.std.specs.Prelude.{if◌then◌else◌, string_bytes, IfOk, OnOk, IfErr};
+ghost use Rattle.std.specs.Prelude.{◌≡◌, ◌&&◌, ℕ, List, true, not, map, option_map, if◌then◌else◌};
+ghost use Rattle.std.specs.Prelude.{string_bytes, IfOk, OnOk, IfErr};
 ghost use Rattle.std.specs.BTreeSet.{contains_text};
 ghost use Rattle.std.specs.Str.{bytes_eq};
 ghost use Rattle.std.specs.Result.{result_map_both};
-ghost use Rattle.xlsx_open.specs.Opening.{listed_sheet};
-ghost use Rattle.xlsx_commands.specs.ChosenSheets.{has_name, is_worksheet, chosen_name, Chooses};
-ghost use Rattle.xlsx_commands.specs.ChosenSheets.{ChoiceFails};
+ghost use Rattle.xlsx_open.specs.Words.{listed_sheet};
+ghost use Rattle.xlsx_commands.specs.ChosenSheets.{has_sheet_name, is_worksheet, chosen_name};
+ghost use Rattle.xlsx_commands.specs.ChosenSheets.{Chooses, ChoiceFails};
 ghost use Rattle.xlsx_commands.specs.Command.{command_meant};
 ghost use Rattle.xlsx_commands.specs.Request.{chosen, request_meant, request_parts, IsAnswer};
 ghost use Rattle.xlsx_commands.specs.Request.{AnswerFails};
@@ -36,7 +36,7 @@ fn is_worksheet(typ: SheetType) -> bool
 
 /// Whether one of the sheets has this name.
 fn has_name(name: &str, sheets: &[Sheet]) -> bool
-    ensures { result ≡ has_name name.now (map listed_sheet sheets.now) }
+    ensures { result ≡ has_sheet_name name.now (map listed_sheet sheets.now) }
 {
     for sheet in sheets {
         if sheet.name.as_str() == name {

@@ -1,22 +1,21 @@
 ghost use Rattle.std.specs.Prelude.{◌≡◌, option_map};
 ghost use Rattle.xlsx_commands.specs.Command.{texts, command_meant, bare_command, named_command};
 ghost use Rattle.xlsx_commands.specs.Command.{rows_asked, sample, placed_command, command_of};
-ghost use Rattle.xlsx_commands.specs.AskedRows.{csv_asked, table_rows_asked};
 ghost use Rattle.xlsx_commands.specs.Command.{position_asked, dependents, csv, csv_table};
 ghost use Rattle.xlsx_commands.specs.Command.{further_command, asked_command, resave_asked};
-ghost use Rattle.xlsx_commands.specs.Command.{all_dependents, all_asked, option_command};
-ghost use Rattle.xlsx_commands.specs.Command.{book_list, sheet_list, if_json, listed_command};
+ghost use Rattle.xlsx_commands.specs.Command.{all_dependents, all_asked, option_command, book_list};
+ghost use Rattle.xlsx_commands.specs.Command.{sheet_list, if_json, listed_command, json_rows};
+ghost use Rattle.xlsx_commands.specs.Command.{table_objects, command_on};
+ghost use Rattle.xlsx_commands.specs.AskedRows.{csv_asked, table_rows_asked};
 ghost use Rattle.xlsx_commands.specs.AskedArrays.{of_json, arrays_asked, objects_asked};
-ghost use Rattle.xlsx_commands.specs.Command.{json_rows, table_objects};
 ghost use Rattle.list_lines.specs.declared.content.LineForm.TheVariants as json;
-ghost use Rattle.xlsx_commands.specs.Command.{command_on};
 
 use crate::asked_rows::{
     AskedRows, AskedTable, csv_asked, of_table, rows_asked_by, table_rows_asked,
 };
 use cell_refs::get_row_column;
+use csv_rows::CsvOptions;
 use list_lines::LineForm;
-use xlsx_rows::CsvOptions;
 use xlsx_sections::number_text;
 
 /// The most rows of a sample.

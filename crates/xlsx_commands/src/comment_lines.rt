@@ -1,6 +1,6 @@
 ghost use Rattle.std.specs.Prelude.{◌≡◌, ◌++◌, map, string_bytes, OnOk, IfOk, IfErr, Some};
 ghost use Rattle.xlsx_comments.specs.CommentParts.{comment_kept, comments_kept};
-ghost use Rattle.xlsx_core.specs.Comments.{named_comments_ask};
+ghost use Rattle.xlsx_core.specs.Words.{named_comments_ask};
 ghost use Rattle.xlsx_commands.specs.Outputs.{CallFails};
 ghost use Rattle.xlsx_commands.specs.SheetLists.{CommentsPathCause, NamedCommentsCause};
 ghost use Rattle.xlsx_commands.specs.SheetLists.{line_of_comment, part_lines, comment_lines};

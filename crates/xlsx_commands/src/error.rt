@@ -2,6 +2,7 @@ ghost use Rattle.std.specs.Prelude.{◌≡◌};
 ghost use Rattle.xlsx_commands.specs.Status.{file_status, status_of};
 
 use crate::sheet_choice::SheetFault;
+use csv_rows::CsvError;
 use graph_reading::GraphError;
 use input_package::InputPackage;
 use json_rows::ObjectsError;
@@ -10,7 +11,6 @@ use std::error::Error;
 use std::fmt;
 use xlsx_core::OpenFailure;
 use xlsx_error::XlsxError;
-use xlsx_rows::CsvError;
 use zip_archive::ArchiveFault;
 
 /// Why the program fails (docs/FORMAT.md).

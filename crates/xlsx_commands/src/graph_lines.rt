@@ -1,13 +1,13 @@
 //! What formulas name in all of a workbook.
 ghost use Rattle.std.specs.Prelude.{◌≡◌, ◌++◌, map, string_bytes, true, IfOk, IfErr, OnOk};
-ghost use Rattle.graph_reading.specs.BookRead.{BookCause, NamesTooMuch};
+ghost use Rattle.graph_reading.specs.BookRead.{GraphCause, NamesTooMuch};
 ghost use Rattle.graph_reading.specs.GraphRead.{IsGraph};
-ghost use Rattle.xlsx_core.specs.Merges.{sheets_of_book};
+ghost use Rattle.xlsx_core.specs.Words.{sheets_of_book};
 ghost use Rattle.xlsx_commands.specs.GraphLists.{AreAllDependents, AreGraphLines, HasLargeBook};
 ghost use Rattle.xlsx_commands.specs.GraphLists.{HasLargeDependents, ListedGraphCause};
 ghost use Rattle.xlsx_commands.specs.GraphLists.{NamedDependentsCause, graph_list_lines};
 ghost use Rattle.xlsx_commands.specs.GraphLists.{sheet_called};
-ghost use Rattle.xlsx_commands.specs.Outputs.{GraphFails};
+ghost use Rattle.xlsx_commands.specs.Outputs.{GraphListFails};
 
 use crate::command::GraphList;
 use crate::error::ToolError;
@@ -20,11 +20,11 @@ use xlsx_graph::{Standing, push_cycles, push_dependents_at, push_graph, push_ord
 
 /// The graph of a workbook that opened, whose package is needed no more.
 fn graph_of(alloc: Global, xlsx: Xlsx<InputPackage>) -> Result<BookGraph, ToolError>
-    ensures ok { xlsx.xml.source.is_told ≡ true →
+    ensures ok { xlsx.xml.source.is_visible ≡ true →
         IfOk result (IsGraph xlsx xlsx.xml.source.parts) }
     ensures err { let parts = xlsx.xml.source.parts in
-        xlsx.xml.source.is_told ≡ true →
-        IfErr result (GraphFails (BookCause parts (sheets_of_book xlsx))
+        xlsx.xml.source.is_visible ≡ true →
+        IfErr result (GraphListFails (GraphCause parts (sheets_of_book xlsx))
         (NamesTooMuch xlsx parts)) }
 {
     let mut xlsx = xlsx;
@@ -54,7 +54,7 @@ pub fn graph_lines(
 ) -> Result<Vec<u8>, ToolError>
     ensures ok { IfOk result (λ output. AreGraphLines list «package».parts output.items) }
     ensures err { let parts = «package».parts in
-        IfErr result (GraphFails (ListedGraphCause parts) (HasLargeBook parts)) }
+        IfErr result (GraphListFails (ListedGraphCause parts) (HasLargeBook parts)) }
 {
     let xlsx = Xlsx::new(alloc, package)?;
     let own = graph_of(alloc, xlsx)?;
@@ -81,7 +81,7 @@ pub fn all_dependents(
     ensures ok { IfOk result (λ output.
         AreAllDependents «package».parts name.now position output.items) }
     ensures err { let parts = «package».parts in
-        IfErr result (GraphFails (NamedDependentsCause parts name.now)
+        IfErr result (GraphListFails (NamedDependentsCause parts name.now)
         (HasLargeDependents parts name.now)) }
 {
     let xlsx = Xlsx::new(alloc, package)?;

@@ -1,11 +1,11 @@
-ghost use Rattle.std.specs.Prelude.{◌≡◌, ◌++◌, map, option_map, string_bytes, All, OnOk};
-ghost use Rattle.std.specs.Prelude.{IfOk, IfErr, Some};
+ghost use Rattle.std.specs.Prelude.{◌≡◌, ◌++◌, map, option_map, string_bytes, All, OnOk, IfOk};
+ghost use Rattle.std.specs.Prelude.{IfErr, Some};
 ghost use Rattle.std.specs.Option.{option_copied};
 ghost use Rattle.xlsx_areas.specs.Hyperlinks.{link_said};
-ghost use Rattle.xlsx_core.specs.Links.{links_placed, PlacedLinksCause};
+ghost use Rattle.xlsx_core.specs.Words.{links_placed, PlacedLinksCause};
 ghost use Rattle.xlsx_commands.specs.Outputs.{CallFails};
-ghost use Rattle.xlsx_commands.specs.SheetLists.{NamedLinksCause, IsKeptInside};
-ghost use Rattle.xlsx_commands.specs.SheetLists.{line_of_link, link_lines, AreLinkLines};
+ghost use Rattle.xlsx_commands.specs.SheetLists.{NamedLinksCause, IsKeptInside, line_of_link};
+ghost use Rattle.xlsx_commands.specs.SheetLists.{link_lines, AreLinkLines};
 
 use crate::error::ToolError;
 use crate::named_sheet::{OfSheet, of_sheet};

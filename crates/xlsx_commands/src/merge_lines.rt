@@ -1,6 +1,6 @@
 ghost use Rattle.std.specs.Prelude.{◌≡◌, string_bytes, All, IfOk, IfErr, Some};
 ghost use Rattle.list_lines.specs.Inside.{LiesInWorksheet};
-ghost use Rattle.xlsx_core.specs.Merges.{merges_placed};
+ghost use Rattle.xlsx_core.specs.Words.{merges_placed};
 ghost use Rattle.xlsx_commands.specs.Outputs.{CallFails};
 ghost use Rattle.xlsx_commands.specs.SheetLists.{MergesPathCause, NamedMergesCause, merge_lines};
 ghost use Rattle.xlsx_commands.specs.SheetLists.{AreMergeLines};

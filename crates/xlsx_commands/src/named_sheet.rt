@@ -1,7 +1,7 @@
 ghost use Rattle.std.specs.Prelude.{◌≡◌, ℕ, List, Option, true, IfOk, IfErr};
-ghost use Rattle.part_events.specs.Package.{Part};
-ghost use Rattle.xlsx_sections.specs.Failing.{FailsBy};
-ghost use Rattle.xlsx_core.specs.Worksheets.{path_of};
+ghost use Rattle.part_events.specs.Words.{Part};
+ghost use Rattle.xlsx_sections.specs.Words.{FailsBy};
+ghost use Rattle.xlsx_core.specs.Words.{path_of};
 ghost use Rattle.xlsx_commands.specs.Outputs.{CallFails};
 ghost use Rattle.xlsx_commands.specs.SheetLists.{HasNamed, NamedCause, PathCause};
 
@@ -20,7 +20,7 @@ pub trait OfSheet: Drop {
     /// Asks the workbook for it.
     fn ask(xlsx: &mut Xlsx<InputPackage>, name: &str) -> Result<Self, XlsxError>
         ensures ok { let old = xlsx.old.xml.source in
-            old.is_told ≡ true → IfOk result (λ found.
+            old.is_visible ≡ true → IfOk result (λ found.
             has found name.now (path_of xlsx.old name.now) old.parts) }
         ensures err { let old = xlsx.old.xml.source in
             let why = cause name.now (path_of xlsx.old name.now) old.parts in

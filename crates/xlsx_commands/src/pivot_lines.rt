@@ -1,6 +1,5 @@
 ghost use Rattle.std.specs.Prelude.{◌≡◌, string_bytes, IfOk, IfErr};
-ghost use Rattle.xlsx_pivots.specs.PivotTables.{pairs_of, pivots_kept};
-ghost use Rattle.xlsx_pivots.specs.Pivots.{PivotsCause};
+ghost use Rattle.xlsx_pivots.specs.Words.{pairs_of, pivots_kept, PivotsCause};
 ghost use Rattle.xlsx_commands.specs.Outputs.{CallFails};
 ghost use Rattle.xlsx_commands.specs.PivotLists.{HasPivots, ListedPivotsCause, pivot_lines};
 ghost use Rattle.xlsx_commands.specs.PivotLists.{ArePivotLines};

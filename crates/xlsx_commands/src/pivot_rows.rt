@@ -1,6 +1,6 @@
 ghost use Rattle.std.specs.Prelude.{◌≡◌, List, Some, string_bytes, IfOk, IfErr};
-ghost use Rattle.cell_data.specs.CellValue.{CellValue};
-ghost use Rattle.xlsx_pivot_cache.specs.CacheRecords.{cache_rows};
+ghost use Rattle.cell_data.specs.Words.{CellValue};
+ghost use Rattle.xlsx_pivot_cache.specs.Words.{cache_rows};
 ghost use Rattle.xlsx_commands.specs.CacheRows.{NamedPivotCause, row_lines, ArePivotRows};
 ghost use Rattle.xlsx_commands.specs.Outputs.{CallFails};
 ghost use Rattle.xlsx_commands.specs.SheetsRefused.{CacheFails};

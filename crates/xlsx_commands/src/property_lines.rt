@@ -3,8 +3,7 @@ ghost use Rattle.std.specs.Option.{option_copied};
 ghost use Rattle.xlsx_properties.specs.Kept.{held, custom_texts};
 ghost use Rattle.xlsx_commands.specs.Outputs.{CallFails};
 ghost use Rattle.xlsx_commands.specs.PropertyLists.{line_if_said, property_lines, custom_lines};
-ghost use Rattle.xlsx_commands.specs.PropertyLists.{AreByName};
-ghost use Rattle.xlsx_commands.specs.PropertyLists.{HasProperties, ArePropertyLines};
+ghost use Rattle.xlsx_commands.specs.PropertyLists.{AreByName, HasProperties, ArePropertyLines};
 ghost use Rattle.xlsx_commands.specs.PropertyLists.{ListedPropertiesCause};
 
 use crate::error::ToolError;

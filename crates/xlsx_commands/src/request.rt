@@ -1,8 +1,8 @@
 //! What words ask for: a command, or one of a sheet that they choose without telling its name.
 ghost use Rattle.std.specs.Prelude.{◌≡◌, [], option_map, option_and_then};
 ghost use Rattle.xlsx_commands.specs.Command.{texts, command_meant};
-ghost use Rattle.xlsx_commands.specs.Request.{request_meant, request_of, on_sheet, is_of_sheet};
-ghost use Rattle.xlsx_commands.specs.Request.{chosen_command, chosen_request};
+ghost use Rattle.xlsx_commands.specs.Request.{request_meant, request_of, asked_of_sheet};
+ghost use Rattle.xlsx_commands.specs.Request.{asks_of_sheet, chosen_command, chosen_request};
 
 use crate::command::{Command, command_of, command_on};
 use crate::sheet_choice::{SheetChoice, choice_of};
@@ -19,7 +19,7 @@ pub enum Request<'a> {
 impl<'a> Command<'a> {
     /// Whether it is asked of a sheet by its name.
     pub fn is_of_sheet(self) -> bool
-        ensures { result ≡ is_of_sheet (command_meant self.entry) }
+        ensures { result ≡ asks_of_sheet (command_meant self.entry) }
     {
         match self {
             Command::Cells(_, _) => true,
@@ -42,7 +42,7 @@ impl<'a> Command<'a> {
 
     /// The same command, asked of the sheet of this name where it is asked of one.
     pub fn on_sheet(self, name: &'a str) -> Command<'a>
-        ensures { command_meant result ≡ on_sheet name.now (command_meant self.entry) }
+        ensures { command_meant result ≡ asked_of_sheet name.now (command_meant self.entry) }
     {
         match self {
             Command::Cells(form, _) => Command::Cells(form, name),

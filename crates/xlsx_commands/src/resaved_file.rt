@@ -1,6 +1,6 @@
 ghost use Rattle.std.specs.Prelude.{◌≡◌, ◌≤◌, length, IfOk, IfErr};
 ghost use Rattle.package_file.specs.PackageFile.{package_file, longest_file};
-ghost use Rattle.xlsx_core.specs.SheetReading.{SheetCause};
+ghost use Rattle.xlsx_core.specs.Words.{SheetCause};
 ghost use Rattle.xlsx_commands.specs.Outputs.{FileFails};
 ghost use Rattle.xlsx_commands.specs.ResavedFile.{IsResavedFile, HasNoFile, MakingFails};
 
@@ -11,7 +11,7 @@ use input_package::InputPackage;
 use package_file::write_package_file;
 use part_events::MemoryPackage;
 use std::alloc::Global;
-use xlsx_out::{WrittenForm, has_zero_left, write_package};
+use xlsx_writer::{WrittenForm, has_zero_left, write_package};
 use zip_writer::WriteError;
 
 /// The most bytes that a workbook file may have.

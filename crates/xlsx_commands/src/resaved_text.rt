@@ -1,5 +1,5 @@
 ghost use Rattle.std.specs.Prelude.{IfOk, IfErr};
-ghost use Rattle.xlsx_core.specs.SheetReading.{SheetCause};
+ghost use Rattle.xlsx_core.specs.Words.{SheetCause};
 ghost use Rattle.xlsx_commands.specs.Outputs.{IsResaved, CallFails};
 
 use crate::cell_lines::reading_of;
@@ -8,7 +8,7 @@ use crate::laws::sheets_that_are_read_can_be_written;
 use crate::upgraded_text::text_of;
 use input_package::InputPackage;
 use std::alloc::Global;
-use xlsx_out::{WrittenForm, write_package};
+use xlsx_writer::{WrittenForm, write_package};
 
 /// The text of the package that is written of what is read of the sheet of this name, in version 2,
 /// and a line feed.

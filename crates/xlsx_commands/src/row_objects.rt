@@ -1,5 +1,5 @@
 ghost use Rattle.std.specs.Prelude.{IfOk, IfErr};
-ghost use Rattle.xlsx_core.specs.SheetReading.{SheetCause};
+ghost use Rattle.xlsx_core.specs.Words.{SheetCause};
 ghost use Rattle.xlsx_commands.specs.Outputs.{ObjectsFail};
 ghost use Rattle.xlsx_commands.specs.RowObjects.{AreRowObjects, AreJsonRows, LacksHeader};
 ghost use Rattle.xlsx_commands.specs.RowObjects.{GivesTwice, HasNoHeader, HasDoubleKey};

@@ -1,5 +1,5 @@
 ghost use Rattle.std.specs.Prelude.{IfOk, IfErr};
-ghost use Rattle.xlsx_core.specs.SheetReading.{SheetCause};
+ghost use Rattle.xlsx_core.specs.Words.{SheetCause};
 ghost use Rattle.xlsx_commands.specs.Outputs.{CallFails};
 ghost use Rattle.xlsx_commands.specs.SampleLines.{AreSampleLines, sample_name};
 

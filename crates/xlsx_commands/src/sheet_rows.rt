@@ -1,19 +1,17 @@
 ghost use Rattle.std.specs.Prelude.{◌≡◌, option_map, IfOk, IfErr};
-ghost use Rattle.cell_data.specs.Pairs.{value_pairs};
-ghost use Rattle.cell_data.specs.Range.{cells_of, bounds_of, blank_of};
-ghost use Rattle.xlsx_core.specs.SheetReading.{SheetCause};
-ghost use Rattle.xlsx_core.specs.Worksheets.{HasLeastRange};
+ghost use Rattle.cell_data.specs.Words.{value_pairs, cells_of, bounds_of, blank_of};
+ghost use Rattle.xlsx_core.specs.Words.{SheetCause, HasLeastRange};
 ghost use Rattle.xlsx_commands.specs.Outputs.{CallFails, RowsFail};
-ghost use Rattle.xlsx_commands.specs.SheetRows.{AreRowsOf, HasLargeArea, HasRowValues};
-ghost use Rattle.xlsx_commands.specs.SheetRows.{from_first, asked_area};
+ghost use Rattle.xlsx_commands.specs.SheetRows.{AreRowsOf, HasLargeArea, HasRowValues, from_first};
+ghost use Rattle.xlsx_commands.specs.SheetRows.{asked_area};
 
 use crate::asked_rows::AskedRows;
 use crate::cell_lines::{shown_values_of, values_of};
 use crate::error::ToolError;
 use cell_data::{Data, Range};
+use csv_rows::rows_csv;
 use input_package::InputPackage;
 use std::alloc::Global;
-use xlsx_rows::rows_csv;
 
 /// The same values in the area from A1 to their last row and column.
 fn from_first_cell(values: Range<Data>) -> Range<Data>

@@ -1,7 +1,7 @@
-ghost use Rattle.std.specs.Prelude.{◌≡◌, ◌<◌, ◌++◌, length, slice_get, string_bytes, Some};
-ghost use Rattle.std.specs.Prelude.{IsSome, OnOk, IfOk, IfErr, true, false};
+ghost use Rattle.std.specs.Prelude.{◌≡◌, ◌<◌, ◌++◌, length, slice_get, string_bytes, Some, IsSome};
+ghost use Rattle.std.specs.Prelude.{OnOk, IfOk, IfErr, true, false};
 ghost use Rattle.xlsx_tables.specs.Tables.{SheetTable, TablesCause};
-ghost use Rattle.xlsx_core.specs.TableList.{loaded_tables};
+ghost use Rattle.xlsx_core.specs.Words.{loaded_tables};
 ghost use Rattle.xlsx_commands.specs.Outputs.{CallFails};
 ghost use Rattle.xlsx_commands.specs.TableLists.{HasTable, ListedTablesCause, NamedTableCause};
 ghost use Rattle.xlsx_commands.specs.TableLists.{line_of_table, table_lines, AreTableLines};
@@ -19,7 +19,7 @@ use xlsx_core::Xlsx;
 
 /// The workbook, with the tables of its sheets.
 fn with_tables(alloc: Global, package: InputPackage) -> Result<Xlsx<InputPackage>, ToolError>
-    ensures loaded { IfOk result (λ xlsx. IsSome xlsx.lists.tables) }
+    ensures loaded { IfOk result (λ xlsx. IsSome xlsx.workbook.lists.tables) }
     ensures ok { IfOk result (OpensWithTables «package».parts) }
     ensures err { IfErr result (ListingFails TablesCause «package».parts) }
 {
@@ -41,7 +41,7 @@ fn push_table(
     index: usize,
     name: &str,
 ) -> Result<(), AllocError>
-    requires loaded { IsSome xlsx.now.lists.tables }
+    requires loaded { IsSome xlsx.now.workbook.lists.tables }
     requires index { index < length (loaded_tables xlsx.now) }
     ensures { (own : SheetTable) → slice_get (loaded_tables xlsx.now) index ≡ Some own →
         own.table.name ≡ name.now → OnOk result
@@ -57,7 +57,7 @@ fn lines_of_tables(
     form: LineForm,
     xlsx: &Xlsx<InputPackage>,
 ) -> Result<String, AllocError>
-    requires { IsSome xlsx.now.lists.tables }
+    requires { IsSome xlsx.now.workbook.lists.tables }
     ensures { IfOk result (λ out. string_bytes out ≡ table_lines form (loaded_tables xlsx.now)) }
 {
     let mut out = String::new(alloc);

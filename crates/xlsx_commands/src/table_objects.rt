@@ -7,10 +7,10 @@ ghost use Rattle.xlsx_commands.specs.TableRows.{HasLargeTable};
 use crate::error::ToolError;
 use crate::table_lines::table_of;
 use crate::table_rows::header_of;
+use csv_rows::CsvOptions;
 use input_package::InputPackage;
 use json_rows::keyed_rows_json;
 use std::alloc::Global;
-use xlsx_rows::CsvOptions;
 
 /// The rows of the data of the first table of this name, as objects of JSON under the names of its
 /// columns, each in a line.

@@ -1,19 +1,18 @@
 ghost use Rattle.std.specs.Prelude.{◌≡◌, [], map, string_bytes, slice_get, IfOk, IfErr};
 ghost use Rattle.std.specs.Option.{unwrap_or};
-ghost use Rattle.cell_data.specs.Range.{bounds_of};
-ghost use Rattle.cell_data.specs.Table.{table_columns, table_data};
+ghost use Rattle.cell_data.specs.Words.{bounds_of, table_columns, table_data};
 ghost use Rattle.xlsx_commands.specs.Outputs.{RowsFail};
 ghost use Rattle.xlsx_commands.specs.TableLists.{NamedTableCause};
-ghost use Rattle.xlsx_commands.specs.TableRows.{AreTableRows, HasLargeTable};
-ghost use Rattle.xlsx_commands.specs.TableRows.{fitted_names, header_over};
+ghost use Rattle.xlsx_commands.specs.TableRows.{AreTableRows, HasLargeTable, fitted_names};
+ghost use Rattle.xlsx_commands.specs.TableRows.{header_over};
 
 use crate::asked_rows::AskedTable;
 use crate::error::ToolError;
 use crate::table_lines::table_asked;
 use cell_data::{Data, Table};
+use csv_rows::rows_csv;
 use input_package::InputPackage;
 use std::alloc::{AllocError, Global};
-use xlsx_rows::rows_csv;
 
 /// The name at this index, and no text where there is none.
 fn name_at(names: &[String], index: usize) -> &str

@@ -4,22 +4,20 @@ use Rattle.std.proofs.Common.{◌≡◌, ℕ, List, length, Bool, true, false, S
 use Rattle.std.proofs.Common.{codes, inl, inr, refl, sym, ◌∙◌, ap, subst}
 use Rattle.std.specs.Prelude.{◌||◌, if◌then◌else◌, option_map}
 use Rattle.std.specs.Str.{bytes_eq}
-use Rattle.attr_text.specs.Attributes.{local_name_of}
-use Rattle.part_events.specs.Event.{Tag, Event, start}
-use Rattle.part_events.specs.Reading.{Reading}
+use Rattle.attr_text.specs.Words.{local_name_of}
+use Rattle.part_events.specs.Words.{Tag, Event, start, Reading}
 use Rattle.part_events.specs.declared.fault.XmlFault.TheVariants.{Break, Unclosed, Entity}
 use Rattle.xlsx_error.specs.declared.error.XlsxError.{XlsxError}
 use Rattle.xlsx_error.specs.declared.error.XlsxError.TheVariants.{OutOfMemory, Io, Xml, XmlEof}
 use Rattle.xlsx_error.specs.declared.error.XlsxError.TheVariants.{XmlAttr}
-use Rattle.xlsx_sections.specs.Elements.{ElementReadFails}
-use Rattle.xlsx_sections.specs.PartSection.{IsStepError, inside_of, section_left}
-use Rattle.xlsx_sections.specs.Refusal.{ElementFails, plain, plain_told}
+use Rattle.xlsx_sections.specs.Words.{ElementReadFails, IsStepError, inside_of, section_left}
+use Rattle.xlsx_sections.specs.Words.{ElementFails, plain, plain_told}
 use Rattle.xlsx_sections.proofs.Refused.{told_weaker}
 use Rattle.xlsx_sections.proofs.SectionsRead.{same_tag}
 use Rattle.xlsx_strings.specs.Strings.{string_of, end_in_string, IsStringError}
 use Rattle.xlsx_comments.specs.CommentParts.{is_author, entry_said, end_in_entry, comment_start}
-use Rattle.xlsx_comments.specs.CommentParts.{told_in_comment, end_in_comment}
-use Rattle.xlsx_comments.specs.CommentParts.{comment_said, author_said, with_start}
+use Rattle.xlsx_comments.specs.CommentParts.{told_in_comment, end_in_comment, comment_said}
+use Rattle.xlsx_comments.specs.CommentParts.{author_said, with_start}
 use Rattle.xlsx_comments.specs.Comments.{IsCommentStartError, IsCommentsError, IsToldInComment}
 
 pub step_error : (error : XlsxError) → IsStepError (codes "comments") error

@@ -1,14 +1,13 @@
 -- Comments that can be taken have no cause to be refused.
 use Rattle.std.proofs.Common.{◌≡◌, ℕ, List, [], Some, codes, inl, inr}
-use Rattle.part_events.specs.Package.{Part, part_of}
+use Rattle.part_events.specs.Words.{Part, part_of}
 use Rattle.xlsx_error.specs.declared.error.XlsxError.{XlsxError}
-use Rattle.xlsx_sections.specs.PartSection.{always}
-use Rattle.xlsx_parts.specs.PartSaid.{all_said}
+use Rattle.xlsx_sections.specs.Words.{always}
+use Rattle.xlsx_parts.specs.Words.{all_said}
 use Rattle.xlsx_parts.proofs.ManySaid.{no_some_cause}
 use Rattle.xlsx_parts.proofs.SaidFrom.{mapped_from, and_then_from}
 use Rattle.xlsx_parts.proofs.SoundParts.{no_said_cause}
-use Rattle.xlsx_relationships.specs.Paths.{relationships_beside}
-use Rattle.xlsx_relationships.specs.RelatedParts.{related_parts, all_lead_to}
+use Rattle.xlsx_relationships.specs.Words.{relationships_beside, related_parts, all_lead_to}
 use Rattle.xlsx_comments.specs.CommentParts.{CommentsSaid, entries_in, end_in_entries}
 use Rattle.xlsx_comments.specs.Comments.{CommentsCause, comments_type, entries_at, one_gathered}
 use Rattle.xlsx_comments.specs.Comments.{comments_at, sheet_comments_ask}

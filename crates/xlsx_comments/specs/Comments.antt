@@ -1,24 +1,18 @@
 -- The comments of a sheet (ECMA-376 part 1, section 18.7), and which refusals they have.
 use Rattle.std.specs.Prelude.{◌≡◌, ◌⊎◌, ⊤, ℕ, List, [], ◌∷◌, codes, Option, option_map}
-use Rattle.part_events.specs.Event.{Event}
-use Rattle.part_events.specs.Package.{Part, part_of, event_count}
+use Rattle.part_events.specs.Words.{Event, Part, part_of, event_count}
 use Rattle.part_events.specs.declared.fault.XmlFault.TheVariants.{Break, Entity}
 use Rattle.xlsx_error.specs.declared.error.XlsxError.{XlsxError}
-use Rattle.xlsx_error.specs.declared.error.XlsxError.TheVariants.{OutOfMemory, Io, Xml}
-use Rattle.xlsx_error.specs.declared.error.XlsxError.TheVariants.{XmlAttr, XmlEof, Alphanumeric}
+use Rattle.xlsx_error.specs.declared.error.XlsxError.TheVariants.{OutOfMemory, Io, Xml, XmlAttr}
+use Rattle.xlsx_error.specs.declared.error.XlsxError.TheVariants.{XmlEof, Alphanumeric}
 use Rattle.xlsx_error.specs.declared.error.XlsxError.TheVariants.{RangeWithoutRowComponent}
 use Rattle.xlsx_error.specs.declared.error.XlsxError.TheVariants.{RangeWithoutColumnComponent}
 use Rattle.xlsx_error.specs.declared.error.XlsxError.TheVariants.{ColumnNumberOverflow}
-use Rattle.xlsx_error.specs.declared.error.XlsxError.TheVariants.{RowNumberOverflow}
-use Rattle.xlsx_error.specs.declared.error.XlsxError.TheVariants.{DimensionCount}
-use Rattle.xlsx_sections.specs.Asking.{Ask}
-use Rattle.xlsx_sections.specs.Elements.{IsInsideRefused}
-use Rattle.xlsx_sections.specs.PartSection.{OptionalPartCause}
-use Rattle.xlsx_sections.specs.SectionEvents.{section_events_of}
-use Rattle.xlsx_parts.specs.PartSaid.{part_said, unless_absent}
-use Rattle.xlsx_relationships.specs.RelatedAsked.{each_related}
-use Rattle.xlsx_relationships.specs.RelationshipErrors.{IsRelatedError}
-use Rattle.xlsx_comments.specs.CommentParts.{Entry, CommentsSaid, entries_in, end_in_entries}
+use Rattle.xlsx_error.specs.declared.error.XlsxError.TheVariants.{RowNumberOverflow, DimensionCount}
+use Rattle.xlsx_sections.specs.Words.{Ask, IsInsideRefused, OptionalPartCause, section_events_of}
+use Rattle.xlsx_parts.specs.Words.{part_said, unless_absent}
+use Rattle.xlsx_relationships.specs.Words.{each_related, IsRelatedError}
+use Rattle.xlsx_comments.specs.CommentParts.{CommentEntry, CommentsSaid, entries_in, end_in_entries}
 use Rattle.xlsx_comments.specs.CommentParts.{gathered, told_in_comment}
 
 -- why the comments of a part can't be taken, which may be absent
@@ -37,7 +31,7 @@ IsCommentStartError RowNumberOverflow = ⊤
 IsCommentStartError (DimensionCount count) = ⊤
 IsCommentStartError _ = ⊥
 
--- how the end of the part is told in it
+-- how the end of the part is told in comments
 abbrev pub IsCommentsEnd : List ℕ → Type 0
 IsCommentsEnd name =
     (name ≡ codes "comments") ⊎ (name ≡ codes "author") ⊎ (name ≡ codes "t")
@@ -49,7 +43,7 @@ IsToldInComment (XmlEof element) (XmlEof told) = told.now ≡ told_in_comment el
 IsToldInComment (XmlEof element) told = ⊥
 IsToldInComment error told = told ≡ error
 
--- and those of all comments of a part, whatever the package tells
+-- the refusals that all comments of a part can have, whatever the package tells
 abbrev pub IsCommentsError : XlsxError → Type 0
 IsCommentsError OutOfMemory = ⊤
 IsCommentsError Io = ⊤
@@ -64,12 +58,12 @@ comments_type =
     codes "http://schemas.openxmlformats.org/officeDocument/2006/relationships/comments"
 
 -- what the elements of the part at a path say; an absent part says nothing
-abbrev pub entries_at : List Part → List ℕ → Option (List Entry)
+abbrev pub entries_at : List Part → List ℕ → Option (List CommentEntry)
 entries_at parts path =
     unless_absent [] (part_of parts path) (part_said (codes "comments") entries_in parts path)
 
--- what is said of one part
-abbrev pub one_gathered : List Entry → List CommentsSaid
+-- the names and the comments of one part, as a list
+abbrev pub one_gathered : List CommentEntry → List CommentsSaid
 one_gathered entries = gathered entries ∷ []
 
 -- the comments of the part at a path
@@ -90,6 +84,7 @@ comments_ask path = record {
   kind = AreSheetCommentsError;
 }
 
--- and for those of the sheet whose part is at a path, in the order of its relationships
+-- what is asked for the comments of the sheet whose part is at a path, in the order of its
+-- relationships
 abbrev pub sheet_comments_ask : List ℕ → Ask (List CommentsSaid)
 sheet_comments_ask path = each_related AreSheetCommentsError comments_ask comments_type path

@@ -1,15 +1,11 @@
 ghost use Rattle.std.proofs.Common.{inl};
-ghost use Rattle.std.specs.Prelude.{◌≡◌, ◌≤◌, true, Ok, Some, codes, suc, length, map};
-ghost use Rattle.std.specs.Prelude.{IfOk, OnOk, IfErr};
-ghost use Rattle.part_events.specs.Package.{Uses, event_count, part_of};
-ghost use Rattle.part_events.specs.Reading.{IsReading, ReadsPart};
-ghost use Rattle.part_events.specs.Walk.{section_ahead, is_closed_ahead, section_end};
+ghost use Rattle.std.specs.Prelude.{◌≡◌, ◌≤◌, true, Ok, Some, codes, suc, length, map, IfOk, OnOk};
+ghost use Rattle.std.specs.Prelude.{IfErr};
+ghost use Rattle.part_events.specs.Words.{Uses, event_count, part_of, IsReading, ReadsPart};
+ghost use Rattle.part_events.specs.Words.{section_ahead, is_closed_ahead, section_end};
 ghost use Rattle.xlsx_error.specs.declared.error.XlsxError.TheVariants.{Io};
-ghost use Rattle.xlsx_sections.specs.Asking.{Answers};
-ghost use Rattle.xlsx_sections.specs.Elements.{IsInsideRefused};
-ghost use Rattle.xlsx_sections.specs.Failing.{FailsBy};
-ghost use Rattle.xlsx_sections.specs.PartSection.{SectionFails};
-ghost use Rattle.xlsx_sections.specs.SectionEvents.{ReadsToEnd};
+ghost use Rattle.xlsx_sections.specs.Words.{Answers, IsInsideRefused, FailsBy, SectionFails};
+ghost use Rattle.xlsx_sections.specs.Words.{ReadsToEnd};
 ghost use Rattle.xlsx_comments.specs.CommentParts.{CommentsSaid, entries_in, end_in_entries};
 ghost use Rattle.xlsx_comments.specs.CommentParts.{gathered, entry_kept, comments_kept};
 ghost use Rattle.xlsx_comments.specs.Comments.{CommentsCause, IsCommentsError, entries_at};
@@ -32,11 +28,11 @@ fn entries_in<P: Package>(xml: &mut XlReader<P>, base: usize) -> Result<Vec<Entr
     requires reading { IsReading xml.old }
     requires within { base ≤ length xml.old.names }
     ensures reads { ReadsPart Io result xml.old xml.new }
-    ensures closed { xml.old.source.is_told ≡ true →
+    ensures closed { xml.old.source.is_visible ≡ true →
         OnOk result (is_closed_ahead base xml.old ≡ true) }
-    ensures ends { xml.old.source.is_told ≡ true →
+    ensures ends { xml.old.source.is_visible ≡ true →
         OnOk result (xml.new.at ≡ suc (section_end base xml.old)) }
-    ensures entries { xml.old.source.is_told ≡ true → IfOk result (λ entries.
+    ensures entries { xml.old.source.is_visible ≡ true → IfOk result (λ entries.
         entries_in (section_ahead base xml.old) ≡ Ok (map entry_kept entries.items)) }
     ensures err { IfErr result
         (SectionFails end_in_entries (IsInsideRefused entries_in) base xml.old xml.new) }
@@ -53,7 +49,7 @@ fn read_entries<P: Package>(xml: &mut XlReader<P>, path: &str) -> Result<Vec<Ent
     ensures uses { Uses (event_count xml.old.source.parts path.now) Io result
         xml.old.source xml.new.source }
     ensures to_end { ReadsToEnd (codes "comments") path.now result xml.old.source xml.new.source }
-    ensures entries { xml.old.source.is_told ≡ true → IfOk result (λ entries.
+    ensures entries { xml.old.source.is_visible ≡ true → IfOk result (λ entries.
         entries_at xml.old.source.parts path.now ≡ Some (map entry_kept entries.items)) }
     ensures err { IfErr result
         (FailsBy (CommentsCause (part_of xml.old.source.parts path.now))

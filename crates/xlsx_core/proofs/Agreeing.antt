@@ -1,23 +1,21 @@
 -- Packages that have the same parts where a sheet is read from say the same of it.
-use Rattle.std.proofs.Common.{◌≡◌, ℕ, List, Option, Some, None, refl, sym, ◌∙◌, ap, subst}
-use Rattle.std.proofs.Common.{codes, Ok, []}
+use Rattle.std.proofs.Common.{◌≡◌, ℕ, List, Option, Some, None, refl, sym, ◌∙◌, ap, subst, codes}
+use Rattle.std.proofs.Common.{Ok, []}
 use Rattle.std.specs.Prelude.{MatchOption, IsSomeAnd, IsOkAnd, option_and_then, unwrap_or, is_none}
-use Rattle.part_events.specs.Event.{Event}
-use Rattle.part_events.specs.Package.{Part, part_of}
-use Rattle.cell_data.specs.CellValue.{CellValue}
-use Rattle.cell_styles.specs.StyleMap.{StyleMap}
+use Rattle.part_events.specs.Words.{Event, Part, part_of}
+use Rattle.cell_data.specs.Words.{CellValue}
+use Rattle.cell_styles.specs.Words.{StyleMap}
 use Rattle.cell_styles.specs.declared.color.Color.{Color}
-use Rattle.xlsx_sections.specs.PartSection.{closed_section, closed_section_of}
-use Rattle.xlsx_styles.specs.Theme.{default_theme}
+use Rattle.xlsx_sections.specs.Words.{closed_section, closed_section_of}
+use Rattle.xlsx_styles.specs.Words.{default_theme}
 use Rattle.xlsx_theme.specs.ThemePart.{own_colors, theme_colors}
 use Rattle.xlsx_stylesheet.specs.StyleSheet.{cell_formats_in, AreStyles, HasStyles}
 use Rattle.xlsx_strings.specs.Strings.{strings_in}
-use Rattle.xlsx_workbook.specs.Paths.{workbook_part, relationships_part, strings_part, theme_part}
-use Rattle.xlsx_relationships.specs.Paths.{folder_of}
-use Rattle.xlsx_workbook.specs.Paths.{styles_part}
-use Rattle.xlsx_relationships.specs.Relationships.{path_in, related_in}
-use Rattle.xlsx_open.specs.Opening.{Opening, HasPath, OpensAs, HasNothing, IsOpening}
-use Rattle.xlsx_open.specs.SharedParts.{SharedSaid, HasShared}
+use Rattle.xlsx_workbook.specs.Words.{workbook_part, relationships_part, strings_part, theme_part}
+use Rattle.xlsx_workbook.specs.Words.{styles_part}
+use Rattle.xlsx_relationships.specs.Words.{folder_of, path_in, related_in}
+use Rattle.xlsx_open.specs.Words.{Opening, HasPath, OpensAs, HasNothing, IsOpening, SharedSaid}
+use Rattle.xlsx_open.specs.Words.{HasShared}
 use Rattle.xlsx_core.specs.Agreement.{HaveSamePart, HaveSameBook, HaveSameSheet}
 use Rattle.xlsx_core.specs.SheetReading.{SayTheSame, ReadsAs, IsReadable, path_named, events_at}
 use Rattle.xlsx_core.proofs.SheetLaws.{one_reading}

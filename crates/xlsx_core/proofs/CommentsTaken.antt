@@ -1,11 +1,10 @@
 -- How the comments of the sheet of a name are refused where no sheet has it.
 use Rattle.std.proofs.Common.{ℕ, List, Option, Some, None, Result, Err, inl, refl, arith}
-use Rattle.part_events.specs.Package.{PackageState, LeavesPackage}
+use Rattle.part_events.specs.Words.{PackageState, LeavesPackage}
 use Rattle.xlsx_error.specs.declared.error.XlsxError.{XlsxError}
 use Rattle.xlsx_error.specs.declared.error.XlsxError.TheVariants.{OutOfMemory, Io}
 use Rattle.xlsx_error.specs.declared.error.XlsxError.TheVariants.{WorksheetNotFound}
-use Rattle.xlsx_sections.specs.Asking.{Answers}
-use Rattle.xlsx_sections.specs.Failing.{FailsBy}
+use Rattle.xlsx_sections.specs.Words.{Answers, FailsBy}
 use Rattle.xlsx_sections.proofs.Failing.{same_parts}
 use Rattle.xlsx_comments.specs.CommentParts.{CommentsSaid}
 use Rattle.xlsx_comments.specs.Comments.{sheet_comments_ask}

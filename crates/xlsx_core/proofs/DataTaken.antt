@@ -1,31 +1,24 @@
 -- The part of a sheet is read up to the end of the sheet's data.
-use Rattle.std.proofs.Common.{◌≡◌, ◌+◌, ℕ, suc, List, length, Option, Some, None}
-use Rattle.std.proofs.Common.{Result, Ok, Err, true, String, Global, ◌∙◌, ap, arith}
-use Rattle.std.proofs.Common.{codes}
-use Rattle.std.proofs.Common.{string_bytes}
+use Rattle.std.proofs.Common.{◌≡◌, ◌+◌, ℕ, suc, List, length, Option, Some, None, Result, Ok, Err}
+use Rattle.std.proofs.Common.{true, String, Global, ◌∙◌, ap, arith, codes, string_bytes}
 use Rattle.std.specs.Prelude.{IsSomeAnd, OnOk, MatchOption, IfSome}
 use Rattle.std.specs.Option.{option_map_or}
 use Rattle.std.proofs.lemmas.List.Sums.{sum_by_push}
 use Rattle.cell_data.specs.declared.range.Range.{Range}
 use Rattle.cell_data.specs.declared.value.Data.{Data}
 use Rattle.cell_refs.specs.declared.dimensions.Dimensions.{Dimensions}
-use Rattle.part_events.specs.Event.{Event}
-use Rattle.part_events.specs.Package.{Part, PackageState, NeverFalls, CountsUp}
-use Rattle.part_events.specs.Reading.{Reading, ReadsPart, events_of}
-use Rattle.part_events.specs.Walk.{section_end}
+use Rattle.part_events.specs.Words.{Event, Part, PackageState, NeverFalls, CountsUp, Reading}
+use Rattle.part_events.specs.Words.{ReadsPart, events_of, section_end}
 use Rattle.xlsx_error.specs.declared.error.XlsxError.{XlsxError}
 use Rattle.xlsx_error.specs.declared.error.XlsxError.TheVariants.{Io}
-use Rattle.xlsx_sections.specs.Elements.{ReachesEnd}
-use Rattle.xlsx_sections.specs.PartSection.{PartSection, last_of}
-use Rattle.xlsx_sections.specs.SectionEvents.{section_events}
-use Rattle.xlsx_cells.specs.SheetPart.{EntersData}
-use Rattle.xlsx_cells.specs.Stream.{Stream}
+use Rattle.xlsx_sections.specs.Words.{ReachesEnd, PartSection, last_of, section_events}
+use Rattle.xlsx_cells.specs.Words.{EntersData, Stream}
 use Rattle.xlsx_core.specs.Listing.{IsPutBehind, CountsAtLeast, listed_data}
 use Rattle.xlsx_core.specs.SheetReading.{TakesExactly, data_events}
 
 -- a part whose data were entered has so many events up to their end
 data_size : (path : List ℕ) (area : Dimensions) (old : PackageState) (mid : Stream)
-    → EntersData path area old mid → old.is_told ≡ true
+    → EntersData path area old mid → old.is_visible ≡ true
     → data_events (Some path) old.parts ≡ suc (section_end mid.base mid.reading)
 data_size path area old mid enters told =
     ap (λ (part : Option (List Event)). option_map_or (section_events (codes "sheetData")) part 0)
@@ -37,10 +30,10 @@ data_size path area old mid enters told =
 path_taken : {A : Type 0} (result : Result A XlsxError) (path : List ℕ) (area : Dimensions)
     (old : PackageState) (mid : Stream) (new : Reading) → EntersData path area old mid
     → ReadsPart Io result mid.reading new
-    → (mid.reading.source.is_told ≡ true → OnOk result (ReachesEnd mid.base mid.reading new))
+    → (mid.reading.source.is_visible ≡ true → OnOk result (ReachesEnd mid.base mid.reading new))
     → TakesExactly (data_events (Some path) old.parts) result old new.source
 path_taken (Ok value) path area old mid new enters reads ends = λ told.
-    let reaches = ends (enters.parts.is_told ∙ told) in
+    let reaches = ends (enters.parts.is_visible ∙ told) in
     omega (
       arith,
       data_size path area old mid enters told,
@@ -56,7 +49,7 @@ pub data_taken : {A : Type 0} (result : Result A XlsxError) (path : Option (List
     (area : Dimensions) (old : PackageState) (mid : Stream) (new : Reading)
     → IsSomeAnd path (λ there. EntersData there area old mid)
     → ReadsPart Io result mid.reading new
-    → (mid.reading.source.is_told ≡ true → OnOk result (ReachesEnd mid.base mid.reading new))
+    → (mid.reading.source.is_visible ≡ true → OnOk result (ReachesEnd mid.base mid.reading new))
     → TakesExactly (data_events path old.parts) result old new.source
 data_taken result None area old mid new is reads ends = absurd is
 data_taken result (Some path) area old mid new enters reads ends =

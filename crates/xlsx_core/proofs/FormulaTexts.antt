@@ -1,21 +1,17 @@
 -- The formulas that are listed with what they cover are those of their sheet.
-use Rattle.std.proofs.Common.{◌≡◌, ℕ, suc, List, [], ◌∷◌, map, length, Bool, true, false, refl}
-use Rattle.std.proofs.Common.{sym, ◌∙◌, ap, Option, Some, None, Result, Ok, Err, inl, inr, arith}
+use Rattle.std.proofs.Common.{◌≡◌, ℕ, suc, List, [], ◌∷◌, map, length, Bool, true, false, refl, sym}
+use Rattle.std.proofs.Common.{◌∙◌, ap, Option, Some, None, Result, Ok, Err, inl, inr, arith}
 use Rattle.std.specs.Prelude.{if◌then◌else◌, not, filter, zip, option_and_then, option_map}
-use Rattle.cell_data.specs.Pairs.{with_meaning}
-use Rattle.cell_refs.specs.Positions.{last_of_each}
+use Rattle.cell_data.specs.Words.{with_meaning}
+use Rattle.cell_refs.specs.Words.{last_of_each}
 use Rattle.cell_refs.specs.declared.dimensions.Dimensions.{Dimensions}
-use Rattle.part_events.specs.Event.{Event}
-use Rattle.part_events.specs.Package.{Part, part_of}
-use Rattle.xlsx_parts.specs.PartSaid.{unless_absent}
-use Rattle.xlsx_sections.specs.Answers.{and_others}
-use Rattle.xlsx_sections.specs.Refusal.{Refusal}
-use Rattle.xlsx_formulas.specs.Formula.{FormulaText, behind_formulas}
-use Rattle.xlsx_cells.specs.CoveredFormulas.{covers_said, with_covers, is_written}
-use Rattle.xlsx_cells.specs.CoveredFormulas.{covered_formulas}
-use Rattle.xlsx_cells.specs.Marks.{Mark, row_start, row_end, cell}
-use Rattle.xlsx_cells.specs.Sheet.{behind_row, answers_from, placed_formulas, formulas_along}
-use Rattle.xlsx_cells.specs.Sheet.{is_empty, used_formulas}
+use Rattle.part_events.specs.Words.{Event, Part, part_of}
+use Rattle.xlsx_parts.specs.Words.{unless_absent}
+use Rattle.xlsx_sections.specs.Words.{and_others, Refusal}
+use Rattle.xlsx_formulas.specs.Words.{FormulaText, behind_formulas}
+use Rattle.xlsx_cells.specs.Words.{covers_said, with_covers, is_written, covered_formulas, Mark}
+use Rattle.xlsx_cells.specs.Words.{row_start, row_end, cell, behind_row, answers_from}
+use Rattle.xlsx_cells.specs.Words.{placed_formulas, formulas_along, is_empty, used_formulas}
 use Rattle.xlsx_core.specs.FormulaList.{FormulaSaid, formula_on, formula_pair}
 
 -- ---- each cell has what it covers

@@ -2,53 +2,39 @@
 use Rattle.std.proofs.Common.{◌≡◌, ℕ, List, [], ◌∷◌, ◌++◌, map, length, Bool, true, false, refl}
 use Rattle.std.proofs.Common.{sym, ◌∙◌, ap, Option, Some, None, Result, Ok, Err, inl, inr, ◌⊎◌}
 use Rattle.std.proofs.Common.{arith, codes, String, eqb-true, subst}
-use Rattle.std.specs.Prelude.{option_map, option_and_then, if◌then◌else◌, IsSomeAnd, is_some}
-use Rattle.std.specs.Prelude.{IfOk, OnOk}
+use Rattle.std.specs.Prelude.{option_map, option_and_then, if◌then◌else◌, IsSomeAnd, is_some, IfOk}
+use Rattle.std.specs.Prelude.{OnOk}
 use Rattle.std.specs.declared.alloc.Global.{Global}
-use Rattle.cell_data.specs.Gathered.{cells_gathered}
-use Rattle.cell_data.specs.Pairs.{with_meaning}
+use Rattle.cell_data.specs.Words.{cells_gathered, with_meaning}
 use Rattle.cell_data.specs.declared.gathered.GatheredCells.{GatheredCells}
-use Rattle.cell_refs.specs.Positions.{last_of_each}
+use Rattle.cell_refs.specs.Words.{last_of_each}
 use Rattle.cell_refs.specs.declared.dimensions.Dimensions.{Dimensions}
-use Rattle.part_events.specs.Event.{Event}
-use Rattle.part_events.specs.Nesting.{whole, whole_rest, goes_on}
-use Rattle.part_events.specs.Package.{Part, PackageState, UsesPackage, LeavesPackage, CountsUp}
-use Rattle.part_events.specs.Package.{part_of, event_count}
-use Rattle.part_events.specs.Reading.{Reading, events_of}
-use Rattle.part_events.specs.Section.{behind_start, is_closed, content, is_named}
+use Rattle.part_events.specs.Words.{Event, whole, whole_rest, goes_on, Part, PackageState}
+use Rattle.part_events.specs.Words.{UsesPackage, LeavesPackage, CountsUp, part_of, event_count}
+use Rattle.part_events.specs.Words.{Reading, events_of, behind_start, is_closed, content, is_named}
 use Rattle.xlsx_error.specs.declared.error.XlsxError.{XlsxError}
 use Rattle.xlsx_error.specs.declared.error.XlsxError.TheVariants.{NotAWorksheet, OutOfMemory, Io}
-use Rattle.xlsx_sections.specs.Elements.{ReachesEnd}
-use Rattle.xlsx_sections.specs.Failing.{FailsBy}
+use Rattle.xlsx_sections.specs.Words.{ReachesEnd, FailsBy, PartSection, section_in, section_from}
+use Rattle.xlsx_sections.specs.Words.{inside_of, has_end, if_closed, Refusal, section_events_of}
 use Rattle.xlsx_sections.proofs.Failing.{fails_by_weaker, same_parts}
-use Rattle.xlsx_sections.specs.PartSection.{PartSection, section_in, section_from, inside_of}
-use Rattle.xlsx_sections.specs.PartSection.{has_end, if_closed}
-use Rattle.xlsx_sections.specs.Refusal.{Refusal}
-use Rattle.xlsx_sections.specs.SectionEvents.{section_events_of}
-use Rattle.xlsx_parts.specs.ManyAsked.{Appends}
-use Rattle.xlsx_parts.specs.PartSaid.{ok_or_none, section_said, is_whole, unless_absent}
-use Rattle.xlsx_parts.specs.WholePart.{IfThere}
+use Rattle.xlsx_parts.specs.Words.{Appends, ok_or_none, section_said, is_whole, unless_absent}
+use Rattle.xlsx_parts.specs.Words.{IfThere, SheetPath}
 use Rattle.xlsx_parts.proofs.ManySaid.{no_some_cause}
 use Rattle.xlsx_parts.proofs.SaidRead.{said_there, is_whole_part}
-use Rattle.xlsx_parts.specs.SheetPaths.{SheetPath}
-use Rattle.xlsx_values.specs.Value.{Grounds}
-use Rattle.xlsx_formulas.specs.Formula.{FormulaText}
-use Rattle.xlsx_cells.specs.CellsReader.{formulas_alone}
-use Rattle.xlsx_cells.specs.CoveredFormulas.{covered_in, covered_among, covered_meaning}
-use Rattle.xlsx_cells.specs.CoveredFormulas.{covered_entries, covered_formulas, covers_said}
-use Rattle.xlsx_cells.specs.Head.{dimensions_in, other_in}
-use Rattle.xlsx_cells.specs.Marks.{Mark, marks}
-use Rattle.xlsx_cells.specs.Sheet.{formulas_written, formulas_along}
-use Rattle.xlsx_cells.specs.SheetPart.{SheetPartCause, DataCause, HoldsFormulas, EntersData}
-use Rattle.xlsx_cells.specs.Stream.{Stream, data_ahead}
+use Rattle.xlsx_values.specs.Words.{ValueContext}
+use Rattle.xlsx_formulas.specs.Words.{FormulaText}
+use Rattle.xlsx_cells.specs.Words.{formulas_alone, covered_in, covered_among, covered_meaning}
+use Rattle.xlsx_cells.specs.Words.{covered_entries, covered_formulas, covers_said, dimensions_in}
+use Rattle.xlsx_cells.specs.Words.{other_in, Mark, marks, formulas_written, formulas_along}
+use Rattle.xlsx_cells.specs.Words.{SheetPartCause, DataCause, HoldsFormulas, EntersData, Stream}
+use Rattle.xlsx_cells.specs.Words.{data_ahead}
 use Rattle.xlsx_cells.specs.declared.covered_cells.CoveredFormula.{CoveredFormula}
-use Rattle.xlsx_core.specs.FormulaList.{if_dimensions, data_formulas, part_formulas}
-use Rattle.xlsx_core.specs.FormulaList.{path_formulas, no_grounds, NumberedSheet, sheet_formulas}
+use Rattle.xlsx_core.specs.FormulaList.{if_dimensions, data_formulas, part_formulas, path_formulas}
+use Rattle.xlsx_core.specs.FormulaList.{no_context, NumberedSheet, sheet_formulas}
 use Rattle.xlsx_core.specs.FormulaList.{SheetFormulasCause, workbook_formulas, FormulasCause}
-use Rattle.xlsx_core.specs.FormulaList.{formulas_ask, IsFormulasError}
-use Rattle.xlsx_core.specs.FormulaList.{numbered_from, FormulaSaid, formula_on, formula_pair}
-use Rattle.xlsx_core.specs.Worksheets.{HasSheetData, IsNoWorksheet, AnswersFormulas}
-use Rattle.xlsx_core.specs.Worksheets.{RangePartCause}
+use Rattle.xlsx_core.specs.FormulaList.{formulas_ask, IsFormulasError, sheets_from, FormulaSaid}
+use Rattle.xlsx_core.specs.FormulaList.{formula_on, formula_pair}
+use Rattle.xlsx_core.specs.Worksheets.{HasSheetData, IsNoWorksheet, AnswersFormulas, RangePartCause}
 use Rattle.xlsx_core.proofs.FormulaTexts.{as_many, as_many_along, text_alone, texts_used}
 use Rattle.xlsx_core.proofs.FormulaTexts.{pairs_alone}
 use Rattle.xlsx_core.proofs.LastOfEach.{last_mapped}
@@ -91,12 +77,12 @@ nothing_says events none =
     ∙ some_nothing (other_in (whole events)) none.other
 
 no_data : (found : Option PartSection) (name : String Global)
-    → IsSomeAnd found (λ s. DataCause formulas_alone no_grounds s (NotAWorksheet name)) → ⊥
+    → IsSomeAnd found (λ s. DataCause formulas_alone no_context s (NotAWorksheet name)) → ⊥
 no_data None name cause = cause
 no_data (Some s) name cause = cause
 
 other_says : (part : Option (List Event)) (name : String Global)
-    → IfThere (SheetPartCause formulas_alone no_grounds) part (NotAWorksheet name)
+    → IfThere (SheetPartCause formulas_alone no_context) part (NotAWorksheet name)
     → unless_absent [] part (option_and_then part_formulas part) ≡ Some []
 other_says None name cause = absurd cause
 other_says (Some events) name (inl head) =
@@ -110,7 +96,7 @@ other_says (Some events) name (inr cause) =
     absurd (no_data (section_in (codes "sheetData") events) name cause)
 
 pub none_said : (parts : List Part) (path : List ℕ) (name : String Global)
-    → IfThere (SheetPartCause formulas_alone no_grounds) (part_of parts path) (NotAWorksheet name)
+    → IfThere (SheetPartCause formulas_alone no_context) (part_of parts path) (NotAWorksheet name)
     → path_formulas parts path ≡ Some []
 none_said parts path name cause = other_says (part_of parts path) name cause
 
@@ -130,7 +116,7 @@ there_said parts path events found there is =
 -- the data of a sheet that were entered and read to their end
 pub entered_say : (result : Result (GatheredCells CoveredFormula) XlsxError) (path : List ℕ)
     (area : Dimensions) (old : PackageState) (mid : Stream) (new : Reading)
-    → EntersData path area old mid → old.is_told ≡ true
+    → EntersData path area old mid → old.is_visible ≡ true
     → OnOk result (ReachesEnd mid.base mid.reading new)
     → IfOk result (λ cells. covered_in (data_ahead mid)
     ≡ Ok (covered_entries (cells_gathered cells)))
@@ -149,8 +135,8 @@ entered_say (Ok cells) path area old mid new enters told ends is =
     }) is)
 
 range_there : (part : Option (List Event)) (error : XlsxError) → IsOther error
-    → IfThere (SheetPartCause formulas_alone no_grounds) part error
-    → IfThere (RangePartCause formulas_alone no_grounds) part error
+    → IfThere (SheetPartCause formulas_alone no_context) part error
+    → IfThere (RangePartCause formulas_alone no_context) part error
 range_there None error other cause = cause
 range_there (Some events) (NotAWorksheet name) other cause = absurd other
 range_there (Some events) error other cause = cause
@@ -158,11 +144,11 @@ range_there (Some events) error other cause = cause
 -- a refusal that tells something else than that the part is no worksheet
 pub other_fails : (part : Option (List Event)) (old new : PackageState) (error : XlsxError)
     → IsOther error
-    → FailsBy (IfThere (SheetPartCause formulas_alone no_grounds) part) old new error
-    → FailsBy (IfThere (RangePartCause formulas_alone no_grounds) part) old new error
+    → FailsBy (IfThere (SheetPartCause formulas_alone no_context) part) old new error
+    → FailsBy (IfThere (RangePartCause formulas_alone no_context) part) old new error
 other_fails part old new error other fails =
-    fails_by_weaker (IfThere (RangePartCause formulas_alone no_grounds) part)
-    (IfThere (SheetPartCause formulas_alone no_grounds) part) new error (same_parts old)
+    fails_by_weaker (IfThere (RangePartCause formulas_alone no_context) part)
+    (IfThere (SheetPartCause formulas_alone no_context) part) new error (same_parts old)
     (λ told cause. range_there part error other cause) fails
 
 -- the last formula of each position
@@ -183,9 +169,9 @@ sheet_said parts sheet cells kept is last =
 pub sheet_appends : {R : Type 0} (sheet : NumberedSheet) (before after : List FormulaSaid)
     (cells kept : List ((ℕ × ℕ) × CoveredFormula)) (old new : PackageState) (answer : R)
     → UsesPackage (event_count old.parts sheet.path) old new
-    → (old.is_told ≡ true
+    → (old.is_visible ≡ true
     → CountsUp (section_events_of (codes "sheetData") old.parts sheet.path) old.taken new.taken)
-    → (old.is_told ≡ true → path_formulas old.parts sheet.path ≡ Some (covered_entries cells))
+    → (old.is_visible ≡ true → path_formulas old.parts sheet.path ≡ Some (covered_entries cells))
     → kept ≡ last_of_each cells
     → after ≡ before ++ map (formula_on sheet.number) (covered_entries kept)
     → Appends (formulas_ask sheet) before after (Ok answer) old new
@@ -339,13 +325,13 @@ part_answers events all is =
     (data_formulas events (section_in (codes "sheetData") events)) all is in
     answers_by events both.0.0 (section_in (codes "sheetData") events) all both.0.1 refl both.1
 
-path_never : (grounds : Grounds) (part : Option (List Event))
+path_never : (context : ValueContext) (part : Option (List Event))
     (all : List ((ℕ × ℕ) × (List ℕ × Dimensions))) (error : XlsxError)
     → unless_absent [] part (option_and_then part_formulas part) ≡ Some all
-    → IfThere (RangePartCause formulas_alone grounds) part error → ⊥
-path_never grounds None all error is cause = cause
-path_never grounds (Some events) all error is cause =
-    formulas_in_part grounds events (map (with_meaning text_alone) all) error
+    → IfThere (RangePartCause formulas_alone context) part error → ⊥
+path_never context None all error is cause = cause
+path_never context (Some events) all error is cause =
+    formulas_in_part context events (map (with_meaning text_alone) all) error
     (part_answers events all is) cause
 
 made_of : {A B : Type 0} (f : A → B) (said : Option A) (all : B) → option_map f said ≡ Some all
@@ -359,13 +345,13 @@ sheet_never : (parts : List Part) (sheet : NumberedSheet) (all : List FormulaSai
 sheet_never parts sheet all error is cause =
     let own = made_of (λ cells. map (formula_on sheet.number) (last_of_each cells))
     (path_formulas parts sheet.path) all is in
-    path_never no_grounds (part_of parts sheet.path) own.0 error own.1 cause
+    path_never no_context (part_of parts sheet.path) own.0 error own.1 cause
 
 pub formulas_never_refused : (parts : List Part) (sheets : List SheetPath) (all : List FormulaSaid)
     (error : XlsxError) → workbook_formulas parts sheets ≡ Some all
     → FormulasCause parts sheets error → ⊥
 formulas_never_refused parts sheets all error is cause =
-    no_some_cause (sheet_formulas parts) (SheetFormulasCause parts) (numbered_from 0 sheets) error
+    no_some_cause (sheet_formulas parts) (SheetFormulasCause parts) (sheets_from 0 sheets) error
     all (λ sheet own. sheet_never parts sheet own error) is cause
 
 -- ---- what is said of a sheet are its formulas

@@ -8,8 +8,9 @@ use Rattle.std.specs.FinMap.Entries.{by_order}
 use Rattle.std.proofs.lemmas.List.{reverse-append, map-append}
 use Rattle.cell_data.proofs.Placing.{none_placed}
 use Rattle.cell_refs.proofs.PositionOrder.{position_total}
-use Rattle.cell_refs.specs.Positions.{position_cmp, last_of_each}
-use Rattle.cell_data.specs.Pairs.{with_meaning}
+use Rattle.cell_refs.specs.Words.{position_cmp}
+use Rattle.cell_refs.specs.Positions.{last_of_each}
+use Rattle.cell_data.specs.Words.{with_meaning}
 
 module _ {X Y : Type 0} (f : X → Y) where
   mapped_by_order : (o : Ordering) (a b c : List ((ℕ × ℕ) × X)) →

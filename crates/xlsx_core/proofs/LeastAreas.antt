@@ -1,15 +1,13 @@
 -- The cells of a range alone have its area.
 use Rattle.std.proofs.Common.{◌≡◌, ℕ, List, sym, ◌∙◌, ap}
-use Rattle.cell_refs.specs.Positions.{last_of_each, least_area}
+use Rattle.cell_refs.specs.Words.{last_of_each, least_area}
 use Rattle.cell_data.proofs.LeastAreas.{least_last}
 use Rattle.cell_data.proofs.Placing.{last_rising, rising_last}
-use Rattle.cell_data.specs.CellValue.{CellValue}
+use Rattle.cell_data.specs.Words.{CellValue, value_pairs, formula_pairs}
 use Rattle.cell_data.specs.declared.range.Range.{Range}
 use Rattle.cell_data.specs.declared.value.Data.{Data}
 use Rattle.cell_data.specs.declared.value.HeaderRow.TheVariants.{FirstNonEmptyRow}
-use Rattle.cell_data.specs.Pairs.{value_pairs, formula_pairs}
-use Rattle.xlsx_core.specs.Worksheets.{IsValueRange, IsFormulaRange, HasLeastRange}
-use Rattle.xlsx_core.specs.Worksheets.{HasLeastRanges}
+use Rattle.xlsx_core.specs.Worksheets.{IsValueRange, IsFormulaRange, HasLeastRange, HasLeastRanges}
 use Rattle.xlsx_core.specs.declared.sheet_reading.SheetReading.{SheetReading}
 
 module _ {X : Type 0} where

@@ -1,12 +1,11 @@
 -- A sheet whose hyperlinks are taken has no cause to be refused for them.
 use Rattle.std.proofs.Common.{◌≡◌, ℕ, List, Option, Some, None}
 use Rattle.std.specs.Prelude.{option_and_then, IsSomeAnd}
-use Rattle.part_events.specs.Event.{Event}
-use Rattle.part_events.specs.Package.{Part, part_of}
+use Rattle.part_events.specs.Words.{Event, Part, part_of}
 use Rattle.xlsx_error.specs.declared.error.XlsxError.{XlsxError}
 use Rattle.xlsx_error.specs.declared.error.XlsxError.TheVariants.{WorksheetNotFound}
-use Rattle.xlsx_parts.specs.WholePart.{IfThere}
-use Rattle.xlsx_relationships.specs.LinkTargets.{LinkTarget, link_targets, target_in}
+use Rattle.xlsx_parts.specs.Words.{IfThere}
+use Rattle.xlsx_relationships.specs.Words.{LinkTarget, link_targets, target_in}
 use Rattle.xlsx_areas.specs.Hyperlinks.{Link, links_of, links_at}
 use Rattle.xlsx_areas.specs.LinkErrors.{SheetLinksCause}
 use Rattle.xlsx_core.specs.Links.{links_placed, PlacedLinksCause}

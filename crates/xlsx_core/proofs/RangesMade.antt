@@ -1,18 +1,17 @@
 -- The ranges of cells, and of what is meant by them.
-use Rattle.std.proofs.Common.{◌≡◌, ℕ, ◌≤◌, List, [], ◌∷◌, Bool, true, false, cond}
-use Rattle.std.proofs.Common.{refl, sym, ◌∙◌, ap, Option, Some, None, arith, map}
+use Rattle.std.proofs.Common.{◌≡◌, ℕ, ◌≤◌, List, [], ◌∷◌, Bool, true, false, cond, refl, sym, ◌∙◌}
+use Rattle.std.proofs.Common.{ap, Option, Some, None, arith, map}
 use Rattle.std.specs.Prelude.{⊤, nat_le, ◌&&◌}
 use Rattle.std.specs.List.{filter, list_all}
 use Rattle.std.proofs.lemmas.Bool.Decides.{nat_tests}
 use Rattle.cell_refs.specs.declared.dimensions.Dimensions.{Dimensions}
-use Rattle.cell_refs.specs.Positions.{last_of_each, least_area, area_with, is_in_area}
+use Rattle.cell_refs.specs.Words.{last_of_each, least_area, area_with, is_in_area}
 use Rattle.cell_refs.proofs.PositionOrder.{and_both}
 use Rattle.cell_data.specs.declared.range.Range.{Range}
 use Rattle.cell_data.specs.declared.value.HeaderRow.{HeaderRow}
 use Rattle.cell_data.specs.declared.value.HeaderRow.TheVariants.{FirstNonEmptyRow, Row}
-use Rattle.cell_data.specs.Pairs.{with_meaning}
-use Rattle.xlsx_core.specs.Worksheets.{from_row, below_header, header_area}
-use Rattle.xlsx_core.specs.Worksheets.{IsRangeFrom, IsRangeOf}
+use Rattle.cell_data.specs.Words.{with_meaning}
+use Rattle.xlsx_core.specs.Worksheets.{from_row, below_header, header_area, IsRangeFrom, IsRangeOf}
 use Rattle.xlsx_core.proofs.LastOfEach.{last_mapped}
 
 -- an area that begins in no row before this one

@@ -4,44 +4,35 @@ use Rattle.std.proofs.Common.{None, Result, Ok, Err, codes, refl, map, length}
 use Rattle.std.proofs.lemmas.List.{length-map}
 use Rattle.std.specs.Prelude.{IsSomeAnd, IsOkAnd, MatchOption, filter}
 use Rattle.cell_refs.specs.declared.dimensions.Dimensions.{Dimensions}
-use Rattle.part_events.specs.Event.{Event}
-use Rattle.part_events.specs.Package.{Part, part_of}
-use Rattle.cell_data.specs.CellValue.{CellValue}
-use Rattle.cell_refs.specs.Positions.{last_of_each, least_area}
-use Rattle.cell_data.specs.Range.{bounds_of}
+use Rattle.part_events.specs.Words.{Event, Part, part_of}
+use Rattle.cell_data.specs.Words.{CellValue, bounds_of, value_pairs, formula_pairs}
+use Rattle.cell_refs.specs.Words.{last_of_each, least_area}
 use Rattle.xlsx_error.specs.declared.error.XlsxError.{XlsxError}
 use Rattle.xlsx_error.specs.declared.error.XlsxError.TheVariants.{WorksheetNotFound}
 use Rattle.cell_data.specs.declared.format.CellFormat.{CellFormat}
-use Rattle.xlsx_sections.specs.PartSection.{PartSection, inside_of, closed_section_of}
+use Rattle.xlsx_sections.specs.Words.{PartSection, inside_of, closed_section_of}
 use Rattle.xlsx_strings.specs.Strings.{strings_in, HasStrings}
-use Rattle.cell_styles.specs.StyleMap.{StyledCell, StyleMap, styles_of, styles_in, first_id_at}
-use Rattle.cell_styles.specs.StyleMap.{position_in, places, covering_area, is_explicit}
+use Rattle.cell_styles.specs.Words.{StyledCell, StyleMap, styles_of, styles_in, first_id_at}
+use Rattle.cell_styles.specs.Words.{position_in, places, covering_area, is_explicit}
 use Rattle.cell_styles.specs.declared.color.Color.{Color}
 use Rattle.cell_styles.specs.declared.style.Style.{Style}
 use Rattle.xlsx_formats.specs.Formattings.{StyleSaid, style_said}
 use Rattle.xlsx_theme.specs.ThemePart.{theme_colors}
 use Rattle.xlsx_stylesheet.specs.StyleSheet.{cell_formats_in, AreStyles, HasStyles}
-use Rattle.xlsx_values.specs.Value.{Grounds}
-use Rattle.xlsx_formulas.specs.Formula.{FormulaText}
-use Rattle.xlsx_cells.specs.Sheet.{values_in, formulas_written, used_values, used_formulas}
-use Rattle.xlsx_cells.specs.Sheet.{formulas_along, with_texts}
-use Rattle.xlsx_cells.specs.SheetPart.{SheetPartCause, IsSoundSheet}
-use Rattle.xlsx_cells.specs.StyleIds.{ids_in}
-use Rattle.xlsx_cells.specs.Marks.{marks}
+use Rattle.xlsx_values.specs.Words.{ValueContext}
+use Rattle.xlsx_formulas.specs.Words.{FormulaText}
+use Rattle.xlsx_cells.specs.Words.{values_in, formulas_written, used_values, used_formulas}
+use Rattle.xlsx_cells.specs.Words.{formulas_along, with_texts, SheetPartCause, IsSoundSheet, ids_in}
+use Rattle.xlsx_cells.specs.Words.{marks}
 use Rattle.xlsx_cells.proofs.SoundSheet.{no_part_cause, sound_by_values}
-use Rattle.xlsx_relationships.specs.Paths.{folder_of}
-use Rattle.xlsx_workbook.specs.Paths.{workbook_part, strings_part, theme_part}
-use Rattle.xlsx_workbook.specs.Paths.{styles_part}
-use Rattle.xlsx_relationships.specs.Relationships.{Related}
-use Rattle.xlsx_workbook.specs.Sheets.{PlacedSheet}
-use Rattle.xlsx_open.specs.Opening.{Opening, HasRelationships, HasWorkbook, IsOpening, OpensAs}
-use Rattle.xlsx_open.specs.Opening.{HasNothing, OpeningCause}
-use Rattle.xlsx_open.specs.SharedParts.{SharedSaid, HasShared}
+use Rattle.xlsx_relationships.specs.Words.{folder_of, Related}
+use Rattle.xlsx_workbook.specs.Words.{workbook_part, strings_part, theme_part, styles_part}
+use Rattle.xlsx_workbook.specs.Words.{PlacedSheet}
+use Rattle.xlsx_open.specs.Words.{Opening, HasRelationships, HasWorkbook, IsOpening, OpensAs}
+use Rattle.xlsx_open.specs.Words.{HasNothing, OpeningCause, SharedSaid, HasShared}
 use Rattle.xlsx_open.proofs.Sound.{both_at, same_path, same_related, no_cause}
-use Rattle.xlsx_core.specs.SheetReading.{events_named, grounds_with, opened_grounds, all_wanted}
-use Rattle.xlsx_core.specs.SheetReading.{SayTheSame, ReadsAs, LacksSheet, HasPartCause}
-use Rattle.cell_data.specs.Pairs.{value_pairs, formula_pairs}
-use Rattle.xlsx_core.specs.SheetReading.{SheetCause}
+use Rattle.xlsx_core.specs.SheetReading.{events_named, context_with, opened_context, all_wanted}
+use Rattle.xlsx_core.specs.SheetReading.{SayTheSame, ReadsAs, LacksSheet, HasPartCause, SheetCause}
 use Rattle.xlsx_core.specs.Worksheets.{HasLeastRanges}
 use Rattle.xlsx_core.specs.declared.sheet_reading.SheetReading.{SheetReading}
 
@@ -158,13 +149,13 @@ same_shared parts one two first second =
     (same_path parts second.path first.path second.found first.found) second.shared)
 
 -- what the values of its sheets rest on is one
-pub same_grounds : (parts : List Part) (one two : Opening) → OpensAs parts one → OpensAs parts two
-    → opened_grounds one ≡ opened_grounds two
-same_grounds parts one two first second =
+pub same_context : (parts : List Part) (one two : Opening) → OpensAs parts one → OpensAs parts two
+    → opened_context one ≡ opened_context two
+same_context parts one two first second =
     let shared = same_shared parts one two first second in
-    ap (λ (own : List (List ℕ)). grounds_with own one.shared.formats one.is_1904) shared.strings
-    ∙ ap (λ (own : List CellFormat). grounds_with two.shared.strings own one.is_1904) shared.formats
-    ∙ ap (grounds_with two.shared.strings two.shared.formats)
+    ap (λ (own : List (List ℕ)). context_with own one.shared.formats one.is_1904) shared.strings
+    ∙ ap (λ (own : List CellFormat). context_with two.shared.strings own one.is_1904) shared.formats
+    ∙ ap (context_with two.shared.strings two.shared.formats)
     (are_alike parts one two first second).epoch
 
 -- the sheet of a name is one
@@ -178,15 +169,16 @@ same_events parts name one two events others first second is again =
 
 -- ---- one reading
 
-pub sounds_alike : (grounds : Grounds) (events : List Event) (all more : List ((ℕ × ℕ) × CellValue))
+pub sounds_alike : (context : ValueContext) (events : List Event) (all more : List ((ℕ × ℕ)
+    × CellValue))
     (written others : List ((ℕ × ℕ) × List FormulaText)) (ids again : List StyledCell)
-    → IsSoundSheet grounds events all written ids → IsSoundSheet grounds events more others again
+    → IsSoundSheet context events all written ids → IsSoundSheet context events more others again
     → (all ≡ more) × (written ≡ others) × (ids ≡ again)
-sounds_alike grounds events all more written others ids again first second =
+sounds_alike context events all more written others ids again first second =
     let both : Some first.section ≡ Some second.section = sym first.found ∙ second.found in
     let section : first.section ≡ second.section = cc in
     let values : Ok all ≡ Ok more = sym first.valued
-    ∙ ap (λ (s : PartSection). values_in grounds (inside_of s)) section ∙ second.valued in
+    ∙ ap (λ (s : PartSection). values_in context (inside_of s)) section ∙ second.valued in
     let formulas : Ok written ≡ Ok others = sym first.written
     ∙ ap (λ (s : PartSection). formulas_written (inside_of s)) section ∙ second.written in
     let styles : Ok ids ≡ Ok again = sym first.styled
@@ -229,12 +221,13 @@ one_reading parts name values others formulas more styles again first second =
     let events : second.events ≡ first.events = cc in
     let one = first.holds in
     let two = second.holds in
-    let sheet : IsSoundSheet (opened_grounds first.opening) first.events two.all two.written
-    two.ids = subst (λ (own : Grounds). IsSoundSheet own first.events two.all two.written two.ids)
-    (same_grounds parts second.opening first.opening second.opens first.opens)
-    (subst (λ (own : List Event). IsSoundSheet (opened_grounds second.opening) own two.all
+    let sheet : IsSoundSheet (opened_context first.opening) first.events two.all two.written
+    two.ids = subst (λ (own : ValueContext). IsSoundSheet own first.events two.all two.written
+    two.ids)
+    (same_context parts second.opening first.opening second.opens first.opens)
+    (subst (λ (own : List Event). IsSoundSheet (opened_context second.opening) own two.all
     two.written two.ids) events two.sheet) in
-    let both = sounds_alike (opened_grounds first.opening) first.events one.all two.all
+    let both = sounds_alike (opened_context first.opening) first.events one.all two.all
     one.written two.written one.ids two.ids one.sheet sheet in
     let shared = same_shared parts first.opening second.opening first.opens second.opens in
     let styles = styles_of_alike first.palette second.palette one.ids
@@ -287,16 +280,16 @@ part_never parts name values formulas styles error reads has =
     same_events parts name has.opening reads.opening (Some has.events) (Some reads.events)
     has.opens reads.opens has.found reads.found in
     let events : has.events ≡ reads.events = cc in
-    let cause : SheetPartCause all_wanted (opened_grounds reads.opening) reads.events error =
-    subst (λ (own : Grounds). SheetPartCause all_wanted own reads.events error)
-    (same_grounds parts has.opening reads.opening has.opens reads.opens)
-    (subst (λ (own : List Event). SheetPartCause all_wanted (opened_grounds has.opening) own error)
+    let cause : SheetPartCause all_wanted (opened_context reads.opening) reads.events error =
+    subst (λ (own : ValueContext). SheetPartCause all_wanted own reads.events error)
+    (same_context parts has.opening reads.opening has.opens reads.opens)
+    (subst (λ (own : List Event). SheetPartCause all_wanted (opened_context has.opening) own error)
     events has.cause) in
     let holds = reads.holds in
     let sheet = holds.sheet in
-    no_part_cause all_wanted (opened_grounds reads.opening) reads.events sheet.section sheet.area
+    no_part_cause all_wanted (opened_context reads.opening) reads.events sheet.section sheet.area
     error sheet.found sheet.dimensions sheet.closed
-    (sound_by_values all_wanted (opened_grounds reads.opening) []
+    (sound_by_values all_wanted (opened_context reads.opening) []
     (marks (inside_of sheet.section)) (holds.all, sheet.valued)
     (λ wanted. (holds.written, sheet.written)) (λ wanted. (holds.ids, sheet.styled))) cause
 

@@ -1,20 +1,20 @@
 -- The worksheets of an open workbook, as they are listed.
-use Rattle.std.proofs.Common.{◌≡◌, ◌≤◌, ◌<◌, ℕ, List, [], ◌∷◌, ◌++◌, drop, length, refl, sym}
-use Rattle.std.proofs.Common.{◌∙◌, ap, subst, inl, inr, Option, Some, None, String, Global, Bool}
-use Rattle.std.proofs.Common.{true, false, arith, append_assoc, ◌+◌}
+use Rattle.std.proofs.Common.{◌≡◌, ◌≤◌, ◌<◌, ℕ, List, [], ◌∷◌, ◌++◌, drop, length, refl, sym, ◌∙◌}
+use Rattle.std.proofs.Common.{ap, subst, inl, inr, Option, Some, None, String, Global, Bool, true}
+use Rattle.std.proofs.Common.{false, arith, append_assoc, ◌+◌}
 use Rattle.std.specs.Prelude.{string_bytes, if◌then◌else◌, nat_lt, MatchOption}
 use Rattle.std.specs.Str.{bytes_eq}
 use Rattle.std.specs.Cmp.Lexicographic.{nat_list_eq_equiv}
 use Rattle.std.proofs.lemmas.Bool.Decides.{nat_tests}
 use Rattle.std.proofs.Math.ListN.{get_or}
 use Rattle.std.proofs.lemmas.List.{drop_all, drop_more}
-use Rattle.part_events.specs.Package.{Part}
+use Rattle.part_events.specs.Words.{Part}
 use Rattle.cell_data.specs.declared.range.Range.{Range}
 use Rattle.cell_data.specs.declared.value.Data.{Data}
 use Rattle.cell_data.specs.declared.value.HeaderRow.{HeaderRow}
-use Rattle.xlsx_values.specs.Value.{Grounds}
-use Rattle.xlsx_workbook.specs.KeptContents.{path_kept}
-use Rattle.xlsx_workbook.specs.declared.paths.KeptPath.{KeptPath}
+use Rattle.xlsx_values.specs.Words.{ValueContext}
+use Rattle.xlsx_workbook.specs.Words.{path_kept}
+use Rattle.xlsx_workbook.specs.declared.paths.PartPath.{PartPath}
 use Rattle.xlsx_workbook.specs.declared.sheet.Sheet.{Sheet}
 use Rattle.xlsx_core.specs.Listing.{IsListedAs, IsLeftOut, AreListed, IsPutBehind}
 use Rattle.xlsx_core.specs.Opened.{path_listed}
@@ -29,7 +29,7 @@ no_paths name (sheet ∷ sheets) = refl
 
 -- none stands behind the shorter one of both lists
 pub none_behind : (name : List ℕ) (place : ℕ) (sheets : List Sheet)
-    (paths : List KeptPath) → (place < length sheets → length paths ≤ place)
+    (paths : List PartPath) → (place < length sheets → length paths ≤ place)
     → path_listed name (drop place sheets) (drop place paths) ≡ None
 none_behind name place sheets paths few =
     by_test (nat_lt place (length sheets)) refl
@@ -52,8 +52,8 @@ drop_from {X} xs place next own is below same =
     ∙ ap (λ (n : ℕ). own ∷ drop n xs) same
 
 -- one sheet before those behind
-pub first_further : (name : List ℕ) (sheet : Sheet) (sheets : List Sheet) (path : KeptPath)
-    (paths : List KeptPath) (kept found : Option (List ℕ)) (own there : List ℕ)
+pub first_further : (name : List ℕ) (sheet : Sheet) (sheets : List Sheet) (path : PartPath)
+    (paths : List PartPath) (kept found : Option (List ℕ)) (own there : List ℕ)
     → kept ≡ path_listed name sheets paths → own ≡ string_bytes sheet.name
     → there ≡ path_kept path
     → found ≡ (if bytes_eq name own then Some there else kept)
@@ -71,21 +71,21 @@ first_further name sheet sheets path paths kept found own there is named placed 
 -- ---- one sheet more
 
 -- what is listed of all, where it is so of those behind
-pub listed_further : (grounds : Grounds) (header : HeaderRow)
+pub listed_further : (context : ValueContext) (header : HeaderRow)
     (place : List ℕ → Option (List ℕ)) (parts : List Part) (sheet : Sheet) (sheets : List Sheet)
     (range : Option (Range Data)) (old new : List (String Global × Range Data))
     (fact : List (String Global × Range Data) → Type 0)
-    → MatchOption range (IsLeftOut grounds place parts sheet)
-    (ReadsValues grounds header (place (string_bytes sheet.name)) parts)
+    → MatchOption range (IsLeftOut context place parts sheet)
+    (ReadsValues context header (place (string_bytes sheet.name)) parts)
     → MatchOption range (new ≡ old) (IsPutBehind (string_bytes sheet.name) old new)
     → ((others : List (String Global × Range Data))
-    → AreListed grounds header place parts (sheet ∷ sheets) others → fact (old ++ others))
+    → AreListed context header place parts (sheet ∷ sheets) others → fact (old ++ others))
     → (others : List (String Global × Range Data))
-    → AreListed grounds header place parts sheets others → fact (new ++ others)
-listed_further grounds header place parts sheet sheets None old new fact left same all others is =
+    → AreListed context header place parts sheets others → fact (new ++ others)
+listed_further context header place parts sheet sheets None old new fact left same all others is =
     subst (λ (own : List (String Global × Range Data)). fact (own ++ others)) (sym same)
     (all others (inl (left, is)))
-listed_further grounds header place parts sheet sheets (Some range) old new fact reads put all
+listed_further context header place parts sheet sheets (Some range) old new fact reads put all
     others is =
     let (own, named, same) = put in
     let first : String Global × Range Data = (own, range) in
@@ -97,10 +97,10 @@ listed_further grounds header place parts sheet sheets (Some range) old new fact
 
 -- ---- none is both
 
-pub listed_or_left_out : (grounds : Grounds) (header : HeaderRow)
+pub listed_or_left_out : (context : ValueContext) (header : HeaderRow)
     (place : List ℕ → Option (List ℕ)) (parts : List Part) (sheet : Sheet)
-    (own : String Global × Range Data) → IsListedAs grounds header place parts sheet own
-    → IsLeftOut grounds place parts sheet → ⊥
-listed_or_left_out grounds header place parts sheet own is (error, cause) =
+    (own : String Global × Range Data) → IsListedAs context header place parts sheet own
+    → IsLeftOut context place parts sheet → ⊥
+listed_or_left_out context header place parts sheet own is (error, cause) =
     let name = string_bytes sheet.name in
-    values_never grounds header name (place name) parts own.1 error is.reads cause
+    values_never context header name (place name) parts own.1 error is.reads cause

@@ -3,43 +3,35 @@ use Rattle.std.proofs.Common.{◌≡◌, ℕ, List, [], ◌∷◌, Bool, true, m
 use Rattle.std.proofs.Common.{inl, inr, Option, Some, None, string_bytes}
 use Rattle.std.specs.Prelude.{if◌then◌else◌, IsSomeAnd, length, filter}
 use Rattle.std.specs.Str.{bytes_eq}
-use Rattle.part_events.specs.Event.{Event}
-use Rattle.part_events.specs.Package.{Part, PackageState, SameParts}
-use Rattle.cell_data.specs.CellValue.{CellValue}
+use Rattle.part_events.specs.Words.{Event, Part, PackageState, SameParts}
+use Rattle.cell_data.specs.Words.{CellValue, cells_gathered, value_pairs, formula_pairs}
 use Rattle.cell_data.specs.declared.value.HeaderRow.TheVariants.{FirstNonEmptyRow}
-use Rattle.cell_refs.specs.Positions.{last_of_each}
+use Rattle.cell_refs.specs.Words.{last_of_each}
 use Rattle.xlsx_error.specs.declared.error.XlsxError.{XlsxError}
 use Rattle.xlsx_error.specs.declared.error.XlsxError.TheVariants.{WorksheetNotFound}
-use Rattle.cell_styles.specs.StyleMap.{StyleMap, StyledCell, is_explicit, styles_of}
+use Rattle.cell_styles.specs.Words.{StyleMap, StyledCell, is_explicit, styles_of}
 use Rattle.cell_styles.specs.declared.style.Style.{Style}
-use Rattle.xlsx_values.specs.Value.{Grounds}
-use Rattle.xlsx_cells.specs.Sheet.{with_texts}
-use Rattle.xlsx_cells.specs.SheetPart.{SheetPartCause, value_entries, formula_entries}
-use Rattle.xlsx_workbook.specs.Sheets.{PlacedSheet}
+use Rattle.xlsx_values.specs.Words.{ValueContext}
+use Rattle.xlsx_cells.specs.Words.{with_texts, SheetPartCause, value_entries, formula_entries}
+use Rattle.xlsx_workbook.specs.Words.{PlacedSheet, path_kept}
 use Rattle.xlsx_workbook.specs.declared.sheet.Metadata.{Metadata}
-use Rattle.xlsx_workbook.specs.KeptContents.{path_kept}
-use Rattle.xlsx_workbook.specs.declared.paths.KeptPath.{KeptPath}
+use Rattle.xlsx_workbook.specs.declared.paths.PartPath.{PartPath}
 use Rattle.xlsx_workbook.specs.declared.sheet.Sheet.{Sheet}
 use Rattle.xlsx_formats.specs.Formattings.{style_said}
-use Rattle.xlsx_open.specs.Opening.{Opening, ListedSheet, listed_sheet, without_path}
-use Rattle.xlsx_open.specs.Opening.{HoldsOpening, OpensAs, OpeningCause, OpeningFails}
-use Rattle.xlsx_open.specs.Opening.{IsOpeningError}
-use Rattle.xlsx_open.specs.SharedParts.{SharedSaid}
+use Rattle.xlsx_open.specs.Words.{Opening, ListedSheet, listed_sheet, without_path, HoldsOpening}
+use Rattle.xlsx_open.specs.Words.{OpensAs, OpeningCause, OpeningFails, IsOpeningError, SharedSaid}
 use Rattle.xlsx_open.specs.declared.shared_parts.SharedParts.{SharedParts}
 use Rattle.xlsx_core.specs.Opened.{path_listed}
-use Rattle.xlsx_core.specs.SheetReading.{SheetCause, PlacedCause}
-use Rattle.xlsx_core.specs.SheetReading.{path_named, events_at, events_named, grounds_with}
-use Rattle.xlsx_core.specs.SheetReading.{opened_grounds, all_wanted, HoldsSheet, IsPaletteOf}
-use Rattle.cell_data.specs.Gathered.{cells_gathered}
-use Rattle.cell_data.specs.Pairs.{value_pairs, formula_pairs}
+use Rattle.xlsx_core.specs.SheetReading.{SheetCause, PlacedCause, path_named, events_at}
+use Rattle.xlsx_core.specs.SheetReading.{events_named, context_with, opened_context, all_wanted}
+use Rattle.xlsx_core.specs.SheetReading.{HoldsSheet, IsPaletteOf, ReadsAs, ReadsValuesAs}
+use Rattle.xlsx_core.specs.SheetReading.{SheetFails, PlacedSheetFails}
 use Rattle.cell_data.specs.declared.range.Range.{Range}
 use Rattle.cell_data.specs.declared.value.Data.{Data}
 use Rattle.xlsx_core.specs.ReadCells.{HoldsCells, ReadsCells, strings_beside, palette_beside}
-use Rattle.xlsx_core.specs.SheetReading.{ReadsAs, ReadsValuesAs}
 use Rattle.xlsx_core.specs.Worksheets.{HoldsWanted, IsValueRange, IsFormulaRange}
 use Rattle.xlsx_core.specs.declared.as_read.ReadCells.{ReadCells}
 use Rattle.xlsx_core.specs.declared.sheet_reading.SheetReading.{SheetReading}
-use Rattle.xlsx_core.specs.SheetReading.{SheetFails, PlacedSheetFails}
 use Rattle.xlsx_sections.proofs.Failing.{fails_by_weaker, same_parts}
 
 pub some_of : {A : Type 0} (o : Option A) (fact : A → Type 0) → IsSomeAnd o fact → (x : A)
@@ -48,7 +40,7 @@ some_of None fact is = absurd is
 some_of (Some x) fact is = (x, refl, is)
 
 -- the path that stands in the list of paths is that of the opening
-pub listed_is_named : (name : List ℕ) (sheets : List Sheet) (paths : List KeptPath)
+pub listed_is_named : (name : List ℕ) (sheets : List Sheet) (paths : List PartPath)
     (placed : List PlacedSheet) → map listed_sheet sheets ≡ map without_path placed
     → map path_kept paths ≡ map (λ (sheet : PlacedSheet). sheet.path) placed
     → path_listed name sheets paths ≡ path_named name placed
@@ -70,21 +62,21 @@ listed_is_named name (sheet ∷ sheets) (path ∷ paths) (own ∷ placed) listed
     (listed_is_named name sheets paths placed others further)
 
 -- a workbook that opened: in its lists the sheet of a name has its part at this path, the values of
--- its cells rest on these grounds, and their ids name styles of this palette
+-- its cells rest on these context, and their ids name styles of this palette
 pub record OpensPlaced
-    (name : List ℕ) (path : Option (List ℕ)) (grounds : Grounds) (palette : List Style)
+    (name : List ℕ) (path : Option (List ℕ)) (context : ValueContext) (palette : List Style)
     (parts : List Part) : Type 0 where
   pub opening : Opening
   pub opens : OpensAs parts opening
   pub listed : path ≡ path_named name opening.sheets
-  pub rests : grounds ≡ opened_grounds opening
+  pub rests : context ≡ opened_context opening
   pub styled : IsPaletteOf opening palette
 
-pub opens_placed : {metadata : Metadata} {paths : List KeptPath} {shared : SharedParts}
+pub opens_placed : {metadata : Metadata} {paths : List PartPath} {shared : SharedParts}
     {is_1904 : Bool} {parts : List Part} (name : List ℕ) (opening : Opening)
     → HoldsOpening metadata paths shared is_1904 opening → OpensAs parts opening
     → OpensPlaced name (path_listed name metadata.sheets.items paths)
-    (grounds_with (map string_bytes shared.strings.items) shared.style_sheet.formats.items is_1904)
+    (context_with (map string_bytes shared.strings.items) shared.style_sheet.formats.items is_1904)
     shared.style_sheet.styles.items parts
 opens_placed {metadata = metadata} {paths = paths} {is_1904 = is_1904} name opening holds opens =
     record {
@@ -92,62 +84,63 @@ opens_placed {metadata = metadata} {paths = paths} {is_1904 = is_1904} name open
       opens = opens;
       listed = listed_is_named name metadata.sheets.items paths opening.sheets holds.sheets
           holds.paths;
-      rests = ap (λ (own : SharedSaid). grounds_with own.strings own.formats is_1904) holds.shared
-          ∙ ap (grounds_with opening.shared.strings opening.shared.formats) holds.epoch;
+      rests = ap (λ (own : SharedSaid). context_with own.strings own.formats is_1904) holds.shared
+          ∙ ap (context_with opening.shared.strings opening.shared.formats) holds.epoch;
       styled = ap (λ (own : SharedSaid). own.styles) holds.shared;
     }
 
 -- what is said of the part of its sheet
-of_opening : (name : List ℕ) (path : Option (List ℕ)) (grounds : Grounds) (palette : List Style)
-    (parts : List Part) (opens : OpensPlaced name path grounds palette parts)
-    (fact : Grounds → List Event → Type 0)
-    → IsSomeAnd (events_at path parts) (fact grounds) → (events : List Event)
+of_opening : (name : List ℕ) (path : Option (List ℕ)) (context : ValueContext)
+    (palette : List Style)
+    (parts : List Part) (opens : OpensPlaced name path context palette parts)
+    (fact : ValueContext → List Event → Type 0)
+    → IsSomeAnd (events_at path parts) (fact context) → (events : List Event)
     × (events_named name opens.opening.sheets parts ≡ Some events)
-    × fact (opened_grounds opens.opening) events
-of_opening name path grounds palette parts opens fact has =
-    let there = some_of (events_at path parts) (fact grounds) has in (
+    × fact (opened_context opens.opening) events
+of_opening name path context palette parts opens fact has =
+    let there = some_of (events_at path parts) (fact context) has in (
       there.0,
       ap (λ (own : Option (List ℕ)). events_at own parts) (sym opens.listed) ∙ there.1,
-      subst (λ (own : Grounds). fact own there.0) opens.rests there.2,
+      subst (λ (own : ValueContext). fact own there.0) opens.rests there.2,
     )
 
 -- a workbook that opened holds the cells that were read of its sheet
-pub holds_cells : (name : List ℕ) (path : Option (List ℕ)) (grounds : Grounds)
+pub holds_cells : (name : List ℕ) (path : Option (List ℕ)) (context : ValueContext)
     (palette : List Style) (old mid : PackageState) (read : ReadCells) → SameParts old mid
-    → OpensPlaced name path grounds palette old.parts
-    → strings_beside read ≡ grounds.strings → palette_beside read ≡ palette
-    → ReadsCells grounds palette path mid.parts read → HoldsCells old.parts name read
-holds_cells name path grounds palette old mid read same opens strings styles has =
-    let holds : Grounds → List Event → Type 0 = λ own events.
+    → OpensPlaced name path context palette old.parts
+    → strings_beside read ≡ context.strings → palette_beside read ≡ palette
+    → ReadsCells context palette path mid.parts read → HoldsCells old.parts name read
+holds_cells name path context palette old mid read same opens strings styles has =
+    let holds : ValueContext → List Event → Type 0 = λ own events.
     HoldsWanted all_wanted own (length palette) events
     (value_entries (cells_gathered read.cells.values))
     (formula_entries (cells_gathered read.cells.formulas)) read.cells.style_ids.items in
-    let there = of_opening name path grounds palette old.parts opens holds
-    (subst (λ (parts : List Part). IsSomeAnd (events_at path parts) (holds grounds)) same.parts
+    let there = of_opening name path context palette old.parts opens holds
+    (subst (λ (parts : List Part). IsSomeAnd (events_at path parts) (holds context)) same.parts
     has) in
     record {
       opening = opens.opening;
       events = there.0;
       opens = opens.opens;
       named = ap (map style_said) styles ∙ opens.styled;
-      strings = strings ∙ ap (λ (own : Grounds). own.strings) opens.rests;
+      strings = strings ∙ ap (λ (own : ValueContext). own.strings) opens.rests;
       found = there.1;
-      holds = subst (λ (own : List Style). HoldsWanted all_wanted (opened_grounds opens.opening)
+      holds = subst (λ (own : List Style). HoldsWanted all_wanted (opened_context opens.opening)
           (length own) there.0 (value_entries (cells_gathered read.cells.values))
           (formula_entries (cells_gathered read.cells.formulas)) read.cells.style_ids.items)
           (sym styles) there.2;
     }
 
 -- the part of a sheet holds what was read of it, if this is what its cells come to
-held : (grounds : Grounds) (palette : List Style) (events : List Event)
+held : (context : ValueContext) (palette : List Style) (events : List Event)
     (values : List ((ℕ × ℕ) × CellValue)) (formulas : List ((ℕ × ℕ) × List ℕ))
     (ids : List StyledCell) (kept : List ((ℕ × ℕ) × CellValue))
     (written : List ((ℕ × ℕ) × List ℕ)) (styles : StyleMap)
-    (holds : HoldsWanted all_wanted grounds (length palette) events values formulas ids)
-    → kept ≡ last_of_each (with_texts grounds.strings values) → written ≡ last_of_each formulas
+    (holds : HoldsWanted all_wanted context (length palette) events values formulas ids)
+    → kept ≡ last_of_each (with_texts context.strings values) → written ≡ last_of_each formulas
     → styles ≡ styles_of palette (holds.styled refl).0
-    → HoldsSheet grounds palette events kept written styles
-held grounds palette events values formulas ids kept written styles holds last listed styled =
+    → HoldsSheet context palette events kept written styles
+held context palette events values formulas ids kept written styles holds last listed styled =
     let (all, are, used) = holds.valued refl in
     let (each, is, counted) = holds.written refl in
     record {
@@ -165,7 +158,7 @@ held grounds palette events values formulas ids kept written styles holds last l
         styled = (holds.styled refl).1;
       };
       valued = last
-          ∙ ap (λ (own : List ((ℕ × ℕ) × CellValue)). last_of_each (with_texts grounds.strings own))
+          ∙ ap (λ (own : List ((ℕ × ℕ) × CellValue)). last_of_each (with_texts context.strings own))
           used;
       listed = listed ∙ ap last_of_each counted;
       styled = styled;
@@ -195,7 +188,7 @@ module _ (parts : List Part) (name : List ℕ) (read : ReadCells)
     opens = cells.opens;
     named = cells.named;
     found = cells.found;
-    holds = held (opened_grounds cells.opening) (palette_beside read) cells.events values formulas
+    holds = held (opened_context cells.opening) (palette_beside read) cells.events values formulas
         read.cells.style_ids.items kept written styles cells.holds
         (last ∙ ap (λ (own : List (List ℕ)). last_of_each (with_texts own values)) cells.strings)
         listed styled;
@@ -221,11 +214,12 @@ module _ (parts : List Part) (name : List ℕ) (read : ReadCells)
       (listed, styles, cells_read (value_pairs range) listed styles valued.cells refl refl)
 
 -- a workbook that opens, and whose sheet isn't read
-placed_cause : (name : List ℕ) (path : Option (List ℕ)) (grounds : Grounds) (palette : List Style)
-    (parts : List Part) (error : XlsxError) → OpensPlaced name path grounds palette parts
-    → PlacedCause name path (SheetPartCause all_wanted grounds) parts error
+placed_cause : (name : List ℕ) (path : Option (List ℕ)) (context : ValueContext)
+    (palette : List Style)
+    (parts : List Part) (error : XlsxError) → OpensPlaced name path context palette parts
+    → PlacedCause name path (SheetPartCause all_wanted context) parts error
     → SheetCause parts name error
-placed_cause name path grounds palette parts (WorksheetNotFound asked) here cause = (
+placed_cause name path context palette parts (WorksheetNotFound asked) here cause = (
   cause.0,
   record {
     opening = here.opening;
@@ -233,8 +227,8 @@ placed_cause name path grounds palette parts (WorksheetNotFound asked) here caus
     none = ap (λ (own : Option (List ℕ)). events_at own parts) (sym here.listed) ∙ cause.1;
   },
 )
-placed_cause name path grounds palette parts error here cause =
-    let there = of_opening name path grounds palette parts here
+placed_cause name path context palette parts error here cause =
+    let there = of_opening name path context palette parts here
     (λ own events. SheetPartCause all_wanted own events error) cause in
     inr (record {
       opening = here.opening;
@@ -252,14 +246,14 @@ opening_fails name old new error is fails =
     fails_by_weaker (SheetCause old.parts name) (OpeningCause old.parts) new error (same_parts old)
     (λ told cause. inl cause) fails
 
-pub sheet_fails : (name : List ℕ) (path : Option (List ℕ)) (grounds : Grounds)
+pub sheet_fails : (name : List ℕ) (path : Option (List ℕ)) (context : ValueContext)
     (palette : List Style) (old mid new : PackageState) (error : XlsxError) → SameParts old mid
-    → (old.is_told ≡ true → OpensPlaced name path grounds palette old.parts)
-    → PlacedSheetFails name all_wanted grounds path mid new error → SheetFails name old new error
-sheet_fails name path grounds palette old mid new error same opens fails =
+    → (old.is_visible ≡ true → OpensPlaced name path context palette old.parts)
+    → PlacedSheetFails name all_wanted context path mid new error → SheetFails name old new error
+sheet_fails name path context palette old mid new error same opens fails =
     let cause_by : List Part → XlsxError → Type 0 =
-    PlacedCause name path (SheetPartCause all_wanted grounds) in
+    PlacedCause name path (SheetPartCause all_wanted context) in
     fails_by_weaker (SheetCause old.parts name) (cause_by mid.parts) new error same
-    (λ told cause. placed_cause name path grounds palette old.parts error (opens told)
+    (λ told cause. placed_cause name path context palette old.parts error (opens told)
     (subst (λ (parts : List Part). cause_by parts error) same.parts cause))
     fails

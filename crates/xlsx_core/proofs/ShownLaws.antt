@@ -1,41 +1,36 @@
 -- A sheet is shown in one way, and where it is read.
-use Rattle.std.proofs.Common.{◌≡◌, ◌∙◌, ℕ, List, Bool, Some, map, ap, sym, refl, subst}
-use Rattle.std.proofs.Common.{Option, None, Ok, inl, inr}
+use Rattle.std.proofs.Common.{◌≡◌, ◌∙◌, ℕ, List, Bool, Some, map, ap, sym, refl, subst, Option}
+use Rattle.std.proofs.Common.{None, Ok, inl, inr}
 use Rattle.std.specs.List.{filter}
 use Rattle.std.specs.Prelude.{IsSomeAnd}
-use Rattle.cell_refs.specs.Positions.{is_in_area, last_of_each}
+use Rattle.cell_refs.specs.Words.{is_in_area, last_of_each}
 use Rattle.cell_refs.specs.declared.dimensions.Dimensions.{Dimensions}
-use Rattle.part_events.specs.Event.{Event}
-use Rattle.part_events.specs.Package.{Part}
-use Rattle.cell_data.specs.CellValue.{CellValue, nothing, text, value_of_data}
-use Rattle.cell_data.specs.Pairs.{value_pairs, with_meaning}
+use Rattle.part_events.specs.Words.{Event, Part}
+use Rattle.cell_data.specs.Words.{CellValue, nothing, text, value_of_data, value_pairs}
+use Rattle.cell_data.specs.Words.{with_meaning}
 use Rattle.cell_data.specs.declared.range.Range.{Range}
 use Rattle.cell_data.specs.declared.value.Data.{Data}
 use Rattle.cell_data.specs.declared.value.HeaderRow.TheVariants.{FirstNonEmptyRow}
-use Rattle.cell_styles.specs.StyleMap.{StyledCell}
+use Rattle.cell_styles.specs.Words.{StyledCell}
 use Rattle.xlsx_formats.specs.Formattings.{StyleSaid}
-use Rattle.shown_text.specs.ShownText.{shown_text}
-use Rattle.xlsx_sections.specs.PartSection.{PartSection, inside_of}
-use Rattle.xlsx_values.specs.Value.{Grounds, resolved}
-use Rattle.xlsx_formulas.specs.Formula.{FormulaText}
-use Rattle.xlsx_cells.specs.CellsReader.{values_and_styles}
-use Rattle.xlsx_cells.specs.Sheet.{values_in}
-use Rattle.xlsx_cells.specs.SheetPart.{IsSoundSheet}
-use Rattle.xlsx_cells.specs.StyleIds.{ids_in}
-use Rattle.xlsx_cells.specs.StyledValues.{styled_values}
+use Rattle.shown_text.specs.Words.{shown_text}
+use Rattle.xlsx_sections.specs.Words.{PartSection, inside_of}
+use Rattle.xlsx_values.specs.Words.{ValueContext, resolved}
+use Rattle.xlsx_formulas.specs.Words.{FormulaText}
+use Rattle.xlsx_cells.specs.Words.{values_and_styles, values_in, IsSoundSheet, ids_in}
+use Rattle.xlsx_cells.specs.Words.{styled_values}
 use Rattle.xlsx_cells.specs.declared.children.Wants.{Wants}
-use Rattle.xlsx_workbook.specs.Sheets.{PlacedSheet}
-use Rattle.xlsx_open.specs.Opening.{Opening, OpensAs}
-use Rattle.xlsx_open.specs.SharedParts.{SharedSaid}
+use Rattle.xlsx_workbook.specs.Words.{PlacedSheet}
+use Rattle.xlsx_open.specs.Words.{Opening, OpensAs, SharedSaid}
 use Rattle.xlsx_open.proofs.Sound.{both_at}
 use Rattle.xlsx_core.specs.Agreement.{HaveSameSheet}
-use Rattle.xlsx_core.specs.SheetReading.{events_at, opened_grounds, path_named, IsReadable}
+use Rattle.xlsx_core.specs.SheetReading.{events_at, opened_context, path_named, IsReadable}
 use Rattle.xlsx_core.specs.ShownSheet.{code_at, shown_cells, HasStyledValues, ShownAs}
 use Rattle.xlsx_core.specs.ShownTable.{AnswersStyledValues, ShowsValuesIn}
 use Rattle.xlsx_core.specs.TableData.{IsRangeIn}
 use Rattle.xlsx_core.proofs.Agreeing.{opens_over, events_over}
 use Rattle.xlsx_core.proofs.RangesRead.{data_or_none}
-use Rattle.xlsx_core.proofs.SheetLaws.{ShareAlike, are_alike, same_shared, same_grounds}
+use Rattle.xlsx_core.proofs.SheetLaws.{ShareAlike, are_alike, same_shared, same_context}
 use Rattle.xlsx_core.proofs.SheetLaws.{same_events, sounds_alike}
 
 -- cells are shown alike where the same is shared
@@ -60,14 +55,14 @@ one_shown parts name one two own other =
     same_events parts name second.opening first.opening (Some second.events) (Some first.events)
     second.opens first.opens second.found first.found in
     let events : second.events ≡ first.events = cc in
-    let sheet : IsSoundSheet (opened_grounds first.opening) first.events second.holds.all
+    let sheet : IsSoundSheet (opened_context first.opening) first.events second.holds.all
     second.holds.written second.holds.ids =
-    subst (λ (rests : Grounds). IsSoundSheet rests first.events second.holds.all
+    subst (λ (rests : ValueContext). IsSoundSheet rests first.events second.holds.all
     second.holds.written second.holds.ids)
-    (same_grounds parts second.opening first.opening second.opens first.opens)
-    (subst (λ (inside : List Event). IsSoundSheet (opened_grounds second.opening) inside
+    (same_context parts second.opening first.opening second.opens first.opens)
+    (subst (λ (inside : List Event). IsSoundSheet (opened_context second.opening) inside
     second.holds.all second.holds.written second.holds.ids) events second.holds.sheet) in
-    let both = sounds_alike (opened_grounds first.opening) first.events first.holds.all
+    let both = sounds_alike (opened_context first.opening) first.events first.holds.all
     second.holds.all first.holds.written second.holds.written first.holds.ids second.holds.ids
     first.holds.sheet sheet in
     let cells : styled_values first.holds.all first.holds.ids
@@ -130,48 +125,48 @@ alike_shown one two name shown others same first second =
 -- ---- in an area
 
 -- the values of a part with their style ids are one
-same_styled : (wants others : Wants) (grounds : Grounds) (events : List Event)
+same_styled : (wants others : Wants) (context : ValueContext) (events : List Event)
     (one two : List ((ℕ × ℕ) × (CellValue × ℕ)))
-    → AnswersStyledValues wants grounds events one
-    → AnswersStyledValues others grounds events two → one ≡ two
-same_styled wants others grounds events one two (inl first) (inl second) =
+    → AnswersStyledValues wants context events one
+    → AnswersStyledValues others context events two → one ≡ two
+same_styled wants others context events one two (inl first) (inl second) =
     let here = first.held in
     let there = second.held in
     let both : Some first.section ≡ Some second.section =
     sym first.sheet.found ∙ second.sheet.found in
     let same : first.section ≡ second.section = cc in
     let values : Ok here.values ≡ Ok there.values = sym here.valued
-    ∙ ap (λ (s : PartSection). values_in grounds (inside_of s)) same ∙ there.valued in
+    ∙ ap (λ (s : PartSection). values_in context (inside_of s)) same ∙ there.valued in
     let ids : Ok here.ids ≡ Ok there.ids = sym here.styled
     ∙ ap (λ (s : PartSection). ids_in (inside_of s)) same ∙ there.styled in
     let each : here.values ≡ there.values = cc in
     let own : here.ids ≡ there.ids = cc in
     here.used ∙ ap (λ (all : List ((ℕ × ℕ) × CellValue)). styled_values all here.ids) each
     ∙ ap (styled_values there.values) own ∙ sym there.used
-same_styled wants others grounds events one two (inl first) (inr second) =
+same_styled wants others context events one two (inl first) (inr second) =
     absurd (data_or_none events first.section first.sheet.found second.0.none)
-same_styled wants others grounds events one two (inr first) (inl second) =
+same_styled wants others context events one two (inr first) (inl second) =
     absurd (data_or_none events second.section second.sheet.found first.0.none)
-same_styled wants others grounds events one two (inr first) (inr second) =
+same_styled wants others context events one two (inr first) (inr second) =
     first.1 ∙ sym second.1
 
 -- what is shown in an area is one, where the same is shared
-pub one_shown_in : (grounds : Grounds) (one two : SharedSaid) (first second : Bool)
+pub one_shown_in : (context : ValueContext) (one two : SharedSaid) (first second : Bool)
     (area : Option Dimensions) (path : Option (List ℕ)) (parts : List Part)
     (range others : Range Data) → ShareAlike one two → first ≡ second
-    → ShowsValuesIn grounds one first FirstNonEmptyRow area path parts range
-    → ShowsValuesIn grounds two second FirstNonEmptyRow area path parts others
+    → ShowsValuesIn context one first FirstNonEmptyRow area path parts range
+    → ShowsValuesIn context two second FirstNonEmptyRow area path parts others
     → value_pairs range ≡ value_pairs others
-one_shown_in grounds one two first second None path parts range others share epoch here there =
+one_shown_in context one two first second None path parts range others share epoch here there =
     ap (map (with_meaning value_of_data)) (here.cells ∙ sym there.cells)
-one_shown_in grounds one two first second (Some area) path parts range others share epoch here
+one_shown_in context one two first second (Some area) path parts range others share epoch here
     there =
     let both = both_at (events_at path parts)
     (λ events. (found : List ((ℕ × ℕ) × (CellValue × ℕ)))
-    × AnswersStyledValues values_and_styles grounds events found
+    × AnswersStyledValues values_and_styles context events found
     × IsRangeIn value_of_data FirstNonEmptyRow area (shown_cells one first found) nothing range)
     (λ events. (found : List ((ℕ × ℕ) × (CellValue × ℕ)))
-    × AnswersStyledValues values_and_styles grounds events found
+    × AnswersStyledValues values_and_styles context events found
     × IsRangeIn value_of_data FirstNonEmptyRow area (shown_cells two second found) nothing others)
     here there in
     let (events, (found, answers, is), (more, again, also)) = both in
@@ -179,15 +174,15 @@ one_shown_in grounds one two first second (Some area) path parts range others sh
     ∙ ap (λ (own : List ((ℕ × ℕ) × CellValue)). filter (λ cell. is_in_area area cell.0)
     (last_of_each own))
     (cells_alike one two first second found more share epoch
-    (same_styled values_and_styles values_and_styles grounds events found more answers again))
+    (same_styled values_and_styles values_and_styles context events found more answers again))
     ∙ sym also.cells
 
 -- a sound sheet has them
-sound_styled : (grounds : Grounds) (events : List Event) (values : List ((ℕ × ℕ) × CellValue))
+sound_styled : (context : ValueContext) (events : List Event) (values : List ((ℕ × ℕ) × CellValue))
     (formulas : List ((ℕ × ℕ) × List FormulaText)) (ids : List StyledCell)
-    → IsSoundSheet grounds events values formulas ids
-    → HasStyledValues values_and_styles grounds events (styled_values values ids)
-sound_styled grounds events values formulas ids sound = record {
+    → IsSoundSheet context events values formulas ids
+    → HasStyledValues values_and_styles context events (styled_values values ids)
+sound_styled context events values formulas ids sound = record {
   section = sound.section;
   sheet = record {
     area = sound.area;
@@ -207,7 +202,7 @@ sound_styled grounds events values formulas ids sound = record {
 
 pub shown_in_area : (parts : List Part) (name : List ℕ) (opening : Opening) (area : Dimensions)
     (shown : List ((ℕ × ℕ) × CellValue)) (range : Range Data) → OpensAs parts opening
-    → ShownAs parts name shown → ShowsValuesIn (opened_grounds opening) opening.shared
+    → ShownAs parts name shown → ShowsValuesIn (opened_context opening) opening.shared
     opening.is_1904 FirstNonEmptyRow (Some area) (path_named name opening.sheets) parts range
     → value_pairs range ≡ filter (λ cell. is_in_area area cell.0) shown
 shown_in_area parts name opening area shown range opens own shows =
@@ -219,13 +214,13 @@ shown_in_area parts name opening area shown range opens own shows =
     ap (λ (all : List PlacedSheet). events_at (path_named name all) parts) sheets ∙ reads.found in
     let (found, answers, is) = subst (λ (events : Option (List Event)). IsSomeAnd events
     (λ inside. (found : List ((ℕ × ℕ) × (CellValue × ℕ)))
-    × AnswersStyledValues values_and_styles (opened_grounds opening) inside found
+    × AnswersStyledValues values_and_styles (opened_context opening) inside found
     × IsRangeIn value_of_data FirstNonEmptyRow area
     (shown_cells opening.shared opening.is_1904 found) nothing range)) here shows in
-    let has : HasStyledValues values_and_styles (opened_grounds opening) reads.events cells =
-    subst (λ (rests : Grounds). HasStyledValues values_and_styles rests reads.events cells)
-    (same_grounds parts there opening reads.opens opens)
-    (sound_styled (opened_grounds there) reads.events reads.holds.all reads.holds.written
+    let has : HasStyledValues values_and_styles (opened_context opening) reads.events cells =
+    subst (λ (rests : ValueContext). HasStyledValues values_and_styles rests reads.events cells)
+    (same_context parts there opening reads.opens opens)
+    (sound_styled (opened_context there) reads.events reads.holds.all reads.holds.written
     reads.holds.ids reads.holds.sheet) in
     is.cells
     ∙ ap (λ (all : List ((ℕ × ℕ) × CellValue)). filter (λ cell. is_in_area area cell.0)
@@ -233,6 +228,6 @@ shown_in_area parts name opening area shown range opens own shows =
     (cells_alike opening.shared there.shared opening.is_1904 there.is_1904 found cells
     (same_shared parts opening there opens reads.opens)
     (are_alike parts opening there opens reads.opens).epoch
-    (same_styled values_and_styles values_and_styles (opened_grounds opening) reads.events found
+    (same_styled values_and_styles values_and_styles (opened_context opening) reads.events found
     cells answers (inl has)))
     ∙ ap (filter (λ cell. is_in_area area cell.0)) (sym own.cells)

@@ -1,27 +1,26 @@
 -- What stands at each position, and the range of it.
-use Rattle.std.proofs.Common.{◌≡◌, ℕ, suc, ◌<◌, List, [], ◌∷◌, ◌++◌, Bool, true, false, cond}
-use Rattle.std.proofs.Common.{map, Option, Some, None, refl, sym, ◌∙◌, ap, subst, arith}
+use Rattle.std.proofs.Common.{◌≡◌, ℕ, suc, ◌<◌, List, [], ◌∷◌, ◌++◌, Bool, true, false, cond, map}
+use Rattle.std.proofs.Common.{Option, Some, None, refl, sym, ◌∙◌, ap, subst, arith}
 use Rattle.std.specs.Prelude.{nat_le, nat_lt, ◌&&◌}
 use Rattle.std.specs.List.{filter}
 use Rattle.std.proofs.lemmas.Bool.Decides.{nat_tests}
 use Rattle.cell_refs.specs.declared.dimensions.Dimensions.{Dimensions}
-use Rattle.cell_refs.specs.Positions.{position_cmp, last_of_each, least_area, lie_inside}
-use Rattle.cell_refs.specs.Positions.{is_in_area, is_rising, are_sheet_bounds}
+use Rattle.cell_refs.specs.Words.{position_cmp, last_of_each, least_area, lie_inside, is_in_area}
+use Rattle.cell_refs.specs.Words.{is_rising, are_sheet_bounds}
 use Rattle.cell_refs.proofs.PositionOrder.{and_both}
-use Rattle.sorted_cells.specs.Last.{last_key, comes_after}
+use Rattle.sorted_cells.specs.Words.{last_key, comes_after}
 use Rattle.sorted_cells.proofs.Orders.{after_sorted}
-use Rattle.cell_data.specs.Cells.{AreInSheet}
+use Rattle.cell_data.specs.Words.{AreInSheet, with_meaning}
 use Rattle.cell_data.specs.declared.range.Range.{Range}
 use Rattle.cell_data.specs.declared.value.HeaderRow.{HeaderRow}
 use Rattle.cell_data.specs.declared.value.HeaderRow.TheVariants.{FirstNonEmptyRow, Row}
-use Rattle.cell_data.proofs.Areas.{all_wider, filter_all, last_inside, least_inside}
-use Rattle.cell_data.proofs.Areas.{sheet_bounds, used_in_sheet}
+use Rattle.cell_data.proofs.Areas.{all_wider, filter_all, last_inside, least_inside, sheet_bounds}
+use Rattle.cell_data.proofs.Areas.{used_in_sheet}
 use Rattle.cell_data.proofs.LeastAreas.{least_last}
 use Rattle.cell_data.proofs.Passing.{last_passing}
 use Rattle.cell_data.proofs.Placing.{last_rising, rising_last}
-use Rattle.cell_data.specs.Pairs.{with_meaning}
-use Rattle.xlsx_core.specs.Worksheets.{from_row, below_header, header_area, area_below}
-use Rattle.xlsx_core.specs.Worksheets.{IsRangeFrom, IsRangeOf}
+use Rattle.xlsx_core.specs.Worksheets.{from_row, below_header, header_area, area_below, IsRangeFrom}
+use Rattle.xlsx_core.specs.Worksheets.{IsRangeOf}
 use Rattle.xlsx_core.proofs.LastOfEach.{last_mapped}
 use Rattle.xlsx_core.proofs.RangesMade.{begins_by, begins_from, in_wider, all_kept, below_mapped}
 use Rattle.xlsx_core.proofs.RangesMade.{meant_range}

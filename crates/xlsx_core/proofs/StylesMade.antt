@@ -1,12 +1,12 @@
 -- The styles of entries of which those that don't count are left out.
-use Rattle.std.proofs.Common.{◌≡◌, ℕ, List, [], ◌∷◌, length, Bool, true, false, refl, ◌∙◌, ap}
-use Rattle.std.proofs.Common.{sym, Result, Ok, Err}
+use Rattle.std.proofs.Common.{◌≡◌, ℕ, List, [], ◌∷◌, length, Bool, true, false, refl, ◌∙◌, ap, sym}
+use Rattle.std.proofs.Common.{Result, Ok, Err}
 use Rattle.std.specs.Prelude.{filter, ◌&&◌, if◌then◌else◌, IfOk}
 use Rattle.std.specs.declared.alloc.AllocError.{AllocError}
 use Rattle.cell_styles.proofs.Meaning.{kept, dropped}
 use Rattle.cell_styles.proofs.SameRanges.{same_range}
-use Rattle.cell_styles.specs.StyleMap.{StyledCell, StyleMap, is_explicit, is_at, first_id_at}
-use Rattle.cell_styles.specs.StyleMap.{styles_of}
+use Rattle.cell_styles.specs.Words.{StyledCell, StyleMap, is_explicit, is_at, first_id_at}
+use Rattle.cell_styles.specs.Words.{styles_of}
 use Rattle.cell_styles.specs.declared.style.Style.{Style}
 
 first_id_kept : (count : ℕ) (cells : List StyledCell) (position : ℕ × ℕ)

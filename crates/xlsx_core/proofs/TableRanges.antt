@@ -1,22 +1,19 @@
 -- The data of tables: what there is without an area, and why they are refused.
-use Rattle.std.proofs.Common.{◌≡◌, ℕ, List, [], refl, ◌∙◌, ap}
-use Rattle.std.proofs.Common.{Some, inl, inr, String, Global}
-use Rattle.part_events.specs.Package.{PackageState}
+use Rattle.std.proofs.Common.{◌≡◌, ℕ, List, [], refl, ◌∙◌, ap, Some, inl, inr, String, Global}
+use Rattle.part_events.specs.Words.{PackageState}
 use Rattle.cell_data.proofs.Placing.{nothing_last}
-use Rattle.cell_data.specs.Range.{cells_of, bounds_of, blank_of}
+use Rattle.cell_data.specs.Words.{cells_of, bounds_of, blank_of}
 use Rattle.cell_data.specs.declared.range.Range.{Range}
-use Rattle.cell_refs.specs.Positions.{last_of_each, least_area}
+use Rattle.cell_refs.specs.Words.{last_of_each, least_area}
 use Rattle.cell_refs.specs.declared.dimensions.Dimensions.{Dimensions}
 use Rattle.xlsx_error.specs.declared.error.XlsxError.{XlsxError}
 use Rattle.xlsx_error.specs.declared.error.XlsxError.TheVariants.{OutOfMemory, TableNotFound}
 use Rattle.xlsx_cells.specs.declared.children.Wants.{Wants}
 use Rattle.xlsx_tables.specs.Tables.{SheetTable}
-use Rattle.xlsx_core.specs.TableData.{IsNoRange}
-use Rattle.xlsx_core.specs.TableData.{AreaFails, TableDataFails, IsTableDataError, LacksTable}
-use Rattle.xlsx_core.specs.TableData.{table_of_book}
+use Rattle.xlsx_core.specs.TableData.{IsNoRange, AreaFails, TableDataFails, IsTableDataError}
+use Rattle.xlsx_core.specs.TableData.{LacksTable, table_of_book}
 use Rattle.xlsx_core.specs.TableList.{loaded_tables}
-use Rattle.xlsx_core.specs.Worksheets.{RangeFails, IsRangeError}
-use Rattle.xlsx_core.specs.Worksheets.{grounds_of_book, path_of}
+use Rattle.xlsx_core.specs.Worksheets.{RangeFails, IsRangeError, context_of_book, path_of}
 use Rattle.xlsx_core.specs.declared.xlsx.Xlsx.{Xlsx}
 
 -- ---- the range without an area
@@ -41,7 +38,7 @@ no_table_error sheet asked (inr own) = own
 module _ {P : Type 0} (wants : Wants) (xlsx : Xlsx P) where
   pub area_fails : (sheet : List ℕ) (area : Dimensions) (old new : PackageState)
       (error : XlsxError)
-      → RangeFails sheet wants (grounds_of_book xlsx) (path_of xlsx sheet) old new error
+      → RangeFails sheet wants (context_of_book xlsx) (path_of xlsx sheet) old new error
       → AreaFails wants xlsx sheet (Some area) old new error
   area_fails sheet area old new OutOfMemory fails = tt
   area_fails sheet area old new error fails = (refl, fails)

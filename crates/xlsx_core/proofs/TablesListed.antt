@@ -3,13 +3,12 @@ use Rattle.std.proofs.Common.{◌≡◌, ℕ, zero, suc, List, [], ◌∷◌, �
 use Rattle.std.proofs.Common.{Option, Some, None, Result, Ok, Err, string_bytes}
 use Rattle.std.specs.Prelude.{option_map}
 use Rattle.std.proofs.lemmas.List.{map-append}
-use Rattle.part_events.specs.Package.{PackageState}
+use Rattle.part_events.specs.Words.{PackageState}
 use Rattle.xlsx_error.specs.declared.error.XlsxError.{XlsxError}
-use Rattle.xlsx_parts.specs.ManyAsked.{Appends, map_each}
-use Rattle.xlsx_parts.specs.SheetPaths.{sheet_at}
+use Rattle.xlsx_parts.specs.Words.{Appends, map_each, sheet_at}
 use Rattle.xlsx_tables.specs.TableParts.{TableSaid}
-use Rattle.xlsx_tables.specs.Tables.{SheetTable, tables_at, table_of_sheet, on_sheet, loaded_of}
-use Rattle.xlsx_tables.specs.Tables.{tables_ask, tables_on_ask}
+use Rattle.xlsx_tables.specs.Tables.{SheetTable, tables_at, table_of_sheet, table_on_sheet}
+use Rattle.xlsx_tables.specs.Tables.{loaded_of, tables_ask, tables_on_ask}
 use Rattle.xlsx_tables.specs.declared.loaded.LoadedTable.{LoadedTable}
 use Rattle.xlsx_workbook.specs.declared.sheet.Sheet.{Sheet}
 use Rattle.xlsx_core.specs.TableList.{sheet_name, with_sheet, table_held, tables_held}
@@ -44,7 +43,7 @@ held_by_numbers sheets (own ∷ loaded) =
 
 on_one_sheet : (sheets : List Sheet) (number : ℕ) (name : List ℕ) (found : List TableSaid)
     → sheet_name sheets number ≡ name
-    → map (with_sheet sheets) (map (on_sheet number) found) ≡ map (table_of_sheet name) found
+    → map (with_sheet sheets) (map (table_on_sheet number) found) ≡ map (table_of_sheet name) found
 on_one_sheet sheets number name [] is = refl
 on_one_sheet sheets number name (own ∷ found) is =
     ap (λ (rest : List SheetTable). table_of_sheet (sheet_name sheets number) own ∷ rest)
@@ -53,27 +52,28 @@ on_one_sheet sheets number name (own ∷ found) is =
 
 held_further : (sheets : List Sheet) (number : ℕ) (name : List ℕ) (kept now : List LoadedTable)
     (found : List TableSaid) → sheet_name sheets number ≡ name
-    → map loaded_of now ≡ map loaded_of kept ++ map (on_sheet number) found
+    → map loaded_of now ≡ map loaded_of kept ++ map (table_on_sheet number) found
     → tables_held sheets now ≡ tables_held sheets kept ++ map (table_of_sheet name) found
 held_further sheets number name kept now found named is =
     held_by_numbers sheets now ∙ ap (map (with_sheet sheets)) is
-    ∙ map-append (with_sheet sheets) (map loaded_of kept) (map (on_sheet number) found)
+    ∙ map-append (with_sheet sheets) (map loaded_of kept) (map (table_on_sheet number) found)
     ∙ ap (λ (first : List SheetTable). first
-    ++ map (with_sheet sheets) (map (on_sheet number) found)) (sym (held_by_numbers sheets kept))
+    ++ map (with_sheet sheets) (map (table_on_sheet number) found))
+    (sym (held_by_numbers sheets kept))
     ∙ ap (λ (rest : List SheetTable). tables_held sheets kept ++ rest)
     (on_one_sheet sheets number name found named)
 
 -- what is said by numbers is said by names
 said_on_sheet : (sheets : List Sheet) (number : ℕ) (said : Option (List TableSaid))
     (before after : List LoadedTable) → (found : List (ℕ × TableSaid))
-    × (option_map (map (on_sheet number)) said ≡ Some found)
+    × (option_map (map (table_on_sheet number)) said ≡ Some found)
     × (map loaded_of after ≡ map loaded_of before ++ found)
     → (found : List SheetTable)
     × (option_map (map (table_of_sheet (sheet_name sheets number))) said ≡ Some found)
     × (tables_held sheets after ≡ tables_held sheets before ++ found)
 said_on_sheet sheets number None before after kept = absurd (cc)
 said_on_sheet sheets number (Some own) before after kept =
-    let same : map (on_sheet number) own ≡ kept.0 = cc in
+    let same : map (table_on_sheet number) own ≡ kept.0 = cc in
     let name = sheet_name sheets number in (
       map (table_of_sheet name) own,
       refl,
@@ -83,7 +83,7 @@ said_on_sheet sheets number (Some own) before after kept =
 
 pub kept_on_sheet : {R : Type 0} (sheets : List Sheet) (number : ℕ) (path : List ℕ)
     (before after : List LoadedTable) (result : Result R XlsxError) {old new : PackageState}
-    → Appends (map_each (on_sheet number) (tables_ask path)) (map loaded_of before)
+    → Appends (map_each (table_on_sheet number) (tables_ask path)) (map loaded_of before)
     (map loaded_of after) result old new
     → Appends (tables_on_ask (sheet_at (sheet_name sheets number) path))
     (tables_held sheets before) (tables_held sheets after) result old new

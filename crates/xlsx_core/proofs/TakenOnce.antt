@@ -1,29 +1,27 @@
 -- The part of a sheet is read once.
-use Rattle.std.proofs.Common.{◌≡◌, ◌+◌, ◌≤◌, ℕ, List, ◌∷◌, true, Option, Some, None, Result}
-use Rattle.std.proofs.Common.{Ok, Err, ◌∙◌, ap, subst, inr, arith, string_bytes}
+use Rattle.std.proofs.Common.{◌≡◌, ◌+◌, ◌≤◌, ℕ, List, ◌∷◌, true, Option, Some, None, Result, Ok}
+use Rattle.std.proofs.Common.{Err, ◌∙◌, ap, subst, inr, arith, string_bytes}
 use Rattle.std.specs.Prelude.{IsSomeAnd, OnOk}
 use Rattle.std.specs.List.{sum_by}
 use Rattle.std.proofs.lemmas.List.Sums.{sum_by-cons}
 use Rattle.cell_refs.specs.declared.dimensions.Dimensions.{Dimensions}
 use Rattle.cell_styles.specs.declared.style.Style.{Style}
-use Rattle.part_events.specs.Package.{Part, PackageState, SameParts, NeverFalls, UsesPackage}
-use Rattle.part_events.specs.Package.{LeavesPackage, Uses, event_count, CountsUp}
-use Rattle.part_events.specs.Reading.{Reading, ReadsPart}
+use Rattle.part_events.specs.Words.{Part, PackageState, SameParts, NeverFalls, UsesPackage}
+use Rattle.part_events.specs.Words.{LeavesPackage, Uses, event_count, CountsUp, Reading, ReadsPart}
 use Rattle.part_events.proofs.Uses.{same_further}
 use Rattle.xlsx_error.specs.declared.error.XlsxError.{XlsxError}
 use Rattle.xlsx_error.specs.declared.error.XlsxError.TheVariants.{Io}
-use Rattle.xlsx_values.specs.Value.{Grounds}
-use Rattle.xlsx_cells.specs.SheetPart.{EntersData}
-use Rattle.xlsx_cells.specs.Stream.{Stream}
+use Rattle.xlsx_values.specs.Words.{ValueContext}
+use Rattle.xlsx_cells.specs.Words.{EntersData, Stream}
 use Rattle.xlsx_workbook.specs.declared.sheet.Sheet.{Sheet}
-use Rattle.xlsx_open.specs.Opening.{TakesOpening, TakesSections}
+use Rattle.xlsx_open.specs.Words.{TakesOpening, TakesSections}
 use Rattle.xlsx_core.specs.Listing.{listed_events}
 use Rattle.xlsx_core.specs.SheetReading.{placed_events, TakesSheet, data_events, ReadsToData}
 use Rattle.xlsx_core.proofs.SheetsRead.{OpensPlaced}
 
 -- whatever a call answers
 pub uses_taken : {A E : Type 0} (most : ℕ) (fault : E) (result : Result A E)
-    (old new : PackageState) → Uses most fault result old new → old.is_told ≡ true
+    (old new : PackageState) → Uses most fault result old new → old.is_visible ≡ true
     → new.taken ≤ old.taken + most
 uses_taken most fault (Ok value) old new uses = uses.taken
 uses_taken most fault (Err error) old new uses = uses.taken
@@ -48,14 +46,14 @@ path_read (Ok value) path area old mid new enters reads = record {
   faults = reads.stays.faults ∙ enters.faults;
   forward = omega (arith, enters.begins, reads.moves.taken);
   taken = λ told.
-      omega (arith, enters.taken told, reads.moves.within (enters.parts.is_told ∙ told));
+      omega (arith, enters.taken told, reads.moves.within (enters.parts.is_visible ∙ told));
 }
 path_read (Err error) path area old mid new enters reads = record {
   parts = same_further enters.parts reads.moves.parts;
   faults = λ other. reads.faults other ∙ enters.faults;
   forward = omega (arith, enters.begins, reads.moves.taken);
   taken = λ told.
-      omega (arith, enters.taken told, reads.moves.within (enters.parts.is_told ∙ told));
+      omega (arith, enters.taken told, reads.moves.within (enters.parts.is_visible ∙ told));
 }
 
 -- the same at a path that there may be
@@ -94,7 +92,7 @@ pub leaves_listed : (place : List ℕ → Option (List ℕ)) (old mid new : Pack
     (error : XlsxError) → kept ≡ place name → name ≡ string_bytes sheet.name
     → left ≡ sheet ∷ sheets → SameParts old mid → mid.faults ≡ old.faults
     → NeverFalls old.taken mid.taken
-    → (old.is_told ≡ true → mid.taken + listed_events place old.parts left ≤ old.taken + most)
+    → (old.is_visible ≡ true → mid.taken + listed_events place old.parts left ≤ old.taken + most)
     → LeavesPackage (placed_events kept mid.parts) Io mid new error
     → LeavesPackage most Io old new error
 leaves_listed place old mid new kept name sheet left sheets most error path named front same
@@ -106,18 +104,18 @@ leaves_listed place old mid new kept name sheet left sheets most error path name
           omega (
             arith,
             part_listed place old mid new kept name sheet left sheets (old.taken + most) path
-                named front same.parts (all told) (leaves.taken (same.is_told ∙ told)),
+                named front same.parts (all told) (leaves.taken (same.is_visible ∙ told)),
           );
     }
 
 -- what opening took, and then the part of the sheet
-pub sheet_taken : (name : List ℕ) (path : Option (List ℕ)) (grounds : Grounds)
+pub sheet_taken : (name : List ℕ) (path : Option (List ℕ)) (context : ValueContext)
     (palette : List Style) (old mid new : PackageState) → SameParts old mid
-    → OpensPlaced name path grounds palette old.parts
+    → OpensPlaced name path context palette old.parts
     → TakesOpening old.parts old.taken mid.taken
     → new.taken ≤ mid.taken + placed_events path mid.parts
     → TakesSheet old.parts name old.taken new.taken
-sheet_taken name path grounds palette old mid new same opens takes once =
+sheet_taken name path context palette old mid new same opens takes once =
     inr (record {
       opening = opens.opening;
       behind = mid.taken;
@@ -132,14 +130,14 @@ sheet_taken name path grounds palette old mid new same opens takes once =
 
 -- where its sheet is read to the end of its data
 pub sheet_to_data : {A : Type 0} (result : Result A XlsxError) (name : List ℕ)
-    (path : Option (List ℕ)) (grounds : Grounds) (palette : List Style)
+    (path : Option (List ℕ)) (context : ValueContext) (palette : List Style)
     (old mid new : PackageState) → SameParts old mid
-    → OpensPlaced name path grounds palette old.parts
+    → OpensPlaced name path context palette old.parts
     → TakesSections old.parts old.taken mid.taken
     → OnOk result (CountsUp (data_events path mid.parts) mid.taken new.taken)
     → OnOk result (ReadsToData old.parts name old.taken new.taken)
-sheet_to_data (Err error) name path grounds palette old mid new same opens takes exact = tt
-sheet_to_data (Ok value) name path grounds palette old mid new same opens takes exact = record {
+sheet_to_data (Err error) name path context palette old mid new same opens takes exact = tt
+sheet_to_data (Ok value) name path context palette old mid new same opens takes exact = record {
   opening = opens.opening;
   behind = mid.taken;
   opens = opens.opens;

@@ -1,11 +1,11 @@
 -- What the call on comments of an open workbook asks.
 use Rattle.std.specs.Prelude.{ℕ, List, Option, Some, None}
-use Rattle.xlsx_sections.specs.Asking.{Ask}
+use Rattle.xlsx_sections.specs.Words.{Ask}
 use Rattle.xlsx_comments.specs.CommentParts.{CommentsSaid}
 use Rattle.xlsx_comments.specs.Comments.{sheet_comments_ask}
 use Rattle.xlsx_core.specs.Worksheets.{LacksPath}
 
--- no sheet has the name, so nothing is read
+-- what is asked where no sheet has a name: nothing is read
 abbrev pub lacking_ask : {A : Type 0} → List ℕ → Ask A
 lacking_ask name = record {
   most = λ parts. 0;

@@ -2,26 +2,17 @@
 -- numbers, and read by their parts.
 use Rattle.std.specs.Prelude.{ℕ, suc, List, [], ◌∷◌, map, codes, Bool, false, Option, Some, None}
 use Rattle.std.specs.Prelude.{option_map, option_and_then, Result, Ok, Err, string_bytes}
-use Rattle.cell_refs.specs.Positions.{last_of_each}
+use Rattle.cell_refs.specs.Words.{last_of_each}
 use Rattle.cell_refs.specs.declared.dimensions.Dimensions.{Dimensions}
-use Rattle.part_events.specs.Event.{Event}
-use Rattle.part_events.specs.Nesting.{whole}
-use Rattle.part_events.specs.Package.{Part, part_of, event_count}
+use Rattle.part_events.specs.Words.{Event, whole, Part, part_of, event_count}
 use Rattle.xlsx_error.specs.declared.error.XlsxError.{XlsxError}
 use Rattle.xlsx_error.specs.declared.error.XlsxError.TheVariants.{NotAWorksheet}
-use Rattle.xlsx_sections.specs.Asking.{Ask}
-use Rattle.xlsx_sections.specs.PartSection.{PartSection, section_in}
-use Rattle.xlsx_sections.specs.Refusal.{Refusal}
-use Rattle.xlsx_sections.specs.SectionEvents.{section_events_of}
-use Rattle.xlsx_parts.specs.ManyAsked.{each}
-use Rattle.xlsx_parts.specs.PartSaid.{section_said, if_whole, unless_absent, all_said}
-use Rattle.xlsx_parts.specs.SheetPaths.{SheetPath}
-use Rattle.xlsx_parts.specs.WholePart.{IfThere, SomeCause}
-use Rattle.xlsx_values.specs.Value.{Grounds}
-use Rattle.xlsx_cells.specs.CellsReader.{formulas_alone}
-use Rattle.xlsx_cells.specs.CoveredFormulas.{covered_in}
-use Rattle.xlsx_cells.specs.Head.{dimensions_in, other_in}
-use Rattle.xlsx_core.specs.SheetReading.{grounds_with, IsPartError}
+use Rattle.xlsx_sections.specs.Words.{Ask, PartSection, section_in, Refusal, section_events_of}
+use Rattle.xlsx_parts.specs.Words.{each, section_said, if_whole, unless_absent, all_said, SheetPath}
+use Rattle.xlsx_parts.specs.Words.{IfThere, SomeCause}
+use Rattle.xlsx_values.specs.Words.{ValueContext}
+use Rattle.xlsx_cells.specs.Words.{formulas_alone, covered_in, dimensions_in, other_in}
+use Rattle.xlsx_core.specs.SheetReading.{context_with, IsPartError}
 use Rattle.xlsx_core.specs.Worksheets.{RangePartCause}
 use Rattle.xlsx_core.specs.declared.formula_list.SheetFormula.{SheetFormula}
 
@@ -31,10 +22,10 @@ pub record NumberedSheet : Type 0 where
   pub path : List ℕ
 
 -- sheets with their numbers, of which the first has this one
-abbrev pub numbered_from : ℕ → List SheetPath → List NumberedSheet
-numbered_from number [] = []
-numbered_from number (sheet ∷ sheets) =
-    record { number = number; path = sheet.path } ∷ numbered_from (suc number) sheets
+abbrev pub sheets_from : ℕ → List SheetPath → List NumberedSheet
+sheets_from number [] = []
+sheets_from number (sheet ∷ sheets) =
+    record { number = number; path = sheet.path } ∷ sheets_from (suc number) sheets
 
 -- a formula of a workbook: the number of its sheet, its cell, the area that it covers, and its text
 pub record FormulaSaid : Type 0 where
@@ -43,7 +34,7 @@ pub record FormulaSaid : Type 0 where
   pub covers : Dimensions
   pub text : List ℕ
 
--- its cell and its text, whatever it covers
+-- the cell and the text of a formula, whatever it covers
 abbrev pub formula_pair : FormulaSaid → (ℕ × ℕ) × List ℕ
 formula_pair said = (said.position, said.text)
 
@@ -72,7 +63,7 @@ part_formulas events =
     if_dimensions (dimensions_in (whole events))
     (data_formulas events (section_in (codes "sheetData") events))
 
--- those of the sheet at a path, and none where the part is absent
+-- the formulas that count of the sheet at a path, and none where its part is absent
 abbrev pub path_formulas :
     List Part → List ℕ → Option (List ((ℕ × ℕ) × (List ℕ × Dimensions)))
 path_formulas parts path =
@@ -84,31 +75,31 @@ sheet_formulas parts sheet =
     option_map (λ all. map (formula_on sheet.number) (last_of_each all))
     (path_formulas parts sheet.path)
 
--- those of all sheets, one after the other
+-- the formulas of all sheets, one sheet after the other
 abbrev pub workbook_formulas : List Part → List SheetPath → Option (List FormulaSaid)
-workbook_formulas parts sheets = all_said (sheet_formulas parts) (numbered_from 0 sheets)
+workbook_formulas parts sheets = all_said (sheet_formulas parts) (sheets_from 0 sheets)
 
--- formulas rest on nothing but their part
-abbrev pub no_grounds : Grounds
-no_grounds = grounds_with [] [] false
+-- what formulas rest on: nothing but their part
+abbrev pub no_context : ValueContext
+no_context = context_with [] [] false
 
--- why those of a sheet can't be read: its part is there, and refused, whatever the values of its
--- cells say; that it is no worksheet is no reason
+-- why the formulas of a sheet can't be read: its part is there, and refused, whatever the values of
+-- its cells say; that it is no worksheet is no reason
 abbrev pub SheetFormulasCause : List Part → NumberedSheet → XlsxError → Type 0
 SheetFormulasCause parts sheet error =
-    IfThere (RangePartCause formulas_alone no_grounds) (part_of parts sheet.path) error
+    IfThere (RangePartCause formulas_alone no_context) (part_of parts sheet.path) error
 
--- why those of all sheets can't
+-- why the formulas of all sheets can't be read
 abbrev pub FormulasCause : List Part → List SheetPath → XlsxError → Type 0
 FormulasCause parts sheets error =
-    SomeCause (SheetFormulasCause parts) (numbered_from 0 sheets) error
+    SomeCause (SheetFormulasCause parts) (sheets_from 0 sheets) error
 
--- a refusal that reading them can have, whatever the package tells
+-- a refusal that reading the formulas of all sheets can have, whatever the package tells
 abbrev pub IsFormulasError : XlsxError → Type 0
 IsFormulasError (NotAWorksheet other) = ⊥
 IsFormulasError error = IsPartError error
 
--- what is asked for those of a sheet
+-- what is asked for the formulas of a sheet
 abbrev pub formulas_ask : NumberedSheet → Ask (List FormulaSaid)
 formulas_ask sheet = record {
   most = λ parts. event_count parts sheet.path;
@@ -118,9 +109,9 @@ formulas_ask sheet = record {
   kind = IsFormulasError;
 }
 
--- and for those of all sheets
+-- what is asked for the formulas of all sheets
 abbrev pub all_formulas_ask : List SheetPath → Ask (List FormulaSaid)
-all_formulas_ask sheets = each IsFormulasError formulas_ask (numbered_from 0 sheets)
+all_formulas_ask sheets = each IsFormulasError formulas_ask (sheets_from 0 sheets)
 
 -- a formula that was read, apart from where its text lies in memory
 abbrev pub formula_read : SheetFormula → FormulaSaid

@@ -15,4 +15,5 @@ pub mod ShownSheet
 pub mod ShownTable
 pub mod TableData
 pub mod TableList
+pub mod Words
 pub mod Worksheets

@@ -2,11 +2,10 @@
 use Rattle.std.specs.Prelude.{◌≡◌, ℕ, List, Option, option_and_then, string_bytes, MatchOption}
 use Rattle.std.specs.Prelude.{IsSomeAnd}
 use Rattle.std.specs.Option.{option_map_or}
-use Rattle.part_events.specs.Event.{Event}
-use Rattle.part_events.specs.Package.{Part, PackageState}
+use Rattle.part_events.specs.Words.{Event, Part, PackageState}
 use Rattle.xlsx_error.specs.declared.error.XlsxError.{XlsxError}
 use Rattle.xlsx_error.specs.declared.error.XlsxError.TheVariants.{WorksheetNotFound}
-use Rattle.xlsx_sections.specs.Failing.{FailsBy}
+use Rattle.xlsx_sections.specs.Words.{FailsBy}
 use Rattle.xlsx_areas.specs.Hyperlinks.{Link, links_at, link_events}
 use Rattle.xlsx_areas.specs.LinkErrors.{SheetLinksCause, IsSheetLinksError}
 use Rattle.xlsx_core.specs.Merges.{sheet_name_at, IsOutOfRange}
@@ -18,7 +17,7 @@ use Rattle.xlsx_core.specs.declared.xlsx.Xlsx.{Xlsx}
 abbrev pub links_placed : Option (List ℕ) → List Part → Option (List Link)
 links_placed path parts = option_and_then (links_at parts) path
 
--- how many events that part and its relationships have
+-- how many events the part at a path and its relationships have, where there is one
 abbrev pub placed_link_events : Option (List ℕ) → List Part → ℕ
 placed_link_events path parts = option_map_or (link_events parts) path 0
 
@@ -41,7 +40,7 @@ abbrev pub IsPlacedLinksError : List ℕ → XlsxError → Type 0
 IsPlacedLinksError name (WorksheetNotFound asked) = string_bytes asked ≡ name
 IsPlacedLinksError name error = IsSheetLinksError error
 
--- when those of the sheet at an index can't be taken
+-- when the links of the sheet at an index can't be taken
 abbrev pub NumberedLinksFail :
     {P : Type 0} → Xlsx P → ℕ → PackageState → PackageState → XlsxError → Type 0
 NumberedLinksFail xlsx index old new error =

@@ -5,13 +5,13 @@ use Rattle.std.specs.Prelude.{string_bytes}
 use Rattle.std.specs.Borrow.{Bor}
 use Rattle.std.specs.Option.{option_copied}
 use Rattle.std.specs.Str.{bytes_eq}
-use Rattle.xlsx_workbook.specs.KeptContents.{path_kept}
-use Rattle.xlsx_workbook.specs.declared.paths.KeptPath.{KeptPath}
+use Rattle.xlsx_workbook.specs.Words.{path_kept}
+use Rattle.xlsx_workbook.specs.declared.paths.PartPath.{PartPath}
 use Rattle.xlsx_workbook.specs.declared.sheet.Sheet.{Sheet}
 
 -- the path of the part of the first sheet of this name, where the paths stand in the order of the
 -- sheets
-abbrev pub path_listed : List ℕ → List Sheet → List KeptPath → Option (List ℕ)
+abbrev pub path_listed : List ℕ → List Sheet → List PartPath → Option (List ℕ)
 path_listed name [] paths = None
 path_listed name (sheet ∷ sheets) [] = None
 path_listed name (sheet ∷ sheets) (path ∷ paths) =
@@ -19,5 +19,5 @@ path_listed name (sheet ∷ sheets) (path ∷ paths) =
     else path_listed name sheets paths
 
 -- a path that is lent as it is kept, where there is one
-abbrev pub path_lent : Option (Bor KeptPath) → Option (List ℕ)
+abbrev pub path_lent : Option (Bor PartPath) → Option (List ℕ)
 path_lent path = option_map path_kept (option_copied path)

@@ -1,13 +1,12 @@
 -- The cells of a sheet as they came, and what they rest on.
 use Rattle.std.specs.Prelude.{◌≡◌, ℕ, List, map, length, string_bytes, Option, Some, IsSomeAnd}
-use Rattle.cell_data.specs.Gathered.{cells_gathered}
+use Rattle.cell_data.specs.Words.{cells_gathered}
 use Rattle.cell_styles.specs.declared.style.Style.{Style}
-use Rattle.part_events.specs.Event.{Event}
-use Rattle.part_events.specs.Package.{Part}
-use Rattle.xlsx_cells.specs.SheetPart.{value_entries, formula_entries, LieInSheet}
-use Rattle.xlsx_open.specs.Opening.{Opening, OpensAs}
-use Rattle.xlsx_values.specs.Value.{Grounds}
-use Rattle.xlsx_core.specs.SheetReading.{events_at, events_named, opened_grounds, all_wanted}
+use Rattle.part_events.specs.Words.{Event, Part}
+use Rattle.xlsx_cells.specs.Words.{value_entries, formula_entries, LieInSheet}
+use Rattle.xlsx_open.specs.Words.{Opening, OpensAs}
+use Rattle.xlsx_values.specs.Words.{ValueContext}
+use Rattle.xlsx_core.specs.SheetReading.{events_at, events_named, opened_context, all_wanted}
 use Rattle.xlsx_core.specs.SheetReading.{IsPaletteOf}
 use Rattle.xlsx_core.specs.Worksheets.{HoldsWanted}
 use Rattle.xlsx_core.specs.declared.as_read.ReadCells.{ReadCells}
@@ -26,12 +25,12 @@ LieOnSheet read =
     LieInSheet (cells_gathered read.cells.values) (cells_gathered read.cells.formulas)
     read.cells.style_ids.items
 
--- the part at a path, of a workbook with these grounds and styles, holds these cells
+-- the part at a path, of a workbook with these context and styles, holds these cells
 abbrev pub ReadsCells :
-    Grounds → List Style → Option (List ℕ) → List Part → ReadCells → Type 0
-ReadsCells grounds palette path parts read =
+    ValueContext → List Style → Option (List ℕ) → List Part → ReadCells → Type 0
+ReadsCells context palette path parts read =
     IsSomeAnd (events_at path parts)
-    (λ events. HoldsWanted all_wanted grounds (length palette) events
+    (λ events. HoldsWanted all_wanted context (length palette) events
     (value_entries (cells_gathered read.cells.values))
     (formula_entries (cells_gathered read.cells.formulas)) read.cells.style_ids.items)
 
@@ -45,6 +44,6 @@ pub record HoldsCells (parts : List Part) (name : List ℕ) (read : ReadCells) :
   pub strings : strings_beside read ≡ opening.shared.strings
   pub found : events_named name opening.sheets parts ≡ Some events
   pub holds :
-      HoldsWanted all_wanted (opened_grounds opening) (length (palette_beside read)) events
+      HoldsWanted all_wanted (opened_context opening) (length (palette_beside read)) events
       (value_entries (cells_gathered read.cells.values))
       (formula_entries (cells_gathered read.cells.formulas)) read.cells.style_ids.items

@@ -3,12 +3,12 @@ use Rattle.std.specs.Prelude.{◌≡◌, ⊤, ℕ, List, [], map, filter, find, 
 use Rattle.std.specs.Prelude.{option_and_then, IsSome, IsSomeAnd, string_bytes}
 use Rattle.std.specs.Option.{option_map_or}
 use Rattle.std.specs.Str.{bytes_eq}
-use Rattle.cell_refs.specs.Positions.{is_in_area, last_of_each}
+use Rattle.cell_refs.specs.Words.{is_in_area, last_of_each}
 use Rattle.cell_refs.specs.declared.dimensions.Dimensions.{Dimensions}
-use Rattle.part_events.specs.Package.{Part, PackageState}
-use Rattle.cell_data.specs.CellValue.{nothing, value_of_data, value_of_data_ref}
-use Rattle.cell_data.specs.Range.{cells_of, bounds_of, blank_of}
-use Rattle.cell_data.specs.Table.{table_name, table_sheet, table_columns, table_data}
+use Rattle.part_events.specs.Words.{Part, PackageState}
+use Rattle.cell_data.specs.Words.{nothing, value_of_data, value_of_data_ref, cells_of, bounds_of}
+use Rattle.cell_data.specs.Words.{blank_of, table_name, table_sheet, table_columns, table_data}
+use Rattle.cell_data.specs.Words.{pairs_by}
 use Rattle.cell_data.specs.declared.range.Range.{Range}
 use Rattle.cell_data.specs.declared.table.Table.{Table}
 use Rattle.cell_data.specs.declared.value.Data.{Data}
@@ -16,27 +16,26 @@ use Rattle.cell_data.specs.declared.value.DataRef.{DataRef}
 use Rattle.cell_data.specs.declared.value.HeaderRow.{HeaderRow}
 use Rattle.xlsx_error.specs.declared.error.XlsxError.{XlsxError}
 use Rattle.xlsx_error.specs.declared.error.XlsxError.TheVariants.{OutOfMemory, TableNotFound}
-use Rattle.xlsx_values.specs.Value.{Grounds}
-use Rattle.xlsx_cells.specs.Sheet.{with_texts}
+use Rattle.xlsx_values.specs.Words.{ValueContext}
+use Rattle.xlsx_cells.specs.Words.{with_texts}
 use Rattle.xlsx_cells.specs.declared.children.Wants.{Wants}
 use Rattle.xlsx_tables.specs.Tables.{SheetTable, table_of_sheet}
-use Rattle.cell_data.specs.Pairs.{pairs_by}
 use Rattle.xlsx_core.specs.SheetReading.{placed_events, data_events}
 use Rattle.xlsx_core.specs.TableList.{loaded_tables}
-use Rattle.xlsx_core.specs.Worksheets.{below_header, ReadsUsed, RangeFails, IsRangeError}
-use Rattle.xlsx_core.specs.Worksheets.{path_of, grounds_of_book}
+use Rattle.xlsx_core.specs.Worksheets.{below_header, ReadsUsed, RangeFails, IsRangeError, path_of}
+use Rattle.xlsx_core.specs.Worksheets.{context_of_book}
 use Rattle.xlsx_core.specs.declared.table_data.TableHead.{TableHead}
 use Rattle.xlsx_core.specs.declared.xlsx.Xlsx.{Xlsx}
 
 -- the first table of a name
-abbrev pub first_named : List ℕ → List SheetTable → Option SheetTable
-first_named name tables = find (λ (own : SheetTable). bytes_eq own.table.name name) tables
+abbrev pub first_table : List ℕ → List SheetTable → Option SheetTable
+first_table name tables = find (λ (own : SheetTable). bytes_eq own.table.name name) tables
 
 -- the first loaded table of a name
 abbrev pub table_of_book : {P : Type 0} → Xlsx P → List ℕ → Option SheetTable
-table_of_book xlsx name = first_named name (loaded_tables xlsx)
+table_of_book xlsx name = first_table name (loaded_tables xlsx)
 
--- where its data stand
+-- the area of the data of the first loaded table of a name
 abbrev pub area_of_book : {P : Type 0} → Xlsx P → List ℕ → Option Dimensions
 area_of_book xlsx name =
     option_and_then (λ (own : SheetTable). own.table.area) (table_of_book xlsx name)
@@ -47,19 +46,21 @@ abbrev pub area_events : Option Dimensions → Option (List ℕ) → List Part �
 area_events None path parts = 0
 area_events (Some area) path parts = placed_events path parts
 
--- and the reading of the data of a table
+-- how many events the reading of the data of the first loaded table of a name may take
 abbrev pub table_data_events : {P : Type 0} → Xlsx P → List ℕ → List Part → ℕ
 table_data_events xlsx name parts =
     option_map_or
     (λ (own : SheetTable). area_events own.table.area (path_of xlsx own.sheet) parts)
     (table_of_book xlsx name) 0
 
--- and how many it takes where it isn't refused: those up to the end of the sheet's data
+-- how many events the reading of what stands in an area of a sheet takes that isn't refused: those
+-- up to the end of the sheet's data, and without an area none
 abbrev pub area_data_events : Option Dimensions → Option (List ℕ) → List Part → ℕ
 area_data_events None path parts = 0
 area_data_events (Some area) path parts = data_events path parts
 
--- the same of the loaded table of a name
+-- how many events the reading of the data of the first loaded table of a name takes that isn't
+-- refused: those up to the end of its sheet's data
 abbrev pub table_ends : {P : Type 0} → Xlsx P → List ℕ → List Part → ℕ
 table_ends xlsx name parts =
     option_map_or
@@ -78,7 +79,7 @@ head_said head =
       area = head.area;
     })
 
--- a table with its data is this one: they have its area
+-- a table with its data is this table: it has its name, its sheet, its columns and its area
 pub record IsOfTable {X : Type 0} (said : SheetTable) (table : Table X) : Type 0 where
   pub name : table_name table ≡ said.table.name
   pub sheet : table_sheet table ≡ said.sheet
@@ -96,7 +97,7 @@ pub record IsRangeIn
   pub bounds : bounds_of range ≡ Some area
   pub blank : meaning (blank_of range) ≡ other
 
--- the range without an area
+-- the range without an area, which has no cells
 pub record IsNoRange {X Y : Type 0} (meaning : X → Y) (other : Y) (range : Range X) : Type 0 where
   pub cells : cells_of range ≡ []
   pub bounds : bounds_of range ≡ None
@@ -105,19 +106,21 @@ pub record IsNoRange {X Y : Type 0} (meaning : X → Y) (other : Y) (range : Ran
 -- the values in an area of the sheet whose part is at a path, with the texts of shared strings, and
 -- without an area none, whatever the sheet says
 abbrev pub ReadsValuesIn :
-    Grounds → HeaderRow → Option Dimensions → Option (List ℕ) → List Part → Range Data → Type 0
-ReadsValuesIn grounds header None path parts range = IsNoRange value_of_data nothing range
-ReadsValuesIn grounds header (Some area) path parts range =
-    ReadsUsed grounds path parts
-    (λ values. IsRangeIn value_of_data header area (with_texts grounds.strings values) nothing
+    ValueContext → HeaderRow → Option Dimensions → Option (List ℕ) → List Part → Range Data → Type 0
+ReadsValuesIn context header None path parts range = IsNoRange value_of_data nothing range
+ReadsValuesIn context header (Some area) path parts range =
+    ReadsUsed context path parts
+    (λ values. IsRangeIn value_of_data header area (with_texts context.strings values) nothing
     range)
 
--- and with shared strings by their places
+-- the values in an area of the sheet whose part is at a path, with shared strings by their places,
+-- and without an area none, whatever the sheet says
 abbrev pub ReadsPlacesIn :
-    Grounds → HeaderRow → Option Dimensions → Option (List ℕ) → List Part → Range DataRef → Type 0
-ReadsPlacesIn grounds header None path parts range = IsNoRange value_of_data_ref nothing range
-ReadsPlacesIn grounds header (Some area) path parts range =
-    ReadsUsed grounds path parts
+    ValueContext → HeaderRow → Option Dimensions → Option (List ℕ) → List Part → Range DataRef
+    → Type 0
+ReadsPlacesIn context header None path parts range = IsNoRange value_of_data_ref nothing range
+ReadsPlacesIn context header (Some area) path parts range =
+    ReadsUsed context path parts
     (λ values. IsRangeIn value_of_data_ref header area values nothing range)
 
 -- when what stands in an area isn't read: there is an area, and the range of the sheet of this name
@@ -128,7 +131,7 @@ abbrev pub AreaFails :
 AreaFails wants xlsx sheet area old new OutOfMemory = ⊤
 AreaFails wants xlsx sheet area old new error =
     IsSome area
-    × RangeFails sheet wants (grounds_of_book xlsx) (path_of xlsx sheet) old new error
+    × RangeFails sheet wants (context_of_book xlsx) (path_of xlsx sheet) old new error
 
 -- when the data of a table aren't read: no table has the name, or what stands in its area isn't
 abbrev pub TableDataFails :
@@ -140,7 +143,7 @@ TableDataFails wants xlsx name old new error =
     IsSomeAnd (table_of_book xlsx name)
     (λ own. AreaFails wants xlsx own.sheet own.table.area old new error)
 
--- the refusals that this can have, whatever the package tells
+-- the refusals that reading the data of a table can have, whatever the package tells
 abbrev pub IsTableDataError : {P : Type 0} → Xlsx P → List ℕ → XlsxError → Type 0
 IsTableDataError xlsx name OutOfMemory = ⊤
 IsTableDataError xlsx name (TableNotFound asked) = string_bytes asked ≡ name
@@ -151,5 +154,5 @@ IsTableDataError xlsx name error =
 abbrev pub LacksTable : List ℕ → List SheetTable → XlsxError → Type 0
 LacksTable name tables OutOfMemory = ⊤
 LacksTable name tables (TableNotFound asked) =
-    (string_bytes asked ≡ name) × (first_named name tables ≡ None)
+    (string_bytes asked ≡ name) × (first_table name tables ≡ None)
 LacksTable name tables _ = ⊥

@@ -34,20 +34,20 @@ loaded_or_none sheets (Some loaded) = tables_held sheets loaded.items
 
 -- the tables that were loaded, each with the name of its sheet
 abbrev pub loaded_tables : {P : Type 0} → Xlsx P → List SheetTable
-loaded_tables xlsx = loaded_or_none xlsx.metadata.sheets.items xlsx.lists.tables
+loaded_tables xlsx = loaded_or_none xlsx.workbook.metadata.sheets.items xlsx.workbook.lists.tables
 
 -- a table is wanted by the name of its sheet, or each one is
 abbrev pub is_wanted : Option (List ℕ) → List ℕ → Bool
 is_wanted None sheet = true
 is_wanted (Some name) sheet = bytes_eq sheet name
 
--- the names of the tables that are wanted so
+-- the names of the tables that are wanted by the name of their sheet, or of all
 abbrev pub table_names_of : Option (List ℕ) → List SheetTable → List (List ℕ)
 table_names_of wanted tables =
     map (λ (own : SheetTable). own.table.name)
     (filter (λ (own : SheetTable). is_wanted wanted own.sheet) tables)
 
--- the names that an iterator has left
+-- the names of tables that an iterator has left
 abbrev pub table_names_left : TableNames → List (List ℕ)
 table_names_left it =
     table_names_of (option_copied it.sheet) (tables_held it.sheets.now it.left.now)

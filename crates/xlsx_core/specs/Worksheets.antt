@@ -1,17 +1,14 @@
 -- What single calls on the worksheets of an open workbook answer.
-use Rattle.std.specs.Prelude.{◌-◌}
-use Rattle.std.specs.Prelude.{◌≡◌, ◌⊎◌, ⊤, ℕ, List, [], true, nat_le, Option, Some, None, Ok}
+use Rattle.std.specs.Prelude.{◌-◌, ◌≡◌, ◌⊎◌, ⊤, ℕ, List, [], true, nat_le, Option, Some, None, Ok}
 use Rattle.std.specs.Prelude.{map, IsSome, IsSomeAnd, codes, string_bytes, String}
 use Rattle.std.specs.List.{filter}
 use Rattle.std.specs.declared.alloc.Global.{Global}
 use Rattle.cell_refs.specs.declared.TheConstants.{MAX_ROWS, MAX_COLUMNS}
 use Rattle.cell_refs.specs.declared.dimensions.Dimensions.{Dimensions}
-use Rattle.part_events.specs.Event.{Event}
-use Rattle.part_events.specs.Nesting.{whole}
-use Rattle.part_events.specs.Package.{Part, PackageState}
-use Rattle.cell_data.specs.CellValue.{CellValue, nothing, value_of_data, value_of_data_ref}
-use Rattle.cell_refs.specs.Positions.{last_of_each, least_area, lie_inside}
-use Rattle.cell_data.specs.Range.{cells_of, bounds_of, blank_of}
+use Rattle.part_events.specs.Words.{Event, whole, Part, PackageState}
+use Rattle.cell_data.specs.Words.{CellValue, nothing, value_of_data, value_of_data_ref, cells_of}
+use Rattle.cell_data.specs.Words.{bounds_of, blank_of, pairs_by, value_pairs, formula_pairs}
+use Rattle.cell_refs.specs.Words.{last_of_each, least_area, lie_inside}
 use Rattle.xlsx_error.specs.declared.error.XlsxError.{XlsxError}
 use Rattle.xlsx_error.specs.declared.error.XlsxError.TheVariants.{OutOfMemory, Io, NotAWorksheet}
 use Rattle.xlsx_error.specs.declared.error.XlsxError.TheVariants.{WorksheetNotFound}
@@ -20,67 +17,57 @@ use Rattle.cell_data.specs.declared.value.Data.{Data}
 use Rattle.cell_data.specs.declared.value.DataRef.{DataRef}
 use Rattle.cell_data.specs.declared.value.HeaderRow.{HeaderRow}
 use Rattle.cell_data.specs.declared.value.HeaderRow.TheVariants.{FirstNonEmptyRow, Row}
-use Rattle.cell_styles.specs.StyleMap.{StyledCell, StyleMap, styles_of}
+use Rattle.cell_styles.specs.Words.{StyledCell, StyleMap, styles_of}
 use Rattle.cell_styles.specs.declared.style.Style.{Style}
-use Rattle.xlsx_sections.specs.PartSection.{PartSection, section_in, inside_of, has_end}
-use Rattle.xlsx_values.specs.Value.{Grounds}
-use Rattle.xlsx_cells.specs.CellErrors.{IsStyledError}
-use Rattle.xlsx_cells.specs.Head.{dimensions_in, HasNoData, HasSoundDimensions, other_in}
-use Rattle.xlsx_cells.specs.Head.{IsHeadError}
-use Rattle.xlsx_cells.specs.Sheet.{with_texts}
-use Rattle.xlsx_cells.specs.SheetPart.{EntersData, HoldsValues, HoldsFormulas, SheetPartCause}
-use Rattle.xlsx_cells.specs.Stream.{Stream, IsGoing}
-use Rattle.xlsx_cells.specs.StyleIds.{ids_in, HoldsIds}
+use Rattle.xlsx_sections.specs.Words.{PartSection, section_in, inside_of, has_end}
+use Rattle.xlsx_values.specs.Words.{ValueContext}
+use Rattle.xlsx_cells.specs.Words.{IsStyledError, dimensions_in, HasNoData, HasSoundDimensions}
+use Rattle.xlsx_cells.specs.Words.{other_in, IsHeadError, with_texts, EntersData, HoldsValues}
+use Rattle.xlsx_cells.specs.Words.{HoldsFormulas, SheetPartCause, Stream, IsGoing, ids_in, HoldsIds}
 use Rattle.xlsx_cells.specs.declared.children.Wants.{Wants}
-use Rattle.xlsx_core.specs.Opened.{path_listed}
-use Rattle.cell_data.specs.Pairs.{pairs_by, value_pairs}
-use Rattle.xlsx_core.specs.SheetReading.{grounds_with, events_at}
-use Rattle.cell_data.specs.Pairs.{formula_pairs}
-use Rattle.xlsx_core.specs.SheetReading.{IsPlacedError}
-use Rattle.xlsx_core.specs.SheetReading.{PlacedCause, PlacedSheetFails, PlacedHeadFails}
+use Rattle.xlsx_core.specs.Apart.{first_sheet_path, context_in, palette_in}
+use Rattle.xlsx_core.specs.SheetReading.{events_at, IsPlacedError, PlacedCause, PlacedSheetFails}
+use Rattle.xlsx_core.specs.SheetReading.{PlacedHeadFails}
 use Rattle.xlsx_core.specs.declared.sheet_reading.SheetReading.{SheetReading}
 use Rattle.xlsx_core.specs.declared.xlsx.Xlsx.{Xlsx}
 
--- where the part of the first sheet of a name is, in an open workbook
+-- the path of the part of the first sheet of a name, in an open workbook
 abbrev pub path_of : {P : Type 0} → Xlsx P → List ℕ → Option (List ℕ)
-path_of xlsx name = path_listed name xlsx.metadata.sheets.items xlsx.paths.items
+path_of xlsx = first_sheet_path xlsx.workbook
 
--- what the values of its cells rest on
-abbrev pub grounds_of_book : {P : Type 0} → Xlsx P → Grounds
-grounds_of_book xlsx =
-    grounds_with (map string_bytes xlsx.shared.strings.items) xlsx.shared.style_sheet.formats.items
-    xlsx.is_1904
+-- what the values of an open workbook's cells rest on
+abbrev pub context_of_book : {P : Type 0} → Xlsx P → ValueContext
+context_of_book xlsx = context_in xlsx.workbook
 
--- the styles that the ids of its cells name
+-- the styles that the ids of an open workbook's cells name
 abbrev pub palette_of_book : {P : Type 0} → Xlsx P → List Style
-palette_of_book xlsx = xlsx.shared.style_sheet.styles.items
+palette_of_book xlsx = palette_in xlsx.workbook
 
 -- a call keeps what a workbook was opened as, and its header row
 pub record KeepsBook {P : Type 0} (old new : Xlsx P) : Type 0 where
-  pub metadata : new.metadata ≡ old.metadata
-  pub scopes : new.scopes ≡ old.scopes
-  pub paths : new.paths ≡ old.paths
-  pub folder : new.folder ≡ old.folder
-  pub shared : new.shared ≡ old.shared
-  pub is_1904 : new.is_1904 ≡ old.is_1904
-  pub header_row : new.header_row ≡ old.header_row
+  pub metadata : new.workbook.metadata ≡ old.workbook.metadata
+  pub scopes : new.workbook.scopes ≡ old.workbook.scopes
+  pub paths : new.workbook.paths ≡ old.workbook.paths
+  pub folder : new.workbook.folder ≡ old.workbook.folder
+  pub shared : new.workbook.shared ≡ old.workbook.shared
+  pub is_1904 : new.workbook.is_1904 ≡ old.workbook.is_1904
+  pub header_row : new.workbook.header_row ≡ old.workbook.header_row
 
 -- a call keeps all of a workbook but its package
-pub record KeepsWorkbook {P : Type 0} (old new : Xlsx P) : Type 0 where
-  pub book : KeepsBook old new
-  pub lists : new.lists ≡ old.lists
+abbrev pub KeepsWorkbook : {P : Type 0} → Xlsx P → Xlsx P → Type 0
+KeepsWorkbook old new = new.workbook ≡ old.workbook
 
--- another header row, and all else as it was
+-- a call sets another header row, and leaves all else of a workbook as it was
 pub record SetsHeaderRow {P : Type 0} (header : HeaderRow) (old new : Xlsx P) : Type 0 where
   pub xml : new.xml ≡ old.xml
-  pub metadata : new.metadata ≡ old.metadata
-  pub scopes : new.scopes ≡ old.scopes
-  pub paths : new.paths ≡ old.paths
-  pub folder : new.folder ≡ old.folder
-  pub shared : new.shared ≡ old.shared
-  pub is_1904 : new.is_1904 ≡ old.is_1904
-  pub header_row : new.header_row ≡ header
-  pub lists : new.lists ≡ old.lists
+  pub metadata : new.workbook.metadata ≡ old.workbook.metadata
+  pub scopes : new.workbook.scopes ≡ old.workbook.scopes
+  pub paths : new.workbook.paths ≡ old.workbook.paths
+  pub folder : new.workbook.folder ≡ old.workbook.folder
+  pub shared : new.workbook.shared ≡ old.workbook.shared
+  pub is_1904 : new.workbook.is_1904 ≡ old.workbook.is_1904
+  pub header_row : new.workbook.header_row ≡ header
+  pub lists : new.workbook.lists ≡ old.workbook.lists
 
 -- the head of a sheet's part is sound, and its data are this section, which is closed
 pub record HasSheetData (events : List Event) (section : PartSection) : Type 0 where
@@ -92,28 +79,28 @@ pub record HasSheetData (events : List Event) (section : PartSection) : Type 0 w
 -- a sheet's part holds what is wanted of it: these values, these formulas, and these style ids of
 -- so many styles
 pub record HoldsWanted
-    (wants : Wants) (grounds : Grounds) (count : ℕ) (events : List Event)
+    (wants : Wants) (context : ValueContext) (count : ℕ) (events : List Event)
     (values : List ((ℕ × ℕ) × CellValue)) (formulas : List ((ℕ × ℕ) × List ℕ))
     (ids : List StyledCell) : Type 0 where
   pub section : PartSection
   pub sheet : HasSheetData events section
-  pub valued : wants.values ≡ true → HoldsValues grounds (inside_of section) values
+  pub valued : wants.values ≡ true → HoldsValues context (inside_of section) values
   pub written : wants.formulas ≡ true → HoldsFormulas (inside_of section) formulas
   pub styled : wants.styles ≡ true → HoldsIds count (inside_of section) ids
 
 -- a sheet's part is sound but for its formulas, and these are its values that count
-abbrev pub HasValues : Grounds → List Event → List ((ℕ × ℕ) × CellValue) → Type 0
-HasValues grounds events values =
+abbrev pub HasValues : ValueContext → List Event → List ((ℕ × ℕ) × CellValue) → Type 0
+HasValues context events values =
     (section : PartSection) × HasSheetData events section
-    × HoldsValues grounds (inside_of section) values
+    × HoldsValues context (inside_of section) values
 
--- it is sound but for its values, and these are its formulas that count
+-- a sheet's part is sound but for its values, and these are its formulas that count
 abbrev pub HasFormulas : List Event → List ((ℕ × ℕ) × List ℕ) → Type 0
 HasFormulas events formulas =
     (section : PartSection) × HasSheetData events section
     × HoldsFormulas (inside_of section) formulas
 
--- it is sound but for what stands in its cells, and these are their styles
+-- a sheet's part is sound but for what stands in its cells, and these are their styles
 abbrev pub HasStyledCells : List Style → List Event → StyleMap → Type 0
 HasStyledCells palette events styles =
     (section : PartSection) × HasSheetData events section
@@ -130,48 +117,48 @@ pub record IsNoWorksheet (events : List Event) : Type 0 where
 
 -- what is read of a part, which may be no worksheet and has no cells then
 abbrev pub AnswersCells :
-    Wants → Grounds → ℕ → List ((ℕ × ℕ) × CellValue) → List ((ℕ × ℕ) × List ℕ) →
+    Wants → ValueContext → ℕ → List ((ℕ × ℕ) × CellValue) → List ((ℕ × ℕ) × List ℕ) →
     List StyledCell → List Event → Type 0
-AnswersCells wants grounds count values formulas ids events =
-    HoldsWanted wants grounds count events values formulas ids
+AnswersCells wants context count values formulas ids events =
+    HoldsWanted wants context count events values formulas ids
     ⊎ (IsNoWorksheet events × (values ≡ []) × (formulas ≡ []) × (ids ≡ []))
 
 -- what a call answers of a sheet's values; those of a part that is no worksheet are none
-abbrev pub AnswersValues : Grounds → List Event → List ((ℕ × ℕ) × CellValue) → Type 0
-AnswersValues grounds events values =
-    HasValues grounds events values ⊎ (IsNoWorksheet events × (values ≡ []))
+abbrev pub AnswersValues : ValueContext → List Event → List ((ℕ × ℕ) × CellValue) → Type 0
+AnswersValues context events values =
+    HasValues context events values ⊎ (IsNoWorksheet events × (values ≡ []))
 
 -- what a call answers of a sheet's formulas; those of a part that is no worksheet are none
 abbrev pub AnswersFormulas : List Event → List ((ℕ × ℕ) × List ℕ) → Type 0
 AnswersFormulas events formulas =
     HasFormulas events formulas ⊎ (IsNoWorksheet events × (formulas ≡ []))
 
--- what stands in a row from this one on
+-- the cells that stand in a row from this one on
 abbrev pub from_row : {X : Type 0} → ℕ → List ((ℕ × ℕ) × X) → List ((ℕ × ℕ) × X)
 from_row row cells = filter (λ cell. nat_le row cell.0.0) cells
 
--- what counts under a header row
+-- the cells that count under a header row
 abbrev pub below_header : {X : Type 0} → HeaderRow → List ((ℕ × ℕ) × X) → List ((ℕ × ℕ) × X)
 below_header FirstNonEmptyRow cells = cells
 below_header (Row row) cells = from_row row cells
 
--- where cells of a worksheet count under a header row
+-- the area where cells of a worksheet count under a header row
 abbrev pub area_below : HeaderRow → Dimensions
 area_below FirstNonEmptyRow =
     record { start = (0, 0); end = (MAX_ROWS - 1, MAX_COLUMNS - 1) }
 area_below (Row row) = record { start = (row, 0); end = (MAX_ROWS - 1, MAX_COLUMNS - 1) }
 
--- other cells lie in the areas that cells lie in
+-- cells lie in the same areas as others
 abbrev pub HaveSamePlaces : {X Y : Type 0} → List ((ℕ × ℕ) × X) → List ((ℕ × ℕ) × Y) → Type 0
 HaveSamePlaces cells others =
     (area : Dimensions) → lie_inside (Some area) others ≡ lie_inside (Some area) cells
 
--- the area with another first row
+-- an area with another first row
 abbrev pub area_from : ℕ → Option Dimensions → Option Dimensions
 area_from row None = None
 area_from row (Some area) = Some (record { start = (row, area.start.1); end = area.end })
 
--- the area that begins with the header row, where there is one
+-- an area, if there is one, that begins with the header row, if one is set
 abbrev pub header_area : HeaderRow → Option Dimensions → Option Dimensions
 header_area FirstNonEmptyRow area = area
 header_area (Row row) area = area_from row area
@@ -185,7 +172,8 @@ pub record IsRangeFrom
   pub bounds : bounds_of range ≡ header_area header (least_area (below_header header placed))
   pub blank : blank_of range ≡ other
 
--- the range of what is meant by cells
+-- the range of what is meant by cells under a header row: the last of each position, and elsewhere
+-- another value
 pub record IsRangeOf
     {X Y : Type 0} (meaning : X → Y) (header : HeaderRow) (meant : List ((ℕ × ℕ) × Y)) (other : Y)
     (range : Range X) : Type 0 where
@@ -193,15 +181,15 @@ pub record IsRangeOf
   pub bounds : bounds_of range ≡ header_area header (least_area (below_header header meant))
   pub blank : meaning (blank_of range) ≡ other
 
--- the range of these values
+-- the range of these values under a header row
 abbrev pub IsValueRange : HeaderRow → List ((ℕ × ℕ) × CellValue) → Range Data → Type 0
 IsValueRange header values range = IsRangeOf value_of_data header values nothing range
 
--- and with shared strings by their places
+-- the range of these values under a header row, with shared strings by their places
 abbrev pub IsPlaceRange : HeaderRow → List ((ℕ × ℕ) × CellValue) → Range DataRef → Type 0
 IsPlaceRange header values range = IsRangeOf value_of_data_ref header values nothing range
 
--- the range of these formulas
+-- the range of these formulas: the last of each position, and elsewhere the empty text
 abbrev pub IsFormulaRange : List ((ℕ × ℕ) × List ℕ) → Range (String Global) → Type 0
 IsFormulaRange formulas range = IsRangeOf string_bytes FirstNonEmptyRow formulas [] range
 
@@ -217,59 +205,60 @@ HasLeastRanges found =
 
 -- the values of the sheet whose part is at a path, of which a fact holds
 abbrev pub ReadsUsed :
-    Grounds → Option (List ℕ) → List Part → (List ((ℕ × ℕ) × CellValue) → Type 0) → Type 0
-ReadsUsed grounds path parts fact =
+    ValueContext → Option (List ℕ) → List Part → (List ((ℕ × ℕ) × CellValue) → Type 0) → Type 0
+ReadsUsed context path parts fact =
     IsSomeAnd (events_at path parts)
-    (λ events. (values : List ((ℕ × ℕ) × CellValue)) × AnswersValues grounds events values
+    (λ events. (values : List ((ℕ × ℕ) × CellValue)) × AnswersValues context events values
     × fact values)
 
--- its values, with the texts of shared strings
+-- the range of the values of the sheet whose part is at a path, with the texts of shared strings
 abbrev pub ReadsValues :
-    Grounds → HeaderRow → Option (List ℕ) → List Part → Range Data → Type 0
-ReadsValues grounds header path parts range =
-    ReadsUsed grounds path parts
-    (λ values. IsValueRange header (with_texts grounds.strings values) range)
+    ValueContext → HeaderRow → Option (List ℕ) → List Part → Range Data → Type 0
+ReadsValues context header path parts range =
+    ReadsUsed context path parts
+    (λ values. IsValueRange header (with_texts context.strings values) range)
 
--- and with shared strings by their places
+-- the range of the values of the sheet whose part is at a path, with shared strings by their places
 abbrev pub ReadsPlaces :
-    Grounds → HeaderRow → Option (List ℕ) → List Part → Range DataRef → Type 0
-ReadsPlaces grounds header path parts range =
-    ReadsUsed grounds path parts (λ values. IsPlaceRange header values range)
+    ValueContext → HeaderRow → Option (List ℕ) → List Part → Range DataRef → Type 0
+ReadsPlaces context header path parts range =
+    ReadsUsed context path parts (λ values. IsPlaceRange header values range)
 
--- and its formulas
+-- the range of the formulas of the sheet whose part is at a path
 abbrev pub ReadsFormulas : Option (List ℕ) → List Part → Range (String Global) → Type 0
 ReadsFormulas path parts range =
     IsSomeAnd (events_at path parts)
     (λ events. (formulas : List ((ℕ × ℕ) × List ℕ)) × AnswersFormulas events formulas
     × IsFormulaRange formulas range)
 
--- and its styles, over a palette
+-- the styles of the sheet whose part is at a path, over a palette
 abbrev pub ReadsStyles : List Style → Option (List ℕ) → List Part → StyleMap → Type 0
 ReadsStyles palette path parts styles =
     IsSomeAnd (events_at path parts) (λ events. HasStyledCells palette events styles)
 
--- the refusals that reading them can have, whatever the package tells
+-- the refusals that reading the styles of a sheet can have, whatever the package tells
 abbrev pub IsStyleRangeError : List ℕ → XlsxError → Type 0
 IsStyleRangeError name (WorksheetNotFound asked) = string_bytes asked ≡ name
 IsStyleRangeError name error = IsHeadError error ⊎ IsStyledError error
 
 -- when a range isn't read: a part that is no worksheet is no reason
 abbrev pub RangeFails :
-    List ℕ → Wants → Grounds → Option (List ℕ) → PackageState → PackageState → XlsxError → Type 0
-RangeFails name wants grounds path old new (NotAWorksheet other) = ⊥
-RangeFails name wants grounds path old new error =
-    PlacedSheetFails name wants grounds path old new error
+    List ℕ → Wants → ValueContext → Option (List ℕ) → PackageState → PackageState → XlsxError
+    → Type 0
+RangeFails name wants context path old new (NotAWorksheet other) = ⊥
+RangeFails name wants context path old new error =
+    PlacedSheetFails name wants context path old new error
 
 -- why a range isn't read of a part: that it is no worksheet is no reason
-abbrev pub RangePartCause : Wants → Grounds → List Event → XlsxError → Type 0
-RangePartCause wants grounds events (NotAWorksheet other) = ⊥
-RangePartCause wants grounds events error = SheetPartCause wants grounds events error
+abbrev pub RangePartCause : Wants → ValueContext → List Event → XlsxError → Type 0
+RangePartCause wants context events (NotAWorksheet other) = ⊥
+RangePartCause wants context events error = SheetPartCause wants context events error
 
 -- why the range of the sheet of this name isn't read, whose part is at a path
 abbrev pub RangeCause :
-    List ℕ → Wants → Grounds → Option (List ℕ) → List Part → XlsxError → Type 0
-RangeCause name wants grounds path parts error =
-    PlacedCause name path (RangePartCause wants grounds) parts error
+    List ℕ → Wants → ValueContext → Option (List ℕ) → List Part → XlsxError → Type 0
+RangeCause name wants context path parts error =
+    PlacedCause name path (RangePartCause wants context) parts error
 
 -- a refusal that reading a range of the sheet of a name can have
 abbrev pub IsRangeError : List ℕ → XlsxError → Type 0
@@ -289,7 +278,8 @@ LacksPath name path (WorksheetNotFound asked) = (string_bytes asked ≡ name) ×
 LacksPath name path OutOfMemory = ⊤
 LacksPath name path error = ⊥
 
--- when they aren't: nothing is said of the package then, which nobody holds
+-- when a reader of the cells of a sheet isn't made: nothing is said of the package then, which
+-- nobody holds
 abbrev pub ReaderFails : List ℕ → Option (List ℕ) → PackageState → XlsxError → Type 0
 ReaderFails name path old Io = ⊤
 ReaderFails name path old OutOfMemory = ⊤

@@ -1,16 +1,13 @@
 //! The cells of a sheet as they came, beside what the sheets of their workbook share.
-ghost use Rattle.std.specs.Prelude.{◌≡◌, List, true, OnOk, IfOk, IfErr, filter, length};
-ghost use Rattle.cell_data.specs.Gathered.{cells_gathered};
+ghost use Rattle.std.specs.Prelude.{◌≡◌, List, IfOk, filter, length};
+ghost use Rattle.cell_data.specs.Words.{cells_gathered};
 ghost use Rattle.cell_data.specs.declared.value.HeaderRow.TheVariants.{FirstNonEmptyRow};
-ghost use Rattle.cell_styles.specs.StyleMap.{StyledCell, is_explicit, styles_of};
-ghost use Rattle.part_events.specs.Package.{SameParts, KeepsFaults};
-ghost use Rattle.xlsx_cells.specs.Sheet.{with_texts};
-ghost use Rattle.xlsx_cells.specs.SheetPart.{value_entries, formula_entries};
-ghost use Rattle.xlsx_error.specs.declared.error.XlsxError.TheVariants.{Io};
+ghost use Rattle.cell_styles.specs.Words.{StyledCell, is_explicit, styles_of};
+ghost use Rattle.xlsx_cells.specs.Words.{with_texts, value_entries, formula_entries};
 ghost use Rattle.xlsx_core.specs.ReadCells.{HoldsCells, LieOnSheet, strings_beside, palette_beside};
-ghost use Rattle.xlsx_core.specs.SheetReading.{SheetFails, IsSheetError, TakesSheet, ReadsToData};
-ghost use Rattle.xlsx_core.specs.Worksheets.{IsValueRange, IsFormulaRange};
-ghost use Rattle.xlsx_core.specs.Worksheets.{HasLeastRange, HasLeastRanges};
+ghost use Rattle.xlsx_core.specs.SheetReading.{AnswersSheet};
+ghost use Rattle.xlsx_core.specs.Worksheets.{IsValueRange, IsFormulaRange, HasLeastRange};
+ghost use Rattle.xlsx_core.specs.Worksheets.{HasLeastRanges};
 
 use crate::ranges::{formula_range, style_range, value_range};
 use crate::sheet_reading::{SheetAnswer, SheetReading};
@@ -79,24 +76,9 @@ impl ReadCells {
 /// The cells of the first sheet of this name, read in one pass over its part. It is refused as
 /// `read_sheet` is.
 pub fn read_cells<P: Package>(alloc: Global, package: P, name: &str) -> SheetAnswer<P, ReadCells>
-    ensures keeps { SameParts (P.state «package») (P.state result.package) }
-    ensures faults { OnOk result.result
-        ((P.state result.package).faults ≡ (P.state «package»).faults) }
+    ensures answers { AnswersSheet (λ parts. HoldsCells parts name.now)
+        name.now result.result (P.state «package») (P.state result.package) }
     ensures inside { IfOk result.result LieOnSheet }
-    ensures reading { (P.state «package»).is_told ≡ true →
-        IfOk result.result (HoldsCells (P.state «package»).parts name.now) }
-    ensures err { IfErr result.result
-        (SheetFails name.now (P.state «package») (P.state result.package)) }
-    ensures counts { IfErr result.result
-        (KeepsFaults Io (P.state «package») (P.state result.package)) }
-    ensures taken { let old = P.state «package» in
-        let new = P.state result.package in
-        old.is_told ≡ true → TakesSheet old.parts name.now old.taken new.taken }
-    ensures to_end { let old = P.state «package» in
-        let new = P.state result.package in
-        old.is_told ≡ true →
-        OnOk result.result (ReadsToData old.parts name.now old.taken new.taken) }
-    ensures kind { IfErr result.result (IsSheetError name.now) }
 {
     match Xlsx::new(alloc, package) {
         Ok(xlsx) => xlsx.into_cells(name),

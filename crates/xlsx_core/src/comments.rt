@@ -1,6 +1,6 @@
 ghost use Rattle.std.specs.Prelude.{map};
 ghost use Rattle.xlsx_comments.specs.CommentParts.{comments_kept};
-ghost use Rattle.xlsx_sections.specs.Asking.{Answers};
+ghost use Rattle.xlsx_sections.specs.Words.{Answers};
 ghost use Rattle.xlsx_core.specs.Comments.{named_comments_ask};
 ghost use Rattle.xlsx_core.specs.Worksheets.{path_of, KeepsWorkbook};
 

@@ -1,10 +1,9 @@
 //! What holds of the formulas of all sheets.
 ghost use Rattle.std.specs.Prelude.{◌≡◌, ℕ, List, map, Some};
-ghost use Rattle.cell_refs.specs.Positions.{last_of_each};
-ghost use Rattle.part_events.specs.Event.{Event};
-ghost use Rattle.part_events.specs.Package.{Part, part_of};
+ghost use Rattle.cell_refs.specs.Words.{last_of_each};
+ghost use Rattle.part_events.specs.Words.{Event, Part, part_of};
 ghost use Rattle.xlsx_error.specs.declared.error.XlsxError.{XlsxError};
-ghost use Rattle.xlsx_parts.specs.SheetPaths.{SheetPath};
+ghost use Rattle.xlsx_parts.specs.Words.{SheetPath};
 ghost use Rattle.xlsx_core.specs.FormulaList.{NumberedSheet, FormulaSaid, formula_pair};
 ghost use Rattle.xlsx_core.specs.FormulaList.{sheet_formulas, workbook_formulas, FormulasCause};
 ghost use Rattle.xlsx_core.specs.Worksheets.{AnswersFormulas};

@@ -1,22 +1,16 @@
 ghost use Rattle.std.specs.Prelude.{◌≡◌, ◌++◌, true, map, codes, Some, IfOk, OnOk, IfErr};
-ghost use Rattle.cell_data.specs.Cells.{AreInSheet};
-ghost use Rattle.cell_data.specs.Gathered.{cells_gathered};
-ghost use Rattle.part_events.specs.Package.{Uses, CountsUp, event_count, part_of};
-ghost use Rattle.sorted_cells.specs.Kept.{kept_cells};
+ghost use Rattle.cell_data.specs.Words.{AreInSheet, cells_gathered};
+ghost use Rattle.part_events.specs.Words.{Uses, CountsUp, event_count, part_of};
+ghost use Rattle.sorted_cells.specs.Words.{kept_cells};
 ghost use Rattle.xlsx_error.specs.declared.error.XlsxError.TheVariants.{Io};
-ghost use Rattle.xlsx_sections.specs.Asking.{Answers};
-ghost use Rattle.xlsx_sections.specs.Failing.{FailsBy};
-ghost use Rattle.xlsx_sections.specs.SectionEvents.{section_events_of};
-ghost use Rattle.xlsx_parts.specs.ManyAsked.{Appends};
-ghost use Rattle.xlsx_parts.specs.WholePart.{IfThere};
-ghost use Rattle.xlsx_values.specs.Book.{grounds_of};
-ghost use Rattle.xlsx_cells.specs.CellsReader.{formulas_alone};
-ghost use Rattle.xlsx_cells.specs.CoveredFormulas.{covered_entries};
-ghost use Rattle.xlsx_cells.specs.Head.{IfNoWorksheet};
-ghost use Rattle.xlsx_cells.specs.SheetPart.{SheetPartCause};
+ghost use Rattle.xlsx_sections.specs.Words.{Answers, FailsBy, section_events_of};
+ghost use Rattle.xlsx_parts.specs.Words.{Appends, IfThere};
+ghost use Rattle.xlsx_values.specs.Words.{context_of};
+ghost use Rattle.xlsx_cells.specs.Words.{formulas_alone, covered_entries, IfNoWorksheet};
+ghost use Rattle.xlsx_cells.specs.Words.{SheetPartCause};
 ghost use Rattle.xlsx_core.specs.FormulaList.{NumberedSheet, formula_on, formula_read};
 ghost use Rattle.xlsx_core.specs.FormulaList.{path_formulas, formulas_ask, all_formulas_ask};
-ghost use Rattle.xlsx_core.specs.FormulaList.{no_grounds, IsFormulasError};
+ghost use Rattle.xlsx_core.specs.FormulaList.{no_context, IsFormulasError};
 ghost use Rattle.xlsx_core.specs.Merges.{sheets_of_book, sheet_paths};
 ghost use Rattle.xlsx_core.specs.SheetReading.{TakesExactly, IsPartError};
 ghost use Rattle.xlsx_core.specs.Worksheets.{KeepsWorkbook, RangePartCause};
@@ -30,8 +24,8 @@ use sorted_cells::SortedCells;
 use std::alloc::{AllocError, Global};
 use xlsx_cells::{Asked, CoveredFormula, Wants, collect_covered, open_data};
 use xlsx_error::XlsxError;
-use xlsx_open::{KeptPath, Sheet};
-use xlsx_values::Book;
+use xlsx_open::{PartPath, Sheet};
+use xlsx_values::ValueContext;
 
 /// A formula of a workbook.
 #[derive(Debug, Drop)]
@@ -50,9 +44,9 @@ pub struct SheetFormula {
 /// What is asked for of a sheet whose formulas alone are wanted, which rest on nothing else.
 fn formulas_asked() -> Asked<'static>
     ensures wants { result.wants ≡ formulas_alone }
-    ensures grounds { grounds_of result.book ≡ no_grounds }
+    ensures context { context_of result.book ≡ no_context }
 {
-    let book = Book {
+    let book = ValueContext {
         strings: &[],
         formats: &[],
         is_1904: false,
@@ -76,15 +70,15 @@ fn covered_cells<P: Package>(
     ensures to_end { let count = section_events_of (codes "sheetData") xml.old.source.parts path.now
         in TakesExactly count result xml.old.source xml.new.source }
     ensures inside { IfOk result (λ cells. AreInSheet (cells_gathered cells)) }
-    ensures reads { xml.old.source.is_told ≡ true → IfOk result (λ cells.
+    ensures reads { xml.old.source.is_visible ≡ true → IfOk result (λ cells.
         path_formulas xml.old.source.parts path.now
         ≡ Some (covered_entries (cells_gathered cells))) }
     ensures err { let part = part_of xml.old.source.parts path.now in
-        IfErr result (FailsBy (IfThere (SheetPartCause formulas_alone no_grounds) part)
+        IfErr result (FailsBy (IfThere (SheetPartCause formulas_alone no_context) part)
         xml.old.source xml.new.source) }
     ensures lacks { let old = xml.old.source in
         let all = event_count old.parts path.now in
-        old.is_told ≡ true →
+        old.is_visible ≡ true →
         IfErr result (IfNoWorksheet (CountsUp all old.taken xml.new.source.taken)) }
     ensures kind { IfErr result IsPartError }
 {
@@ -105,11 +99,11 @@ fn read_covered<P: Package>(
     ensures to_end { let count = section_events_of (codes "sheetData") xml.old.source.parts path.now
         in TakesExactly count result xml.old.source xml.new.source }
     ensures inside { IfOk result (λ cells. AreInSheet (cells_gathered cells)) }
-    ensures reads { xml.old.source.is_told ≡ true → IfOk result (λ cells.
+    ensures reads { xml.old.source.is_visible ≡ true → IfOk result (λ cells.
         path_formulas xml.old.source.parts path.now
         ≡ Some (covered_entries (cells_gathered cells))) }
     ensures err { let part = part_of xml.old.source.parts path.now in
-        IfErr result (FailsBy (IfThere (RangePartCause formulas_alone no_grounds) part)
+        IfErr result (FailsBy (IfThere (RangePartCause formulas_alone no_context) part)
         xml.old.source xml.new.source) }
     ensures kind { IfErr result IsFormulasError }
 {
@@ -167,7 +161,7 @@ fn read_sheet_formulas<P: Package>(
 fn formulas_listed<P: Package>(
     xml: &mut XlReader<P>,
     sheets: &[Sheet],
-    paths: &[KeptPath],
+    paths: &[PartPath],
 ) -> Result<Vec<SheetFormula>, XlsxError>
     ensures { let ask = all_formulas_ask (sheet_paths sheets.now paths.now) in
         Answers ask (λ all. map formula_read all.items) result xml.old.source xml.new.source }
@@ -218,6 +212,10 @@ impl<P: Package> Xlsx<P> {
             self.new.xml.source }
         ensures rest { KeepsWorkbook self.old self.new }
     {
-        formulas_listed(&mut self.xml, &self.metadata.sheets, &self.paths)
+        formulas_listed(
+            &mut self.xml,
+            &self.workbook.metadata.sheets,
+            &self.workbook.paths,
+        )
     }
 }

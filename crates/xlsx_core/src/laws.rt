@@ -1,18 +1,17 @@
-ghost use Rattle.std.specs.Prelude.{◌≡◌, ℕ, Bool, List, Option, Some};
-ghost use Rattle.part_events.specs.Package.{Part};
-ghost use Rattle.cell_data.specs.CellValue.{CellValue};
-ghost use Rattle.cell_data.specs.Range.{bounds_of};
+ghost use Rattle.std.specs.Prelude.{◌≡◌, ℕ, Bool, List, Option, Some, String};
+ghost use Rattle.part_events.specs.Words.{Part};
+ghost use Rattle.cell_data.specs.Words.{CellValue, bounds_of, value_pairs, place_pairs};
+ghost use Rattle.cell_data.specs.Words.{formula_pairs};
 ghost use Rattle.cell_data.specs.declared.range.Range.{Range};
 ghost use Rattle.cell_data.specs.declared.value.Data.{Data};
 ghost use Rattle.cell_data.specs.declared.value.DataRef.{DataRef};
 ghost use Rattle.cell_data.specs.declared.value.HeaderRow.{HeaderRow};
 ghost use Rattle.xlsx_error.specs.declared.error.XlsxError.{XlsxError};
 ghost use Rattle.cell_refs.specs.declared.dimensions.Dimensions.{Dimensions};
-ghost use Rattle.cell_styles.specs.StyleMap.{StyleMap};
+ghost use Rattle.cell_styles.specs.Words.{StyleMap};
 ghost use Rattle.xlsx_core.specs.Agreement.{HaveSameSheet};
 ghost use Rattle.xlsx_core.specs.SheetReading.{SayTheSame, ReadsAs, IsReadable, SheetCause};
 ghost use Rattle.xlsx_core.specs.SheetReading.{PlacedCause};
-ghost use Rattle.cell_data.specs.Pairs.{value_pairs, place_pairs, formula_pairs};
 ghost use Rattle.xlsx_areas.specs.Hyperlinks.{Link};
 ghost use Rattle.xlsx_core.specs.Links.{links_placed, PlacedLinksCause};
 ghost use Rattle.xlsx_core.specs.Listing.{IsListedAs, IsLeftOut};
@@ -20,17 +19,14 @@ ghost use Rattle.xlsx_core.specs.ShownTable.{ShowsValuesIn};
 ghost use Rattle.xlsx_core.specs.TableData.{ReadsValuesIn, ReadsPlacesIn};
 ghost use Rattle.xlsx_core.specs.Worksheets.{HasLeastRanges, ReadsValues, ReadsPlaces};
 ghost use Rattle.xlsx_core.specs.Worksheets.{ReadsFormulas, ReadsStyles, RangeCause};
-ghost use Rattle.xlsx_cells.specs.CellsReader.{values_alone, formulas_alone, styles_alone};
-ghost use Rattle.xlsx_cells.specs.CellsReader.{values_and_styles};
-ghost use Rattle.xlsx_cells.specs.SheetPart.{SheetPartCause};
+ghost use Rattle.xlsx_cells.specs.Words.{values_alone, formulas_alone, styles_alone};
+ghost use Rattle.xlsx_cells.specs.Words.{values_and_styles, SheetPartCause, with_texts};
 ghost use Rattle.cell_styles.specs.declared.style.Style.{Style};
-ghost use Rattle.std.specs.Prelude.{String};
 ghost use Rattle.std.specs.declared.alloc.Global.{Global};
-ghost use Rattle.xlsx_open.specs.SharedParts.{SharedSaid};
+ghost use Rattle.xlsx_open.specs.Words.{SharedSaid};
 ghost use Rattle.xlsx_workbook.specs.declared.sheet.Sheet.{Sheet};
 ghost use Rattle.xlsx_core.specs.declared.sheet_reading.SheetReading.{SheetReading};
-ghost use Rattle.xlsx_cells.specs.Sheet.{with_texts};
-ghost use Rattle.xlsx_values.specs.Value.{Grounds};
+ghost use Rattle.xlsx_values.specs.Words.{ValueContext};
 
 use xlsx_areas::links_have_no_cause_of_a_refusal;
 
@@ -75,32 +71,32 @@ pub fn sheets_go_by_their_parts()
 /// Of one sheet the range of values is the range with shared strings by their places, with the
 /// texts put in, in the same area.
 pub fn ranges_differ_by_texts()
-    ensures { (grounds : Grounds) (header : HeaderRow) (path : Option (List ℕ))
+    ensures { (context : ValueContext) (header : HeaderRow) (path : Option (List ℕ))
         (parts : List Part) (one : Range DataRef) (two : Range Data) →
-        ReadsPlaces grounds header path parts one → ReadsValues grounds header path parts two →
-        (value_pairs two ≡ with_texts grounds.strings (place_pairs one))
+        ReadsPlaces context header path parts one → ReadsValues context header path parts two →
+        (value_pairs two ≡ with_texts context.strings (place_pairs one))
         × (bounds_of two ≡ bounds_of one) }
 {}
 
 /// What is read of a worksheet of an open workbook has no cause to be refused, whatever the rest of
 /// its cells says: formulas at fault are no cause for values, and so on.
 pub fn worksheets_that_are_read_are_not_refused()
-    ensures values { (grounds : Grounds) (header : HeaderRow) (name : List ℕ)
+    ensures values { (context : ValueContext) (header : HeaderRow) (name : List ℕ)
         (path : Option (List ℕ)) (parts : List Part) (range : Range Data) (error : XlsxError) →
-        ReadsValues grounds header path parts range →
-        RangeCause name values_alone grounds path parts error → ⊥ }
-    ensures places { (grounds : Grounds) (header : HeaderRow) (name : List ℕ)
+        ReadsValues context header path parts range →
+        RangeCause name values_alone context path parts error → ⊥ }
+    ensures places { (context : ValueContext) (header : HeaderRow) (name : List ℕ)
         (path : Option (List ℕ)) (parts : List Part) (range : Range DataRef)
-        (error : XlsxError) → ReadsPlaces grounds header path parts range →
-        RangeCause name values_alone grounds path parts error → ⊥ }
-    ensures formulas { (grounds : Grounds) (name : List ℕ) (path : Option (List ℕ))
+        (error : XlsxError) → ReadsPlaces context header path parts range →
+        RangeCause name values_alone context path parts error → ⊥ }
+    ensures formulas { (context : ValueContext) (name : List ℕ) (path : Option (List ℕ))
         (parts : List Part) (range : Range (String Global)) (error : XlsxError) →
         ReadsFormulas path parts range →
-        RangeCause name formulas_alone grounds path parts error → ⊥ }
-    ensures styles { (grounds : Grounds) (palette : List Style) (name : List ℕ)
+        RangeCause name formulas_alone context path parts error → ⊥ }
+    ensures styles { (context : ValueContext) (palette : List Style) (name : List ℕ)
         (path : Option (List ℕ)) (parts : List Part) (styles : StyleMap) (error : XlsxError) →
         ReadsStyles palette path parts styles →
-        PlacedCause name path (SheetPartCause styles_alone grounds) parts error → ⊥ }
+        PlacedCause name path (SheetPartCause styles_alone context) parts error → ⊥ }
 {}
 
 /// A sheet whose hyperlinks are taken has no cause to be refused for them.
@@ -114,26 +110,26 @@ pub fn links_that_are_taken_are_not_refused()
 
 /// No sheet that is listed with its range is one that is left out.
 pub fn worksheets_are_listed_or_left_out()
-    ensures { (grounds : Grounds) (header : HeaderRow) (place : List ℕ → Option (List ℕ))
+    ensures { (context : ValueContext) (header : HeaderRow) (place : List ℕ → Option (List ℕ))
         (parts : List Part) (sheet : Sheet) (listed : String Global × Range Data) →
-        IsListedAs grounds header place parts sheet listed →
-        IsLeftOut grounds place parts sheet → ⊥ }
+        IsListedAs context header place parts sheet listed →
+        IsLeftOut context place parts sheet → ⊥ }
 {}
 
 /// What is read of a sheet for the data of a table has no cause to be refused.
 pub fn table_data_that_are_read_are_not_refused()
-    ensures values { (grounds : Grounds) (header : HeaderRow) (name : List ℕ)
+    ensures values { (context : ValueContext) (header : HeaderRow) (name : List ℕ)
         (area : Dimensions) (path : Option (List ℕ)) (parts : List Part) (range : Range Data)
-        (error : XlsxError) → ReadsValuesIn grounds header (Some area) path parts range →
-        RangeCause name values_alone grounds path parts error → ⊥ }
-    ensures places { (grounds : Grounds) (header : HeaderRow) (name : List ℕ)
+        (error : XlsxError) → ReadsValuesIn context header (Some area) path parts range →
+        RangeCause name values_alone context path parts error → ⊥ }
+    ensures places { (context : ValueContext) (header : HeaderRow) (name : List ℕ)
         (area : Dimensions) (path : Option (List ℕ)) (parts : List Part)
         (range : Range DataRef) (error : XlsxError) →
-        ReadsPlacesIn grounds header (Some area) path parts range →
-        RangeCause name values_alone grounds path parts error → ⊥ }
-    ensures shown { (grounds : Grounds) (shared : SharedSaid) (is_1904 : Bool)
+        ReadsPlacesIn context header (Some area) path parts range →
+        RangeCause name values_alone context path parts error → ⊥ }
+    ensures shown { (context : ValueContext) (shared : SharedSaid) (is_1904 : Bool)
         (header : HeaderRow) (name : List ℕ) (area : Dimensions) (path : Option (List ℕ))
         (parts : List Part) (range : Range Data) (error : XlsxError) →
-        ShowsValuesIn grounds shared is_1904 header (Some area) path parts range →
-        RangeCause name values_and_styles grounds path parts error → ⊥ }
+        ShowsValuesIn context shared is_1904 header (Some area) path parts range →
+        RangeCause name values_and_styles context path parts error → ⊥ }
 {}

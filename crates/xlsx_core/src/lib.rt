@@ -6,11 +6,11 @@
 //! `standing` (the last cell of each position, from the header row on), `ranges` (cells as ranges),
 //! `as_read` (the cells of a sheet as they came, and the ranges of them), `sheet_reading`
 //! (`read_sheet`, `read_sheet_values`, `SheetReading`, `SheetAnswer`), `shown_codes` (the codes of
-//! styles, each cut once), `shown_sheet` (`read_sheet_shown`), `shown_table` (the call on the data of
-//! a table as they are shown), `shown_laws`, `merges` (the calls on merged cells), `links` (those on
-//! hyperlinks), `comments` (the one on comments), `formula_list` (the one on the formulas of all
-//! sheets), `formula_laws`, `properties` (the one on properties), `sheet_lists` (the loop over what
-//! the sheets say), `numbered_tables` (the tables of all sheets by the numbers of these),
+//! styles, each cut once), `shown_sheet` (`read_sheet_shown`), `shown_table` (the call on the data
+//! of a table as they are shown), `shown_laws`, `merges` (the calls on merged cells), `links`
+//! (those on hyperlinks), `comments` (the one on comments), `formula_list` (the one on the formulas
+//! of all sheets), `formula_laws`, `properties` (the one on properties), `sheet_lists` (the loop
+//! over what the sheets say), `numbered_tables` (the tables of all sheets by the numbers of these),
 //! `table_list` (tables that are loaded and listed), `table_data` (their data by their names),
 //! `pivots` (the call on pivot tables), `lists` (what was loaded), `laws`.
 //!
@@ -47,7 +47,7 @@
 //! from the last sheet to the first.
 //!
 //! `read_formulas` takes the sheets by their numbers and their paths alone, so that two of one name
-//! are two. Its cells are those of a pass of their own, `collect_covered`, over no grounds at all:
+//! are two. Its cells are those of a pass of their own, `collect_covered`, over no context at all:
 //! formulas rest on nothing but their part.
 //!
 //! A table that is loaded keeps the number of its sheet, and is said with that sheet's name

@@ -1,5 +1,5 @@
 ghost use Rattle.std.specs.Prelude.{◌≡◌, true, map, IfOk, OnOk, IfErr, IfSome, MatchOption, Some};
-ghost use Rattle.part_events.specs.Package.{Uses, CountsUp};
+ghost use Rattle.part_events.specs.Words.{Uses, CountsUp};
 ghost use Rattle.xlsx_error.specs.declared.error.XlsxError.TheVariants.{Io};
 ghost use Rattle.xlsx_areas.specs.Hyperlinks.{link_said, link_sections};
 ghost use Rattle.xlsx_core.specs.Links.{links_placed, PlacedLinksFail, IsPlacedLinksError};
@@ -13,20 +13,20 @@ use crate::xlsx::Xlsx;
 use part_events::{Package, XlReader};
 use xlsx_areas::{Hyperlink, read_sheet_links};
 use xlsx_error::XlsxError;
-use xlsx_open::KeptPath;
+use xlsx_open::PartPath;
 
 /// The hyperlinks of the sheet of this name, whose part is at this path.
 fn placed_links<P: Package>(
     xml: &mut XlReader<P>,
-    path: Option<&KeptPath>,
+    path: Option<&PartPath>,
     name: &str,
 ) -> Result<Vec<Hyperlink>, XlsxError>
     ensures uses { Uses (placed_link_events (path_lent path.entry) xml.old.source.parts) Io result
         xml.old.source xml.new.source }
     ensures to_end { let old = xml.old.source in
-        old.is_told ≡ true → IfSome (path_lent path.entry) (λ there.
+        old.is_visible ≡ true → IfSome (path_lent path.entry) (λ there.
         OnOk result (CountsUp (link_sections old.parts there) old.taken xml.new.source.taken)) }
-    ensures links { xml.old.source.is_told ≡ true → IfOk result (λ links.
+    ensures links { xml.old.source.is_visible ≡ true → IfOk result (λ links.
         links_placed (path_lent path.entry) xml.old.source.parts
         ≡ Some (map link_said links.items)) }
     ensures err { IfErr result (PlacedLinksFail name.now (path_lent path.entry)
@@ -69,18 +69,18 @@ impl<P: Package> Xlsx<P> {
         ensures uses { Uses (placed_link_events (path_of self.old name.now)
             self.old.xml.source.parts) Io result self.old.xml.source self.new.xml.source }
         ensures to_end { let old = self.old.xml.source in
-            old.is_told ≡ true → IfSome (path_of self.old name.now) (λ there.
+            old.is_visible ≡ true → IfSome (path_of self.old name.now) (λ there.
             OnOk result (CountsUp (link_sections old.parts there) old.taken
             self.new.xml.source.taken)) }
         ensures rest { KeepsWorkbook self.old self.new }
-        ensures links { self.old.xml.source.is_told ≡ true → IfOk result (λ links.
+        ensures links { self.old.xml.source.is_visible ≡ true → IfOk result (λ links.
             links_placed (path_of self.old name.now) self.old.xml.source.parts
             ≡ Some (map link_said links.items)) }
         ensures err { IfErr result (PlacedLinksFail name.now (path_of self.old name.now)
             self.old.xml.source self.new.xml.source) }
         ensures kind { IfErr result (IsPlacedLinksError name.now) }
     {
-        let path = path_named(&self.metadata.sheets, &self.paths, name);
+        let path = path_named(&self.workbook.metadata.sheets, &self.workbook.paths, name);
         placed_links(&mut self.xml, path, name)
     }
 
@@ -93,11 +93,11 @@ impl<P: Package> Xlsx<P> {
         ensures uses { Uses (placed_link_events (path_at self.old id) self.old.xml.source.parts)
             Io result self.old.xml.source self.new.xml.source }
         ensures to_end { let old = self.old.xml.source in
-            old.is_told ≡ true → IfSome (path_at self.old id) (λ there.
+            old.is_visible ≡ true → IfSome (path_at self.old id) (λ there.
             OnOk result (CountsUp (link_sections old.parts there) old.taken
             self.new.xml.source.taken)) }
         ensures rest { KeepsWorkbook self.old self.new }
-        ensures links { self.old.xml.source.is_told ≡ true → IfOk result (λ links.
+        ensures links { self.old.xml.source.is_visible ≡ true → IfOk result (λ links.
             links_placed (path_at self.old id) self.old.xml.source.parts ≡ Some
             (map link_said links.items)) }
         ensures err { IfErr result (NumberedLinksFail self.old id self.old.xml.source
@@ -106,9 +106,9 @@ impl<P: Package> Xlsx<P> {
             MatchOption (sheet_name_at self.old id) (IsIndexError id error)
             (λ name. IsPlacedLinksError name error)) }
     {
-        let sheet = numbered_sheet(self.xml.alloc(), &self.metadata.sheets, id)?;
+        let sheet = numbered_sheet(self.xml.alloc(), &self.workbook.metadata.sheets, id)?;
         let name = sheet.name.as_str();
-        let path = path_named(&self.metadata.sheets, &self.paths, name);
+        let path = path_named(&self.workbook.metadata.sheets, &self.workbook.paths, name);
         placed_links(&mut self.xml, path, name)
     }
 }

@@ -1,17 +1,16 @@
 ghost use Rattle.std.specs.Prelude.{◌≡◌, true, map, IfOk, OnOk, OnErr, IfErr, IfSome, IfNone};
 ghost use Rattle.std.specs.Prelude.{codes, IsSome, IsSomeAnd, MatchOption, None, Some, is_some};
 ghost use Rattle.std.specs.List.{filter};
-ghost use Rattle.part_events.specs.Package.{Uses, UsesPackage};
+ghost use Rattle.part_events.specs.Words.{Uses, UsesPackage};
 ghost use Rattle.xlsx_error.specs.declared.error.XlsxError.TheVariants.{Io};
-ghost use Rattle.xlsx_sections.specs.Asking.{Answers};
-ghost use Rattle.xlsx_sections.specs.SectionEvents.{ReadsToEnd};
-ghost use Rattle.xlsx_parts.specs.WholePart.{IsBreakError};
+ghost use Rattle.xlsx_sections.specs.Words.{Answers, ReadsToEnd};
+ghost use Rattle.xlsx_parts.specs.Words.{IsBreakError};
 ghost use Rattle.xlsx_areas.specs.MergeErrors.{IsRegionsError};
 ghost use Rattle.xlsx_areas.specs.MergedCells.{merges_at};
 ghost use Rattle.xlsx_areas.specs.Regions.{Region, region_of, regions_ask, all_regions_ask};
 ghost use Rattle.xlsx_areas.specs.Regions.{regions_left, is_of_sheet};
-ghost use Rattle.xlsx_core.specs.Merges.{sheets_of_book, sheet_name_at, path_at};
-ghost use Rattle.xlsx_core.specs.Merges.{merges_placed, merges_or_none_placed, PlacedMergesFail};
+ghost use Rattle.xlsx_core.specs.Merges.{sheets_of_book, sheet_name_at, path_at, merges_placed};
+ghost use Rattle.xlsx_core.specs.Merges.{merges_or_none_placed, PlacedMergesFail};
 ghost use Rattle.xlsx_core.specs.Merges.{IsPlacedMergesError, IsIndexError, NumberedMergesFail};
 ghost use Rattle.xlsx_core.specs.Merges.{PlacedBreaks, regions_held};
 ghost use Rattle.xlsx_core.specs.Opened.{path_lent};
@@ -28,19 +27,19 @@ use xlsx_areas::{
     MergedRegion, MergedRegions, read_merges, read_merges_or_none, read_sheet_regions,
 };
 use xlsx_error::XlsxError;
-use xlsx_open::{KeptPath, Sheet};
+use xlsx_open::{PartPath, Sheet};
 
 /// The merged cells of the sheet of this name, whose part is at this path.
 fn placed_merges<P: Package>(
     xml: &mut XlReader<P>,
-    path: Option<&KeptPath>,
+    path: Option<&PartPath>,
     name: &str,
 ) -> Result<Vec<Dimensions>, XlsxError>
     ensures uses { Uses (placed_events (path_lent path.entry) xml.old.source.parts) Io result
         xml.old.source xml.new.source }
     ensures to_end { IfSome (path_lent path.entry) (λ there.
         ReadsToEnd (codes "mergeCells") there result xml.old.source xml.new.source) }
-    ensures merges { xml.old.source.is_told ≡ true → IfOk result (λ areas.
+    ensures merges { xml.old.source.is_visible ≡ true → IfOk result (λ areas.
         merges_placed (path_lent path.entry) xml.old.source.parts ≡ Some areas.items) }
     ensures err { IfErr result (PlacedMergesFail name.now (path_lent path.entry)
         xml.old.source xml.new.source) }
@@ -60,7 +59,7 @@ fn placed_merges<P: Package>(
 /// section refuses them. None where there is no path, or no part at it.
 fn placed_merges_or_none<P: Package>(
     xml: &mut XlReader<P>,
-    path: Option<&KeptPath>,
+    path: Option<&PartPath>,
 ) -> Option<Result<Vec<Dimensions>, XlsxError>>
     ensures uses { let old = xml.old.source in
         let new = xml.new.source in
@@ -69,9 +68,10 @@ fn placed_merges_or_none<P: Package>(
     ensures to_end { IfSome (path_lent path.entry) (λ there. IfSome result (λ answer.
         IsSome (merges_at xml.old.source.parts there) →
         ReadsToEnd (codes "mergeCells") there answer xml.old.source xml.new.source)) }
-    ensures absent { IfNone result (xml.old.source.is_told ≡ true →
+    ensures absent { IfNone result (xml.old.source.is_visible ≡ true →
         events_at (path_lent path.entry) xml.old.source.parts ≡ None) }
-    ensures merges { xml.old.source.is_told ≡ true → IfSome result (λ answer. IfOk answer (λ areas.
+    ensures merges { xml.old.source.is_visible ≡ true → IfSome result (λ answer.
+        IfOk answer (λ areas.
         merges_or_none_placed (path_lent path.entry) xml.old.source.parts ≡ Some areas.items)) }
     ensures err { IfSome result (λ answer. IfErr answer (PlacedBreaks (path_lent path.entry)
         xml.old.source xml.new.source)) }
@@ -146,14 +146,14 @@ impl<P: Package> Xlsx<P> {
         ensures to_end { IfSome (path_of self.old name.now) (λ there.
             ReadsToEnd (codes "mergeCells") there result self.old.xml.source self.new.xml.source) }
         ensures rest { KeepsWorkbook self.old self.new }
-        ensures merges { self.old.xml.source.is_told ≡ true → IfOk result (λ areas.
+        ensures merges { self.old.xml.source.is_visible ≡ true → IfOk result (λ areas.
             merges_placed (path_of self.old name.now) self.old.xml.source.parts
             ≡ Some areas.items) }
         ensures err { IfErr result (PlacedMergesFail name.now (path_of self.old name.now)
             self.old.xml.source self.new.xml.source) }
         ensures kind { IfErr result (IsPlacedMergesError name.now) }
     {
-        let path = path_named(&self.metadata.sheets, &self.paths, name);
+        let path = path_named(&self.workbook.metadata.sheets, &self.workbook.paths, name);
         placed_merges(&mut self.xml, path, name)
     }
 
@@ -168,7 +168,7 @@ impl<P: Package> Xlsx<P> {
         ensures to_end { IfSome (path_at self.old id) (λ there.
             ReadsToEnd (codes "mergeCells") there result self.old.xml.source self.new.xml.source) }
         ensures rest { KeepsWorkbook self.old self.new }
-        ensures merges { self.old.xml.source.is_told ≡ true → IfOk result (λ areas.
+        ensures merges { self.old.xml.source.is_visible ≡ true → IfOk result (λ areas.
             merges_placed (path_at self.old id) self.old.xml.source.parts ≡ Some areas.items) }
         ensures err { IfErr result (NumberedMergesFail self.old id self.old.xml.source
             self.new.xml.source) }
@@ -176,9 +176,9 @@ impl<P: Package> Xlsx<P> {
             MatchOption (sheet_name_at self.old id) (IsIndexError id error)
             (λ name. IsPlacedMergesError name error)) }
     {
-        let sheet = numbered_sheet(self.xml.alloc(), &self.metadata.sheets, id)?;
+        let sheet = numbered_sheet(self.xml.alloc(), &self.workbook.metadata.sheets, id)?;
         let name = sheet.name.as_str();
-        let path = path_named(&self.metadata.sheets, &self.paths, name);
+        let path = path_named(&self.workbook.metadata.sheets, &self.workbook.paths, name);
         placed_merges(&mut self.xml, path, name)
     }
 
@@ -199,10 +199,10 @@ impl<P: Package> Xlsx<P> {
         ensures to_end { IfSome (path_of self.old name.now) (λ there. IfSome result (λ answer.
             IsSome (merges_at self.old.xml.source.parts there) →
             ReadsToEnd (codes "mergeCells") there answer self.old.xml.source self.new.xml.source)) }
-        ensures absent { IfNone result (self.old.xml.source.is_told ≡ true →
+        ensures absent { IfNone result (self.old.xml.source.is_visible ≡ true →
             events_at (path_of self.old name.now) self.old.xml.source.parts ≡ None) }
         ensures rest { KeepsWorkbook self.old self.new }
-        ensures merges { self.old.xml.source.is_told ≡ true →
+        ensures merges { self.old.xml.source.is_visible ≡ true →
             IfSome result (λ answer. IfOk answer (λ areas.
             merges_or_none_placed (path_of self.old name.now) self.old.xml.source.parts ≡ Some
             areas.items)) }
@@ -210,7 +210,7 @@ impl<P: Package> Xlsx<P> {
             (PlacedBreaks (path_of self.old name.now) self.old.xml.source self.new.xml.source)) }
         ensures kind { IfSome result (λ answer. IfErr answer IsBreakError) }
     {
-        let path = path_named(&self.metadata.sheets, &self.paths, name);
+        let path = path_named(&self.workbook.metadata.sheets, &self.workbook.paths, name);
         placed_merges_or_none(&mut self.xml, path)
     }
 
@@ -227,10 +227,10 @@ impl<P: Package> Xlsx<P> {
         ensures to_end { IfSome (path_at self.old sheet_index) (λ there. IfSome result (λ answer.
             IsSome (merges_at self.old.xml.source.parts there) →
             ReadsToEnd (codes "mergeCells") there answer self.old.xml.source self.new.xml.source)) }
-        ensures absent { IfNone result (self.old.xml.source.is_told ≡ true →
+        ensures absent { IfNone result (self.old.xml.source.is_visible ≡ true →
             events_at (path_at self.old sheet_index) self.old.xml.source.parts ≡ None) }
         ensures rest { KeepsWorkbook self.old self.new }
-        ensures merges { self.old.xml.source.is_told ≡ true →
+        ensures merges { self.old.xml.source.is_visible ≡ true →
             IfSome result (λ answer. IfOk answer (λ areas.
             merges_or_none_placed (path_at self.old sheet_index) self.old.xml.source.parts
             ≡ Some areas.items)) }
@@ -238,8 +238,12 @@ impl<P: Package> Xlsx<P> {
             (PlacedBreaks (path_at self.old sheet_index) self.old.xml.source self.new.xml.source)) }
         ensures kind { IfSome result (λ answer. IfErr answer IsBreakError) }
     {
-        let sheet = self.metadata.sheets.get(sheet_index)?;
-        let path = path_named(&self.metadata.sheets, &self.paths, sheet.name.as_str());
+        let sheet = self.workbook.metadata.sheets.get(sheet_index)?;
+        let path = path_named(
+            &self.workbook.metadata.sheets,
+            &self.workbook.paths,
+            sheet.name.as_str(),
+        );
         placed_merges_or_none(&mut self.xml, path)
     }
 
@@ -252,34 +256,41 @@ impl<P: Package> Xlsx<P> {
     /// whose `ref` names no area. A refusal leaves what was loaded as it was.
     pub fn load_merged_regions(&mut self) -> Result<(), XlsxError>
         ensures answers { let ask = all_regions_ask (sheets_of_book self.old) in
-            Answers ask (λ _. regions_held self.new.lists.regions) result
+            Answers ask (λ _. regions_held self.new.workbook.lists.regions) result
             self.old.xml.source self.new.xml.source }
         ensures book { KeepsBook self.old self.new }
-        ensures loaded { OnOk result (IsSome self.new.lists.regions) }
-        ensures properties { self.new.lists.properties ≡ self.old.lists.properties }
-        ensures tables { self.new.lists.tables ≡ self.old.lists.tables }
+        ensures loaded { OnOk result (IsSome self.new.workbook.lists.regions) }
+        ensures properties { self.new.workbook.lists.properties ≡
+            self.old.workbook.lists.properties }
+        ensures tables { self.new.workbook.lists.tables ≡ self.old.workbook.lists.tables }
         ensures unchanged { OnErr result (KeepsWorkbook self.old self.new) }
     {
-        let sheets = &self.metadata.sheets;
+        let sheets = &self.workbook.metadata.sheets;
         let regions = Vec::new(self.xml.alloc());
-        let regions = read_sheets(&mut self.xml, regions, sheets, &self.paths, &RegionLists)?;
-        self.lists.regions = Some(regions);
+        let regions = read_sheets(
+            &mut self.xml,
+            regions,
+            sheets,
+            &self.workbook.paths,
+            &RegionLists,
+        )?;
+        self.workbook.lists.regions = Some(regions);
         Ok(())
     }
 
     /// Whether the regions were loaded.
     pub fn merged_regions_loaded(&self) -> bool
-        ensures { result ≡ is_some self.now.lists.regions }
+        ensures { result ≡ is_some self.now.workbook.lists.regions }
     {
-        self.lists.regions.is_some()
+        self.workbook.lists.regions.is_some()
     }
 
     /// The regions that were loaded, in order. It can be called once `merged_regions_loaded`.
     pub fn merged_regions(&self) -> &[MergedRegion]
-        requires { IsSome self.now.lists.regions }
-        ensures { IsSomeAnd self.now.lists.regions (λ kept. result.now ≡ kept.items) }
+        requires { IsSome self.now.workbook.lists.regions }
+        ensures { IsSomeAnd self.now.workbook.lists.regions (λ kept. result.now ≡ kept.items) }
     {
-        match &self.lists.regions {
+        match &self.workbook.lists.regions {
             Some(regions) => regions,
             None => unreachable!(),
         }
@@ -297,8 +308,8 @@ impl<P: Package> Xlsx<P> {
     /// }
     /// ```
     pub fn merged_regions_by_sheet<'a>(&'a self, name: &'a str) -> MergedRegions<'a>
-        requires { IsSome self.now.lists.regions }
-        ensures { IsSomeAnd self.now.lists.regions (λ kept.
+        requires { IsSome self.now.workbook.lists.regions }
+        ensures { IsSomeAnd self.now.workbook.lists.regions (λ kept.
             regions_left result ≡ filter (is_of_sheet name.now) kept.items) }
     {
         MergedRegions::new(self.merged_regions(), name)

@@ -1,5 +1,5 @@
 ghost use Rattle.std.specs.Prelude.{◌≡◌, map};
-ghost use Rattle.xlsx_sections.specs.Asking.{Answers};
+ghost use Rattle.xlsx_sections.specs.Words.{Answers};
 ghost use Rattle.xlsx_tables.specs.Tables.{loaded_of};
 ghost use Rattle.xlsx_core.specs.Merges.{sheets_of_book, sheet_paths};
 ghost use Rattle.xlsx_core.specs.NumberedTables.{all_numbered_tables_ask};
@@ -8,14 +8,14 @@ ghost use Rattle.xlsx_core.specs.Worksheets.{KeepsWorkbook};
 use crate::xlsx::Xlsx;
 use part_events::{Package, XlReader};
 use xlsx_error::XlsxError;
-use xlsx_open::{KeptPath, Sheet};
+use xlsx_open::{PartPath, Sheet};
 use xlsx_tables::{LoadedTable, read_sheet_tables};
 
 /// The tables of these sheets, whose parts are at these paths, in their order.
 fn tables_numbered<P: Package>(
     xml: &mut XlReader<P>,
     sheets: &[Sheet],
-    paths: &[KeptPath],
+    paths: &[PartPath],
 ) -> Result<Vec<LoadedTable>, XlsxError>
     ensures { let ask = all_numbered_tables_ask (sheet_paths sheets.now paths.now) in
         Answers ask (λ all. map loaded_of all.items) result xml.old.source xml.new.source }
@@ -60,6 +60,10 @@ impl<P: Package> Xlsx<P> {
             self.new.xml.source }
         ensures rest { KeepsWorkbook self.old self.new }
     {
-        tables_numbered(&mut self.xml, &self.metadata.sheets, &self.paths)
+        tables_numbered(
+            &mut self.xml,
+            &self.workbook.metadata.sheets,
+            &self.workbook.paths,
+        )
     }
 }

@@ -1,14 +1,12 @@
 ghost use Rattle.std.specs.Prelude.{IfOk, IfErr, IsSomeAnd};
 ghost use Rattle.std.specs.Arc.{arc_str_bytes};
-ghost use Rattle.part_events.specs.Lending.{LentFails};
+ghost use Rattle.part_events.specs.Words.{LentFails};
 ghost use Rattle.xlsx_error.specs.declared.error.XlsxError.TheVariants.{Io};
-ghost use Rattle.xlsx_sections.specs.Asking.{Answers};
-ghost use Rattle.xlsx_pivots.specs.PivotErrors.{IsPivotsError};
-ghost use Rattle.xlsx_pivots.specs.PivotTables.{pivots_kept, paths_of};
-ghost use Rattle.xlsx_pivots.specs.Pivots.{PivotSaid, pivots_ask, pivots_on_ask};
+ghost use Rattle.xlsx_sections.specs.Words.{Answers};
+ghost use Rattle.xlsx_pivots.specs.Words.{IsPivotsError, pivots_kept, paths_of, PivotSaid};
+ghost use Rattle.xlsx_pivots.specs.Words.{pivots_ask, pivots_on_ask};
 ghost use Rattle.xlsx_core.specs.Merges.{sheets_of_book};
-ghost use Rattle.xlsx_pivot_cache.specs.CacheIter.{rows_by};
-ghost use Rattle.xlsx_pivot_cache.specs.PivotRows.{OpensRows};
+ghost use Rattle.xlsx_pivot_cache.specs.Words.{rows_by, OpensRows};
 ghost use Rattle.xlsx_core.specs.PivotList.{PivotDataFails, IsPivotDataError};
 ghost use Rattle.xlsx_core.specs.Worksheets.{KeepsWorkbook};
 
@@ -79,16 +77,16 @@ impl<P: Package> Xlsx<P> {
     /// }
     /// ```
     pub fn pivot_tables(&mut self) -> Result<PivotTables, XlsxError>
-        ensures answers { let folder = arc_str_bytes self.old.folder in
+        ensures answers { let folder = arc_str_bytes self.old.workbook.folder in
             Answers (pivots_ask folder (sheets_of_book self.old)) pivots_kept result
             self.old.xml.source self.new.xml.source }
         ensures workbook { KeepsWorkbook self.old self.new }
     {
-        let folder = self.folder.as_str();
+        let folder = self.workbook.folder.as_str();
         let by = PivotLists { folder };
         let pivots = PivotTables::new(self.xml.alloc());
-        let sheets = &self.metadata.sheets;
-        read_sheets(&mut self.xml, pivots, sheets, &self.paths, &by)
+        let sheets = &self.workbook.metadata.sheets;
+        read_sheets(&mut self.xml, pivots, sheets, &self.workbook.paths, &by)
     }
 
     /// The rows of the cache of the first of these pivot tables that has this name and is on a

@@ -1,20 +1,15 @@
-ghost use Rattle.std.specs.Prelude.{◌≡◌, true, false, IfOk, IfErr, IsSomeAnd};
-ghost use Rattle.std.specs.Prelude.{length, map, string_bytes, slice_get, Some, None};
-ghost use Rattle.part_events.specs.Package.{Uses, CountsUp};
+ghost use Rattle.std.specs.Prelude.{◌≡◌, true, false, IfOk, IfErr, IsSomeAnd, length, map};
+ghost use Rattle.std.specs.Prelude.{string_bytes, slice_get, Some, None};
+ghost use Rattle.part_events.specs.Words.{Uses, CountsUp};
 ghost use Rattle.xlsx_error.specs.declared.error.XlsxError.TheVariants.{Io};
-ghost use Rattle.xlsx_values.specs.Book.{grounds_of};
-ghost use Rattle.cell_data.specs.Gathered.{cells_gathered};
-ghost use Rattle.xlsx_cells.specs.SheetPart.{EntersData, value_entries, formula_entries};
-ghost use Rattle.xlsx_cells.specs.SheetPart.{LieInSheet};
-ghost use Rattle.xlsx_cells.specs.CellsReader.{values_alone};
-ghost use Rattle.xlsx_cells.specs.Ends.{reads_children};
-ghost use Rattle.xlsx_cells.specs.Head.{IfNoWorksheet};
-ghost use Rattle.xlsx_cells.specs.Stream.{stream};
+ghost use Rattle.xlsx_values.specs.Words.{context_of};
+ghost use Rattle.cell_data.specs.Words.{cells_gathered};
+ghost use Rattle.xlsx_cells.specs.Words.{EntersData, value_entries, formula_entries, LieInSheet};
+ghost use Rattle.xlsx_cells.specs.Words.{values_alone, reads_children, IfNoWorksheet, stream};
 ghost use Rattle.xlsx_core.specs.Merges.{IsIndexError};
 ghost use Rattle.xlsx_core.specs.Opened.{path_listed, path_lent};
-ghost use Rattle.xlsx_core.specs.SheetReading.{events_at, placed_events, grounds_with};
-ghost use Rattle.xlsx_core.specs.SheetReading.{data_events, TakesExactly};
-ghost use Rattle.xlsx_core.specs.SheetReading.{PlacedHeadFails, PlacedSheetFails};
+ghost use Rattle.xlsx_core.specs.SheetReading.{events_at, placed_events, context_with, data_events};
+ghost use Rattle.xlsx_core.specs.SheetReading.{TakesExactly, PlacedHeadFails, PlacedSheetFails};
 ghost use Rattle.xlsx_core.specs.SheetReading.{IsPlacedHeadError, IsPlacedError};
 ghost use Rattle.xlsx_core.specs.Worksheets.{HoldsWanted, IsStyleRangeError, AnswersCells};
 ghost use Rattle.xlsx_core.specs.Worksheets.{ReadsValues, RangeFails, IsRangeError};
@@ -26,11 +21,11 @@ use part_events::{Package, XlReader};
 use std::alloc::Global;
 use xlsx_cells::{Asked, SheetCells, SheetCursor, Wants, collect, open_data};
 use xlsx_error::XlsxError;
-use xlsx_open::{KeptPath, SharedParts, Sheet};
-use xlsx_values::Book;
+use xlsx_open::{PartPath, SharedParts, Sheet};
+use xlsx_values::ValueContext;
 
 /// The path of the part of the first sheet of this name.
-pub fn path_named<'a>(sheets: &[Sheet], paths: &'a [KeptPath], name: &str) -> Option<&'a KeptPath>
+pub fn path_named<'a>(sheets: &[Sheet], paths: &'a [PartPath], name: &str) -> Option<&'a PartPath>
     ensures { path_lent result ≡ path_listed name.now sheets.now paths.now }
 {
     let mut rest = paths;
@@ -67,7 +62,7 @@ pub fn numbered_sheet(alloc: Global, sheets: &[Sheet], index: usize) -> Result<&
 /// Fails with `WorksheetNotFound` where there is no path, or no part at it.
 pub fn open_placed<P: Package>(
     xml: &mut XlReader<P>,
-    path: Option<&KeptPath>,
+    path: Option<&PartPath>,
     name: &str,
 ) -> Result<(SheetCursor, Dimensions), XlsxError>
     ensures uses { Uses (placed_events (path_lent path.entry) xml.old.source.parts) Io result
@@ -78,7 +73,7 @@ pub fn open_placed<P: Package>(
         xml.old.source xml.new.source) }
     ensures lacks { let old = xml.old.source in
         let all = placed_events (path_lent path.entry) old.parts in
-        old.is_told ≡ true →
+        old.is_visible ≡ true →
         IfErr result (IfNoWorksheet (CountsUp all old.taken xml.new.source.taken)) }
     ensures kind { IfErr result (IsPlacedHeadError name.now) }
 {
@@ -95,7 +90,7 @@ pub fn open_placed<P: Package>(
 /// What is asked for of the sheet of this name, whose part is at this path.
 pub fn read_placed<P: Package>(
     xml: &mut XlReader<P>,
-    path: Option<&KeptPath>,
+    path: Option<&PartPath>,
     name: &str,
     asked: Asked<'_>,
 ) -> Result<SheetCells, XlsxError>
@@ -107,19 +102,19 @@ pub fn read_placed<P: Package>(
         LieInSheet (cells_gathered cells.values) (cells_gathered cells.formulas)
         cells.style_ids.items) }
     ensures reads { let wants = asked.entry.wants in
-        let grounds = grounds_of asked.entry.book in
+        let context = context_of asked.entry.book in
         let path = path_lent path.entry in
         let count = asked.entry.style_count in
-        xml.old.source.is_told ≡ true →
+        xml.old.source.is_visible ≡ true →
         IfOk result (λ cells. IsSomeAnd (events_at path xml.old.source.parts)
         (λ events. let values = value_entries (cells_gathered cells.values) in
-        HoldsWanted wants grounds count events values
+        HoldsWanted wants context count events values
         (formula_entries (cells_gathered cells.formulas)) cells.style_ids.items)) }
     ensures err { IfErr result (PlacedSheetFails name.now asked.entry.wants
-        (grounds_of asked.entry.book) (path_lent path.entry) xml.old.source xml.new.source) }
+        (context_of asked.entry.book) (path_lent path.entry) xml.old.source xml.new.source) }
     ensures lacks { let old = xml.old.source in
         let all = placed_events (path_lent path.entry) old.parts in
-        old.is_told ≡ true →
+        old.is_visible ≡ true →
         IfErr result (IfNoWorksheet (CountsUp all old.taken xml.new.source.taken)) }
     ensures kind { IfErr result (IsPlacedError name.now) }
     ensures plain { reads_children asked.entry.wants ≡ false →
@@ -132,13 +127,13 @@ pub fn read_placed<P: Package>(
 
 /// What is asked for of a sheet, over what the sheets share.
 pub fn asked_of(shared: &SharedParts, is_1904: bool, wants: Wants) -> Asked<'_>
-    ensures grounds { grounds_of result.book ≡ grounds_with
+    ensures context { context_of result.book ≡ context_with
         (map string_bytes shared.now.strings.items) shared.now.style_sheet.formats.items is_1904 }
     ensures wants { result.wants ≡ wants }
     ensures count { result.style_count ≡ length shared.now.style_sheet.styles.items }
     ensures keeps { result.keeps_masters ≡ true }
 {
-    let book = Book {
+    let book = ValueContext {
         strings: &shared.strings,
         formats: &shared.style_sheet.formats,
         is_1904,
@@ -154,7 +149,7 @@ pub fn asked_of(shared: &SharedParts, is_1904: bool, wants: Wants) -> Asked<'_>
 /// The same as `read_placed`, and nothing where the part is no worksheet.
 pub fn read_range<P: Package>(
     xml: &mut XlReader<P>,
-    path: Option<&KeptPath>,
+    path: Option<&PartPath>,
     name: &str,
     asked: Asked<'_>,
 ) -> Result<SheetCells, XlsxError>
@@ -166,15 +161,15 @@ pub fn read_range<P: Package>(
         LieInSheet (cells_gathered cells.values) (cells_gathered cells.formulas)
         cells.style_ids.items) }
     ensures reads { let wants = asked.entry.wants in
-        let grounds = grounds_of asked.entry.book in
+        let context = context_of asked.entry.book in
         let path = path_lent path.entry in
         let count = asked.entry.style_count in
-        xml.old.source.is_told ≡ true →
+        xml.old.source.is_visible ≡ true →
         IfOk result (λ cells. IsSomeAnd (events_at path xml.old.source.parts)
-        (AnswersCells wants grounds count (value_entries (cells_gathered cells.values))
+        (AnswersCells wants context count (value_entries (cells_gathered cells.values))
         (formula_entries (cells_gathered cells.formulas)) cells.style_ids.items)) }
     ensures err { IfErr result (RangeFails name.now asked.entry.wants
-        (grounds_of asked.entry.book) (path_lent path.entry) xml.old.source xml.new.source) }
+        (context_of asked.entry.book) (path_lent path.entry) xml.old.source xml.new.source) }
     ensures kind { IfErr result (IsRangeError name.now) }
 {
     let alloc = xml.alloc();
@@ -188,7 +183,7 @@ pub fn read_range<P: Package>(
 /// The range of values of the sheet of this name, whose part is at this path.
 pub fn read_values<P: Package>(
     xml: &mut XlReader<P>,
-    path: Option<&KeptPath>,
+    path: Option<&PartPath>,
     name: &str,
     asked: Asked<'_>,
     header_row: HeaderRow,
@@ -199,9 +194,9 @@ pub fn read_values<P: Package>(
     ensures to_end { let count = data_events (path_lent path.entry) xml.old.source.parts in
         TakesExactly count result xml.old.source xml.new.source }
     ensures reads { let path = path_lent path.entry in
-        xml.old.source.is_told ≡ true → IfOk result
-        (ReadsValues (grounds_of asked.entry.book) header_row path xml.old.source.parts) }
-    ensures err { IfErr result (RangeFails name.now values_alone (grounds_of asked.entry.book)
+        xml.old.source.is_visible ≡ true → IfOk result
+        (ReadsValues (context_of asked.entry.book) header_row path xml.old.source.parts) }
+    ensures err { IfErr result (RangeFails name.now values_alone (context_of asked.entry.book)
         (path_lent path.entry) xml.old.source xml.new.source) }
     ensures kind { IfErr result (IsRangeError name.now) }
 {

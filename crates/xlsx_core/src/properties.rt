@@ -1,13 +1,13 @@
 ghost use Rattle.std.specs.Prelude.{◌≡◌, ℕ, List, true, None, Ok, OnErr, IfOk, IfErr, IfSome};
 ghost use Rattle.std.specs.Prelude.{IsSomeAnd, OnOk};
-ghost use Rattle.part_events.specs.Package.{SameParts, Uses, CountsUp};
+ghost use Rattle.part_events.specs.Words.{SameParts, Uses, CountsUp};
 ghost use Rattle.xlsx_error.specs.declared.error.XlsxError.TheVariants.{OutOfMemory, Io};
 ghost use Rattle.xlsx_properties.specs.Errors.{IsPropertyError};
 ghost use Rattle.xlsx_properties.specs.Kept.{AreSame, held, custom_held};
 ghost use Rattle.xlsx_properties.specs.Parts.{AreWhole, PropertiesCause, property_events};
 ghost use Rattle.xlsx_properties.specs.Parts.{property_said, custom_said};
 ghost use Rattle.xlsx_properties.specs.declared.property.Property.{Property};
-ghost use Rattle.xlsx_sections.specs.Failing.{FailsBy};
+ghost use Rattle.xlsx_sections.specs.Words.{FailsBy};
 ghost use Rattle.xlsx_core.specs.Worksheets.{KeepsBook, KeepsWorkbook};
 
 use crate::xlsx::Xlsx;
@@ -34,26 +34,30 @@ impl<P: Package> Xlsx<P> {
     pub fn workbook_properties(&mut self) -> Result<WorkbookProperties, XlsxError>
         ensures keeps { SameParts self.old.xml.source self.new.xml.source }
         ensures book { KeepsBook self.old self.new }
-        ensures regions { self.new.lists.regions ≡ self.old.lists.regions }
-        ensures tables { self.new.lists.tables ≡ self.old.lists.tables }
+        ensures regions { self.new.workbook.lists.regions ≡ self.old.workbook.lists.regions }
+        ensures tables { self.new.workbook.lists.tables ≡ self.old.workbook.lists.tables }
         ensures unchanged { OnErr result (KeepsWorkbook self.old self.new) }
         ensures kept { IfOk result (λ properties.
-            IsSomeAnd self.new.lists.properties (AreSame properties)) }
-        ensures again { IfSome self.old.lists.properties (λ kept. KeepsWorkbook self.old self.new
+            IsSomeAnd self.new.workbook.lists.properties (AreSame properties)) }
+        ensures again { IfSome self.old.workbook.lists.properties
+            (λ kept. KeepsWorkbook self.old self.new
             × (self.new.xml.source ≡ self.old.xml.source)
             × IfOk result (AreSame kept) × IfErr result (λ error. error ≡ OutOfMemory)) }
-        ensures uses { self.old.lists.properties ≡ None →
+        ensures uses { self.old.workbook.lists.properties ≡ None →
             Uses (property_events self.old.xml.source.parts) Io result self.old.xml.source
             self.new.xml.source }
         ensures to_end { let old = self.old.xml.source in
-            self.old.lists.properties ≡ None → old.is_told ≡ true →
+            self.old.workbook.lists.properties ≡ None → old.is_visible ≡ true →
             OnOk result (CountsUp (property_events old.parts) old.taken self.new.xml.source.taken) }
-        ensures whole { self.old.lists.properties ≡ None → self.old.xml.source.is_told ≡ true →
+        ensures whole { self.old.workbook.lists.properties ≡ None →
+            self.old.xml.source.is_visible ≡ true →
             IfOk result (λ properties. AreWhole self.old.xml.source.parts) }
-        ensures properties { self.old.lists.properties ≡ None → self.old.xml.source.is_told ≡ true →
+        ensures properties { self.old.workbook.lists.properties ≡ None →
+            self.old.xml.source.is_visible ≡ true →
             IfOk result (λ properties. (wanted : Property) →
             property_said self.old.xml.source.parts wanted ≡ Ok (held wanted properties)) }
-        ensures custom { self.old.lists.properties ≡ None → self.old.xml.source.is_told ≡ true →
+        ensures custom { self.old.workbook.lists.properties ≡ None →
+            self.old.xml.source.is_visible ≡ true →
             IfOk result (λ properties. (name : List ℕ) →
             custom_said self.old.xml.source.parts name ≡ Ok (custom_held name properties)) }
         ensures err { IfErr result
@@ -61,12 +65,12 @@ impl<P: Package> Xlsx<P> {
             self.new.xml.source) }
         ensures kind { IfErr result IsPropertyError }
     {
-        if let Some(kept) = &self.lists.properties {
+        if let Some(kept) = &self.workbook.lists.properties {
             return Ok(kept.clone_in(self.xml.alloc())?);
         }
         let properties = read_properties(&mut self.xml)?;
         let copy = properties.clone_in(self.xml.alloc())?;
-        self.lists.properties = Some(properties);
+        self.workbook.lists.properties = Some(properties);
         Ok(copy)
     }
 }

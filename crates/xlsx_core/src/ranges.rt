@@ -1,18 +1,15 @@
-ghost use Rattle.std.specs.Prelude.{◌≡◌, List, length, filter, map, string_bytes, IfOk, All};
-ghost use Rattle.std.specs.Prelude.{true, Some};
-ghost use Rattle.cell_refs.specs.Positions.{lie_inside, is_sheet_area};
-ghost use Rattle.cell_data.specs.CellValue.{nothing, value_of_data, value_of_data_ref};
-ghost use Rattle.cell_data.specs.Cells.{AreInSheet};
-ghost use Rattle.cell_data.specs.Gathered.{cells_gathered};
-ghost use Rattle.sorted_cells.specs.Kept.{kept_cells};
-ghost use Rattle.cell_styles.specs.StyleMap.{StyledCell, IsOnSheet, is_explicit, styles_of};
-ghost use Rattle.xlsx_cells.specs.Sheet.{with_texts};
-ghost use Rattle.xlsx_cells.specs.SheetPart.{value_entries, formula_entries};
+ghost use Rattle.std.specs.Prelude.{◌≡◌, List, length, filter, map, string_bytes, IfOk, All, true};
+ghost use Rattle.std.specs.Prelude.{Some};
+ghost use Rattle.cell_refs.specs.Words.{lie_inside, is_sheet_area};
+ghost use Rattle.cell_data.specs.Words.{nothing, value_of_data, value_of_data_ref, AreInSheet};
+ghost use Rattle.cell_data.specs.Words.{cells_gathered, with_meaning};
+ghost use Rattle.sorted_cells.specs.Words.{kept_cells};
+ghost use Rattle.cell_styles.specs.Words.{StyledCell, IsOnSheet, is_explicit, styles_of};
+ghost use Rattle.xlsx_cells.specs.Words.{with_texts, value_entries, formula_entries};
 ghost use Rattle.xlsx_core.specs.TableData.{IsRangeIn};
 ghost use Rattle.xlsx_core.specs.Worksheets.{IsRangeFrom, IsValueRange, IsPlaceRange};
 ghost use Rattle.xlsx_core.specs.Worksheets.{IsFormulaRange, header_area, area_below};
 ghost use Rattle.xlsx_core.specs.Worksheets.{HaveSamePlaces};
-ghost use Rattle.cell_data.specs.Pairs.{with_meaning};
 
 use crate::standing::{last_below, last_in_area};
 use cell_data::{Data, DataRef, GatheredCells, HeaderRow, Range, least_area};

@@ -1,16 +1,15 @@
 ghost use Rattle.std.specs.Prelude.{◌≡◌, List, []};
 ghost use Rattle.xlsx_error.specs.declared.error.XlsxError.{XlsxError};
 ghost use Rattle.xlsx_error.specs.declared.error.XlsxError.TheVariants.{OutOfMemory};
-ghost use Rattle.xlsx_parts.specs.ManyAsked.{Appends, each};
-ghost use Rattle.xlsx_parts.specs.SheetPaths.{SheetPath, sheet_at};
-ghost use Rattle.xlsx_sections.specs.Asking.{Ask, Answers};
+ghost use Rattle.xlsx_parts.specs.Words.{Appends, each, SheetPath, sheet_at};
+ghost use Rattle.xlsx_sections.specs.Words.{Ask, Answers};
 ghost use Rattle.xlsx_workbook.specs.declared.sheet.Sheet.{Sheet};
 ghost use Rattle.xlsx_core.specs.Merges.{sheet_paths};
 ghost use Rattle.xlsx_core.specs.TableList.{sheet_name};
 
 use part_events::{Package, XlReader};
 use xlsx_error::XlsxError;
-use xlsx_open::{KeptPath, Sheet};
+use xlsx_open::{PartPath, Sheet};
 
 /// Reads what one of the sheets of a workbook says, and keeps it.
 pub(crate) trait ReadsSheets {
@@ -49,7 +48,7 @@ pub(crate) fn read_sheets<P: Package, R: ReadsSheets>(
     xml: &mut XlReader<P>,
     items: R::Items,
     sheets: &[Sheet],
-    paths: &[KeptPath],
+    paths: &[PartPath],
     by: &R,
 ) -> Result<R::Items, XlsxError>
     requires { R.held sheets.now items ≡ [] }

@@ -1,9 +1,6 @@
-ghost use Rattle.std.specs.Prelude.{◌≡◌, true, IfOk, OnOk, IfErr};
-ghost use Rattle.cell_data.specs.Pairs.{value_pairs, formula_pairs};
-ghost use Rattle.part_events.specs.Package.{SameParts, KeepsFaults};
-ghost use Rattle.xlsx_error.specs.declared.error.XlsxError.TheVariants.{Io};
-ghost use Rattle.xlsx_core.specs.SheetReading.{ReadsAs, ReadsValuesAs, SheetFails, IsSheetError};
-ghost use Rattle.xlsx_core.specs.SheetReading.{TakesSheet, ReadsToData};
+ghost use Rattle.std.specs.Prelude.{IfOk};
+ghost use Rattle.cell_data.specs.Words.{value_pairs, formula_pairs};
+ghost use Rattle.xlsx_core.specs.SheetReading.{AnswersSheet, ReadsAs, ReadsValuesAs};
 ghost use Rattle.xlsx_core.specs.Worksheets.{HasLeastRange, HasLeastRanges};
 
 use crate::as_read::read_cells;
@@ -56,25 +53,10 @@ pub type ValuesAnswer<P> = SheetAnswer<P, Range<Data>>;
 /// }
 /// ```
 pub fn read_sheet<P: Package>(alloc: Global, package: P, name: &str) -> SheetAnswer<P>
-    ensures keeps { SameParts (P.state «package») (P.state result.package) }
-    ensures faults { OnOk result.result
-        ((P.state result.package).faults ≡ (P.state «package»).faults) }
+    ensures answers { AnswersSheet (λ parts found. ReadsAs parts name.now
+        (value_pairs found.values) (formula_pairs found.formulas) found.styles)
+        name.now result.result (P.state «package») (P.state result.package) }
     ensures ranges { IfOk result.result HasLeastRanges }
-    ensures reading { (P.state «package»).is_told ≡ true → IfOk result.result (λ found.
-        ReadsAs (P.state «package»).parts name.now (value_pairs found.values)
-        (formula_pairs found.formulas) found.styles) }
-    ensures err { IfErr result.result
-        (SheetFails name.now (P.state «package») (P.state result.package)) }
-    ensures counts { IfErr result.result
-        (KeepsFaults Io (P.state «package») (P.state result.package)) }
-    ensures taken { let old = P.state «package» in
-        let new = P.state result.package in
-        old.is_told ≡ true → TakesSheet old.parts name.now old.taken new.taken }
-    ensures to_end { let old = P.state «package» in
-        let new = P.state result.package in
-        old.is_told ≡ true →
-        OnOk result.result (ReadsToData old.parts name.now old.taken new.taken) }
-    ensures kind { IfErr result.result (IsSheetError name.now) }
 {
     let SheetAnswer { result, package } = read_cells(alloc, package, name);
     let read = match result {
@@ -99,24 +81,10 @@ pub fn read_sheet<P: Package>(alloc: Global, package: P, name: &str) -> SheetAns
 /// The values that `read_sheet` reads, which is refused where it is: formulas and styles are read
 /// with them in the same pass, and nothing is made of these.
 pub fn read_sheet_values<P: Package>(alloc: Global, package: P, name: &str) -> ValuesAnswer<P>
-    ensures keeps { SameParts (P.state «package») (P.state result.package) }
-    ensures faults { OnOk result.result
-        ((P.state result.package).faults ≡ (P.state «package»).faults) }
+    ensures answers { AnswersSheet
+        (λ parts values. ReadsValuesAs parts name.now (value_pairs values))
+        name.now result.result (P.state «package») (P.state result.package) }
     ensures range { IfOk result.result HasLeastRange }
-    ensures reading { (P.state «package»).is_told ≡ true → IfOk result.result (λ values.
-        ReadsValuesAs (P.state «package»).parts name.now (value_pairs values)) }
-    ensures err { IfErr result.result
-        (SheetFails name.now (P.state «package») (P.state result.package)) }
-    ensures counts { IfErr result.result
-        (KeepsFaults Io (P.state «package») (P.state result.package)) }
-    ensures taken { let old = P.state «package» in
-        let new = P.state result.package in
-        old.is_told ≡ true → TakesSheet old.parts name.now old.taken new.taken }
-    ensures to_end { let old = P.state «package» in
-        let new = P.state result.package in
-        old.is_told ≡ true →
-        OnOk result.result (ReadsToData old.parts name.now old.taken new.taken) }
-    ensures kind { IfErr result.result (IsSheetError name.now) }
 {
     let SheetAnswer { result, package } = read_cells(alloc, package, name);
     let read = match result {

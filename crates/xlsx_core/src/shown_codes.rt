@@ -2,14 +2,14 @@
 ghost use Rattle.std.specs.Prelude.{◌≡◌, ◌<◌, ◌≤◌, ℕ, List, length, option_map, slice_get, Some};
 ghost use Rattle.std.specs.Prelude.{string_bytes, IfOk, OnOk, map};
 ghost use Rattle.std.specs.Option.{option_copied};
-ghost use Rattle.cell_data.specs.CellValue.{text, value_of_data};
+ghost use Rattle.cell_data.specs.Words.{text, value_of_data};
 ghost use Rattle.format_codes.specs.declared.shown_format.ShownFormat.{ShownFormat};
-ghost use Rattle.shown_text.specs.ShownText.{shown_text};
+ghost use Rattle.shown_text.specs.Words.{shown_text};
 ghost use Rattle.xlsx_formats.specs.Formattings.{style_said};
-ghost use Rattle.xlsx_cells.specs.StyledValues.{styled_meaning};
-ghost use Rattle.xlsx_open.specs.SharedParts.{shared_said};
-ghost use Rattle.xlsx_core.specs.ShownSheet.{code_of, code_at, shown_value};
-ghost use Rattle.xlsx_core.specs.ShownCodes.{AreCutFrom, IsCutAt};
+ghost use Rattle.xlsx_cells.specs.Words.{styled_meaning};
+ghost use Rattle.xlsx_open.specs.Words.{shared_said};
+ghost use Rattle.xlsx_core.specs.ShownSheet.{style_code, code_at, shown_value};
+ghost use Rattle.xlsx_core.specs.ShownCodes.{AreCutFrom, HasCutCode};
 
 use cell_data::Data;
 use cell_styles::Style;
@@ -36,7 +36,7 @@ pub fn uncut(alloc: Global, shared: &SharedParts) -> Result<Vec<Option<ShownForm
 
 /// The code of the number format of a style, and `General` without one.
 fn code_of(style: Option<&Style>) -> &str
-    ensures { result.now ≡ code_of (option_map style_said (option_copied style.entry)) }
+    ensures { result.now ≡ style_code (option_map style_said (option_copied style.entry)) }
 {
     match style {
         Some(
@@ -60,7 +60,7 @@ fn cut_at(
     ensures count { length cut.new.items ≡ length cut.old.items }
     ensures codes { (codes : ℕ → List ℕ) → codes place ≡ code.now →
         AreCutFrom codes cut.old.items → AreCutFrom codes cut.new.items }
-    ensures here { OnOk result (IsCutAt place cut.new.items) }
+    ensures here { OnOk result (HasCutCode place cut.new.items) }
 {
     if cut[place].is_none() {
         cut[place] = Some(ShownFormat::parse(alloc, code)?);
@@ -76,7 +76,7 @@ fn shown_at(
     value: &Data,
     is_1904: bool,
 ) -> Result<String, AllocError>
-    requires { IsCutAt place cut.now }
+    requires { HasCutCode place cut.now }
     ensures { (codes : ℕ → List ℕ) → AreCutFrom codes cut.now → IfOk result (λ text.
         string_bytes text ≡ shown_text is_1904 (codes place) (value_of_data value.now)) }
 {

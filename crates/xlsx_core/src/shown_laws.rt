@@ -1,16 +1,15 @@
 ghost use Rattle.std.specs.Prelude.{◌≡◌, ℕ, List, Some};
 ghost use Rattle.std.specs.List.{filter};
-ghost use Rattle.cell_data.specs.CellValue.{CellValue};
-ghost use Rattle.cell_data.specs.Pairs.{value_pairs};
+ghost use Rattle.cell_data.specs.Words.{CellValue, value_pairs};
 ghost use Rattle.cell_data.specs.declared.range.Range.{Range};
 ghost use Rattle.cell_data.specs.declared.value.Data.{Data};
 ghost use Rattle.cell_data.specs.declared.value.HeaderRow.TheVariants.{FirstNonEmptyRow};
-ghost use Rattle.cell_refs.specs.Positions.{is_in_area};
+ghost use Rattle.cell_refs.specs.Words.{is_in_area};
 ghost use Rattle.cell_refs.specs.declared.dimensions.Dimensions.{Dimensions};
-ghost use Rattle.part_events.specs.Package.{Part};
-ghost use Rattle.xlsx_open.specs.Opening.{Opening, OpensAs};
+ghost use Rattle.part_events.specs.Words.{Part};
+ghost use Rattle.xlsx_open.specs.Words.{Opening, OpensAs};
 ghost use Rattle.xlsx_core.specs.Agreement.{HaveSameSheet};
-ghost use Rattle.xlsx_core.specs.SheetReading.{IsReadable, opened_grounds, path_named};
+ghost use Rattle.xlsx_core.specs.SheetReading.{IsReadable, opened_context, path_named};
 ghost use Rattle.xlsx_core.specs.ShownSheet.{ShownAs};
 ghost use Rattle.xlsx_core.specs.ShownTable.{ShowsValuesIn};
 
@@ -33,7 +32,7 @@ pub fn sheets_are_shown_alike()
 pub fn areas_are_shown_as_their_sheets()
     ensures { (parts : List Part) (name : List ℕ) (opening : Opening) (area : Dimensions)
         (shown : List ((ℕ × ℕ) × CellValue)) (range : Range Data) → OpensAs parts opening →
-        ShownAs parts name shown → ShowsValuesIn (opened_grounds opening) opening.shared
+        ShownAs parts name shown → ShowsValuesIn (opened_context opening) opening.shared
         opening.is_1904 FirstNonEmptyRow (Some area) (path_named name opening.sheets) parts range →
         value_pairs range ≡ filter (λ cell. is_in_area area cell.0) shown }
 {}

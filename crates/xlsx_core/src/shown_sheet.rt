@@ -1,23 +1,20 @@
 //! A sheet as a spreadsheet program shows its cells.
-ghost use Rattle.std.specs.Prelude.{◌≡◌, true, map, IfOk, OnOk, IfErr, IsSomeAnd};
-ghost use Rattle.cell_data.specs.CellValue.{value_of_data};
-ghost use Rattle.cell_data.specs.Cells.{AreInSheet};
-ghost use Rattle.cell_data.specs.Gathered.{cells_gathered};
-ghost use Rattle.cell_data.specs.Pairs.{with_meaning, value_pairs};
+ghost use Rattle.std.specs.Prelude.{◌≡◌, true, map, IfOk, IfErr, IsSomeAnd};
+ghost use Rattle.cell_data.specs.Words.{value_of_data, AreInSheet, cells_gathered, with_meaning};
+ghost use Rattle.cell_data.specs.Words.{value_pairs};
 ghost use Rattle.cell_data.specs.declared.value.HeaderRow.TheVariants.{FirstNonEmptyRow};
-ghost use Rattle.part_events.specs.Package.{SameParts, KeepsFaults, Uses, CountsUp};
-ghost use Rattle.sorted_cells.specs.Kept.{kept_cells};
+ghost use Rattle.part_events.specs.Words.{Uses, CountsUp};
+ghost use Rattle.sorted_cells.specs.Words.{kept_cells};
 ghost use Rattle.xlsx_error.specs.declared.error.XlsxError.TheVariants.{Io};
-ghost use Rattle.xlsx_values.specs.Book.{grounds_of};
-ghost use Rattle.xlsx_cells.specs.Head.{IfNoWorksheet};
-ghost use Rattle.xlsx_cells.specs.StyledValues.{styled_entries};
-ghost use Rattle.xlsx_open.specs.SharedParts.{shared_said};
+ghost use Rattle.xlsx_values.specs.Words.{context_of};
+ghost use Rattle.xlsx_cells.specs.Words.{IfNoWorksheet, styled_entries};
+ghost use Rattle.xlsx_open.specs.Words.{shared_said};
 ghost use Rattle.xlsx_core.specs.Opened.{path_lent};
-ghost use Rattle.xlsx_core.specs.SheetReading.{all_wanted, events_at, placed_events, data_events};
-ghost use Rattle.xlsx_core.specs.SheetReading.{TakesExactly, PlacedSheetFails, IsPlacedError};
-ghost use Rattle.xlsx_core.specs.SheetReading.{SheetFails, IsSheetError, TakesSheet, ReadsToData};
+ghost use Rattle.xlsx_core.specs.SheetReading.{AnswersSheet, all_wanted, events_at, placed_events};
+ghost use Rattle.xlsx_core.specs.SheetReading.{data_events, TakesExactly, PlacedSheetFails};
+ghost use Rattle.xlsx_core.specs.SheetReading.{IsPlacedError};
 ghost use Rattle.xlsx_core.specs.ShownSheet.{shown_cells, HasStyledValues, ShowsPlaced, ShownAs};
-ghost use Rattle.xlsx_core.specs.Worksheets.{path_of, grounds_of_book, KeepsWorkbook};
+ghost use Rattle.xlsx_core.specs.Worksheets.{path_of, context_of_book, KeepsWorkbook};
 ghost use Rattle.xlsx_core.specs.Worksheets.{HaveSamePlaces, IsValueRange, HasLeastRange};
 
 use crate::placed_sheet::{asked_of, open_placed, path_named};
@@ -32,7 +29,7 @@ use sorted_cells::SortedCells;
 use std::alloc::{AllocError, Global};
 use xlsx_cells::{Asked, StyledValue, Wants, collect_styled};
 use xlsx_error::XlsxError;
-use xlsx_open::{KeptPath, SharedParts};
+use xlsx_open::{PartPath, SharedParts};
 
 /// The cells with the texts that are shown of them, under the codes of their styles.
 pub fn shown_texts(
@@ -74,7 +71,7 @@ fn shown_range(
 /// cell. It is refused as `read_placed` is.
 pub fn read_styled<P: Package>(
     xml: &mut XlReader<P>,
-    path: Option<&KeptPath>,
+    path: Option<&PartPath>,
     name: &str,
     asked: Asked<'_>,
 ) -> Result<GatheredCells<StyledValue>, XlsxError>
@@ -85,16 +82,16 @@ pub fn read_styled<P: Package>(
     ensures to_end { let count = data_events (path_lent path.entry) xml.old.source.parts in
         TakesExactly count result xml.old.source xml.new.source }
     ensures inside { IfOk result (λ cells. AreInSheet (cells_gathered cells)) }
-    ensures reads { let grounds = grounds_of asked.entry.book in
-        xml.old.source.is_told ≡ true → IfOk result (λ cells.
+    ensures reads { let context = context_of asked.entry.book in
+        xml.old.source.is_visible ≡ true → IfOk result (λ cells.
         IsSomeAnd (events_at (path_lent path.entry) xml.old.source.parts) (λ events.
-        HasStyledValues asked.entry.wants grounds events
+        HasStyledValues asked.entry.wants context events
         (styled_entries (cells_gathered cells)))) }
     ensures err { IfErr result (PlacedSheetFails name.now asked.entry.wants
-        (grounds_of asked.entry.book) (path_lent path.entry) xml.old.source xml.new.source) }
+        (context_of asked.entry.book) (path_lent path.entry) xml.old.source xml.new.source) }
     ensures lacks { let old = xml.old.source in
         let all = placed_events (path_lent path.entry) old.parts in
-        old.is_told ≡ true →
+        old.is_visible ≡ true →
         IfErr result (IfNoWorksheet (CountsUp all old.taken xml.new.source.taken)) }
     ensures kind { IfErr result (IsPlacedError name.now) }
 {
@@ -115,18 +112,23 @@ impl<P: Package> Xlsx<P> {
         ensures rest { KeepsWorkbook self.old self.new }
         ensures range { IfOk result HasLeastRange }
         ensures shows { let path = path_of self.old name.now in
-            self.old.xml.source.is_told ≡ true → IfOk result (λ range.
-            ShowsPlaced all_wanted (grounds_of_book self.old) (shared_said self.old.shared)
-            self.old.is_1904 path self.old.xml.source.parts (value_pairs range)) }
+            self.old.xml.source.is_visible ≡ true → IfOk result (λ range.
+            ShowsPlaced all_wanted (context_of_book self.old) (shared_said self.old.workbook.shared)
+            self.old.workbook.is_1904 path self.old.xml.source.parts (value_pairs range)) }
         ensures err { IfErr result (PlacedSheetFails name.now all_wanted
-            (grounds_of_book self.old) (path_of self.old name.now) self.old.xml.source
+            (context_of_book self.old) (path_of self.old name.now) self.old.xml.source
             self.new.xml.source) }
         ensures kind { IfErr result (IsPlacedError name.now) }
     {
-        let path = path_named(&self.metadata.sheets, &self.paths, name);
-        let asked = asked_of(&self.shared, self.is_1904, Wants::ALL);
+        let path = path_named(&self.workbook.metadata.sheets, &self.workbook.paths, name);
+        let asked = asked_of(&self.workbook.shared, self.workbook.is_1904, Wants::ALL);
         let cells = read_styled(&mut self.xml, path, name, asked)?;
-        Ok(shown_range(self.xml.alloc(), cells, &self.shared, self.is_1904)?)
+        Ok(shown_range(
+            self.xml.alloc(),
+            cells,
+            &self.workbook.shared,
+            self.workbook.is_1904,
+        )?)
     }
 }
 
@@ -138,24 +140,9 @@ impl<P: Package> Xlsx<P> {
 ///
 /// It is refused where `read_sheet_values` is.
 pub fn read_sheet_shown<P: Package>(alloc: Global, package: P, name: &str) -> ValuesAnswer<P>
-    ensures keeps { SameParts (P.state «package») (P.state result.package) }
-    ensures faults { OnOk result.result
-        ((P.state result.package).faults ≡ (P.state «package»).faults) }
+    ensures answers { AnswersSheet (λ parts values. ShownAs parts name.now (value_pairs values))
+        name.now result.result (P.state «package») (P.state result.package) }
     ensures range { IfOk result.result HasLeastRange }
-    ensures shows { (P.state «package»).is_told ≡ true → IfOk result.result (λ values.
-        ShownAs (P.state «package»).parts name.now (value_pairs values)) }
-    ensures err { IfErr result.result
-        (SheetFails name.now (P.state «package») (P.state result.package)) }
-    ensures counts { IfErr result.result
-        (KeepsFaults Io (P.state «package») (P.state result.package)) }
-    ensures taken { let old = P.state «package» in
-        let new = P.state result.package in
-        old.is_told ≡ true → TakesSheet old.parts name.now old.taken new.taken }
-    ensures to_end { let old = P.state «package» in
-        let new = P.state result.package in
-        old.is_told ≡ true →
-        OnOk result.result (ReadsToData old.parts name.now old.taken new.taken) }
-    ensures kind { IfErr result.result (IsSheetError name.now) }
 {
     match Xlsx::new(alloc, package) {
         Ok(xlsx) => {

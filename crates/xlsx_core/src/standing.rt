@@ -1,10 +1,9 @@
 //! Which cells of those that were gathered stand in a range: of each position the last one.
 ghost use Rattle.std.specs.Prelude.{◌≡◌, IfOk, Some, true};
 ghost use Rattle.std.specs.List.{filter};
-ghost use Rattle.cell_data.specs.Cells.{AreInSheet};
-ghost use Rattle.cell_data.specs.Gathered.{cells_gathered};
-ghost use Rattle.cell_refs.specs.Positions.{last_of_each, lie_inside, is_in_area};
-ghost use Rattle.sorted_cells.specs.Kept.{kept_cells};
+ghost use Rattle.cell_data.specs.Words.{AreInSheet, cells_gathered};
+ghost use Rattle.cell_refs.specs.Words.{last_of_each, lie_inside, is_in_area};
+ghost use Rattle.sorted_cells.specs.Words.{kept_cells};
 ghost use Rattle.xlsx_core.specs.Worksheets.{below_header, area_below};
 
 use cell_data::{GatheredCells, HeaderRow};

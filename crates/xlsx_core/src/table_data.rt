@@ -1,20 +1,19 @@
 ghost use Rattle.std.specs.Prelude.{◌≡◌, List, true, None, Some, map, string_bytes, option_map};
 ghost use Rattle.std.specs.Prelude.{IfOk, IfErr, IsSome, IsSomeAnd};
 ghost use Rattle.std.specs.Option.{option_copied};
-ghost use Rattle.cell_data.specs.Range.{bounds_of};
-ghost use Rattle.cell_data.specs.Table.{table_data};
-ghost use Rattle.cell_refs.specs.Positions.{are_sheet_bounds};
-ghost use Rattle.part_events.specs.Package.{Uses};
+ghost use Rattle.cell_data.specs.Words.{bounds_of, table_data};
+ghost use Rattle.cell_refs.specs.Words.{are_sheet_bounds};
+ghost use Rattle.part_events.specs.Words.{Uses};
 ghost use Rattle.xlsx_error.specs.declared.error.XlsxError.TheVariants.{Io};
-ghost use Rattle.xlsx_cells.specs.CellsReader.{values_alone};
-ghost use Rattle.xlsx_core.specs.TableData.{first_named, table_of_book, area_of_book, head_said};
-ghost use Rattle.xlsx_core.specs.TableData.{IsOfTable, ReadsValuesIn, ReadsPlacesIn};
-ghost use Rattle.xlsx_core.specs.TableData.{AreaFails, TableDataFails, IsTableDataError};
-ghost use Rattle.xlsx_core.specs.TableData.{LacksTable, area_events, table_data_events};
-ghost use Rattle.xlsx_core.specs.TableData.{area_data_events, table_ends};
+ghost use Rattle.xlsx_cells.specs.Words.{values_alone};
+ghost use Rattle.xlsx_core.specs.TableData.{first_table, table_of_book, area_of_book, head_said};
+ghost use Rattle.xlsx_core.specs.TableData.{IsOfTable, ReadsValuesIn, ReadsPlacesIn, AreaFails};
+ghost use Rattle.xlsx_core.specs.TableData.{TableDataFails, IsTableDataError, LacksTable};
+ghost use Rattle.xlsx_core.specs.TableData.{area_events, table_data_events, area_data_events};
+ghost use Rattle.xlsx_core.specs.TableData.{table_ends};
 ghost use Rattle.xlsx_core.specs.SheetReading.{TakesExactly};
 ghost use Rattle.xlsx_core.specs.TableList.{table_held, tables_held, loaded_tables};
-ghost use Rattle.xlsx_core.specs.Worksheets.{path_of, grounds_of_book, KeepsWorkbook, IsRangeError};
+ghost use Rattle.xlsx_core.specs.Worksheets.{path_of, context_of_book, KeepsWorkbook, IsRangeError};
 ghost use Rattle.xlsx_workbook.specs.declared.sheet.Sheet.{Sheet};
 
 use crate::ranges::{places_in_area, values_in_area};
@@ -43,7 +42,7 @@ pub(crate) struct TableHead {
 
 /// The first of these tables that has this name.
 fn first_named<'a>(tables: &'a [LoadedTable], name: &str) -> Option<&'a LoadedTable>
-    ensures { (sheets : List Sheet) → first_named name.now (tables_held sheets tables.now)
+    ensures { (sheets : List Sheet) → first_table name.now (tables_held sheets tables.now)
         ≡ option_map (table_held sheets) (option_copied result) }
 {
     'tables: for table in tables {
@@ -71,7 +70,7 @@ impl<P: Package> Xlsx<P> {
     ///
     /// Fails with `TableNotFound` where none has the name.
     pub(crate) fn table_head(&self, name: &str) -> Result<TableHead, XlsxError>
-        requires { IsSome self.now.lists.tables }
+        requires { IsSome self.now.workbook.lists.tables }
         ensures found { IfOk result (λ head.
             table_of_book self.now name.now ≡ Some (head_said head)) }
         ensures inside { IfOk result (λ head. are_sheet_bounds head.area ≡ true) }
@@ -81,7 +80,7 @@ impl<P: Package> Xlsx<P> {
             let name = String::from_str(self.xml.alloc(), name)?;
             return Err(XlsxError::TableNotFound(name));
         };
-        let sheet = sheet_name(&self.metadata.sheets, table.sheet());
+        let sheet = sheet_name(&self.workbook.metadata.sheets, table.sheet());
         Ok(TableHead {
             name: String::from_str(self.xml.alloc(), table.name())?,
             sheet: String::from_str(self.xml.alloc(), sheet)?,
@@ -106,10 +105,12 @@ impl<P: Package> Xlsx<P> {
         ensures rest { KeepsWorkbook self.old self.new }
         ensures unread { area ≡ None → self.new.xml.source ≡ self.old.xml.source }
         ensures bounds { IfOk result (λ range. bounds_of range ≡ area) }
-        ensures reads { self.old.xml.source.is_told ≡ true →
-            IfOk result (ReadsValuesIn (grounds_of_book self.old)
-            self.old.header_row area (path_of self.old sheet.now) self.old.xml.source.parts) }
-        ensures err { IfErr result (AreaFails values_alone self.old sheet.now area self.old.xml.source
+        ensures reads { self.old.xml.source.is_visible ≡ true →
+            IfOk result (ReadsValuesIn (context_of_book self.old)
+            self.old.workbook.header_row area (path_of self.old sheet.now)
+            self.old.xml.source.parts) }
+        ensures err { IfErr result (AreaFails values_alone self.old sheet.now area
+            self.old.xml.source
             self.new.xml.source) }
         ensures kind { IfErr result (IsRangeError sheet.now) }
     {
@@ -121,8 +122,8 @@ impl<P: Package> Xlsx<P> {
             )?);
         };
         let cells = self.worksheet_cells(sheet, Wants::VALUES)?;
-        let strings = &self.shared.strings;
-        let header_row = self.header_row;
+        let strings = &self.workbook.shared.strings;
+        let header_row = self.workbook.header_row;
         Ok(values_in_area(self.xml.alloc(), cells.values, strings, header_row, area)?)
     }
 
@@ -142,10 +143,12 @@ impl<P: Package> Xlsx<P> {
         ensures rest { KeepsWorkbook self.old self.new }
         ensures unread { area ≡ None → self.new.xml.source ≡ self.old.xml.source }
         ensures bounds { IfOk result (λ range. bounds_of range ≡ area) }
-        ensures reads { self.old.xml.source.is_told ≡ true →
-            IfOk result (ReadsPlacesIn (grounds_of_book self.old)
-            self.old.header_row area (path_of self.old sheet.now) self.old.xml.source.parts) }
-        ensures err { IfErr result (AreaFails values_alone self.old sheet.now area self.old.xml.source
+        ensures reads { self.old.xml.source.is_visible ≡ true →
+            IfOk result (ReadsPlacesIn (context_of_book self.old)
+            self.old.workbook.header_row area (path_of self.old sheet.now)
+            self.old.xml.source.parts) }
+        ensures err { IfErr result (AreaFails values_alone self.old sheet.now area
+            self.old.xml.source
             self.new.xml.source) }
         ensures kind { IfErr result (IsRangeError sheet.now) }
     {
@@ -157,7 +160,12 @@ impl<P: Package> Xlsx<P> {
             )?);
         };
         let cells = self.worksheet_cells(sheet, Wants::VALUES)?;
-        Ok(places_in_area(self.xml.alloc(), cells.values, self.header_row, area)?)
+        Ok(places_in_area(
+            self.xml.alloc(),
+            cells.values,
+            self.workbook.header_row,
+            area,
+        )?)
     }
 
     /// The first loaded table of this name, with its data (ECMA-376 part 1, section 18.5.1.2):
@@ -181,7 +189,7 @@ impl<P: Package> Xlsx<P> {
     /// Ok(table?)
     /// ```
     pub fn table_by_name(&mut self, table_name: &str) -> Result<Table<Data>, XlsxError>
-        requires { IsSome self.old.lists.tables }
+        requires { IsSome self.old.workbook.lists.tables }
         ensures uses { let most = table_data_events self.old table_name.now
             self.old.xml.source.parts in
             Uses most Io result self.old.xml.source self.new.xml.source }
@@ -192,9 +200,9 @@ impl<P: Package> Xlsx<P> {
             self.new.xml.source ≡ self.old.xml.source }
         ensures table { IfOk result (λ table.
             IsSomeAnd (table_of_book self.old table_name.now) (λ own. IsOfTable own table)) }
-        ensures data { self.old.xml.source.is_told ≡ true → IfOk result (λ table.
+        ensures data { self.old.xml.source.is_visible ≡ true → IfOk result (λ table.
             IsSomeAnd (table_of_book self.old table_name.now) (λ own.
-            ReadsValuesIn (grounds_of_book self.old) self.old.header_row own.table.area
+            ReadsValuesIn (context_of_book self.old) self.old.workbook.header_row own.table.area
             (path_of self.old own.sheet) self.old.xml.source.parts (table_data table))) }
         ensures err { IfErr result (TableDataFails values_alone self.old table_name.now
             self.old.xml.source self.new.xml.source) }
@@ -209,7 +217,7 @@ impl<P: Package> Xlsx<P> {
     /// `shared_string` has. It can be called once `tables_loaded`, and is refused as
     /// `table_by_name` is.
     pub fn table_by_name_ref(&mut self, table_name: &str) -> Result<Table<DataRef>, XlsxError>
-        requires { IsSome self.old.lists.tables }
+        requires { IsSome self.old.workbook.lists.tables }
         ensures uses { let most = table_data_events self.old table_name.now
             self.old.xml.source.parts in
             Uses most Io result self.old.xml.source self.new.xml.source }
@@ -220,9 +228,9 @@ impl<P: Package> Xlsx<P> {
             self.new.xml.source ≡ self.old.xml.source }
         ensures table { IfOk result (λ table.
             IsSomeAnd (table_of_book self.old table_name.now) (λ own. IsOfTable own table)) }
-        ensures data { self.old.xml.source.is_told ≡ true → IfOk result (λ table.
+        ensures data { self.old.xml.source.is_visible ≡ true → IfOk result (λ table.
             IsSomeAnd (table_of_book self.old table_name.now) (λ own.
-            ReadsPlacesIn (grounds_of_book self.old) self.old.header_row own.table.area
+            ReadsPlacesIn (context_of_book self.old) self.old.workbook.header_row own.table.area
             (path_of self.old own.sheet) self.old.xml.source.parts (table_data table))) }
         ensures err { IfErr result (TableDataFails values_alone self.old table_name.now
             self.old.xml.source self.new.xml.source) }

@@ -2,8 +2,8 @@ ghost use Rattle.std.proofs.Common.{inl};
 ghost use Rattle.std.specs.Prelude.{◌≡◌, ◌<◌, map, length, slice_get, OnOk, OnErr, IsSome, is_some};
 ghost use Rattle.std.specs.Prelude.{None, Some, true, option_map, string_bytes};
 ghost use Rattle.std.specs.Option.{option_copied};
-ghost use Rattle.cell_refs.specs.Positions.{are_sheet_bounds};
-ghost use Rattle.xlsx_sections.specs.Asking.{Answers};
+ghost use Rattle.cell_refs.specs.Words.{are_sheet_bounds};
+ghost use Rattle.xlsx_sections.specs.Words.{Answers};
 ghost use Rattle.xlsx_tables.specs.Tables.{SheetTable, IsTablesError, tables_on_ask};
 ghost use Rattle.xlsx_tables.specs.Tables.{all_tables_ask};
 ghost use Rattle.xlsx_core.specs.Merges.{sheets_of_book};
@@ -147,32 +147,39 @@ impl<P: Package> Xlsx<P> {
             Answers ask (λ _. loaded_tables self.new) result self.old.xml.source
             self.new.xml.source }
         ensures book { KeepsBook self.old self.new }
-        ensures loaded { OnOk result (IsSome self.new.lists.tables) }
-        ensures regions { self.new.lists.regions ≡ self.old.lists.regions }
-        ensures properties { self.new.lists.properties ≡ self.old.lists.properties }
+        ensures loaded { OnOk result (IsSome self.new.workbook.lists.tables) }
+        ensures regions { self.new.workbook.lists.regions ≡ self.old.workbook.lists.regions }
+        ensures properties { self.new.workbook.lists.properties ≡
+            self.old.workbook.lists.properties }
         ensures unchanged { OnErr result (KeepsWorkbook self.old self.new) }
     {
-        let sheets = &self.metadata.sheets;
+        let sheets = &self.workbook.metadata.sheets;
         let tables = Vec::new(self.xml.alloc());
-        let tables = read_sheets(&mut self.xml, tables, sheets, &self.paths, &TableLists)?;
-        self.lists.tables = Some(tables);
+        let tables = read_sheets(
+            &mut self.xml,
+            tables,
+            sheets,
+            &self.workbook.paths,
+            &TableLists,
+        )?;
+        self.workbook.lists.tables = Some(tables);
         Ok(())
     }
 
     /// Whether the tables were loaded.
     pub fn tables_loaded(&self) -> bool
-        ensures { result ≡ is_some self.now.lists.tables }
+        ensures { result ≡ is_some self.now.workbook.lists.tables }
     {
-        self.lists.tables.is_some()
+        self.workbook.lists.tables.is_some()
     }
 
     /// The tables that were loaded.
     pub(crate) fn kept_tables(&self) -> &[LoadedTable]
-        requires { IsSome self.now.lists.tables }
-        ensures { tables_held self.now.metadata.sheets.items result.now
+        requires { IsSome self.now.workbook.lists.tables }
+        ensures { tables_held self.now.workbook.metadata.sheets.items result.now
             ≡ loaded_tables self.now }
     {
-        match &self.lists.tables {
+        match &self.workbook.lists.tables {
             Some(tables) => tables,
             None => unreachable!(),
         }
@@ -180,7 +187,7 @@ impl<P: Package> Xlsx<P> {
 
     /// How many tables were loaded. It can be called once `tables_loaded`.
     pub fn table_count(&self) -> usize
-        requires { IsSome self.now.lists.tables }
+        requires { IsSome self.now.workbook.lists.tables }
         ensures { result ≡ length (loaded_tables self.now) }
     {
         self.kept_tables().len()
@@ -188,10 +195,10 @@ impl<P: Package> Xlsx<P> {
 
     /// The table at this index, counted from 0.
     fn numbered_table(&self, index: usize) -> &LoadedTable
-        requires loaded { IsSome self.now.lists.tables }
+        requires loaded { IsSome self.now.workbook.lists.tables }
         requires index { index < length (loaded_tables self.now) }
         ensures { slice_get (loaded_tables self.now) index
-            ≡ Some (table_held self.now.metadata.sheets.items result.now) }
+            ≡ Some (table_held self.now.workbook.metadata.sheets.items result.now) }
     {
         &self.kept_tables()[index]
     }
@@ -201,7 +208,7 @@ impl<P: Package> Xlsx<P> {
     ///
     /// It can be called once `tables_loaded`, with an index below `table_count`.
     pub fn table_area(&self, index: usize) -> Option<Dimensions>
-        requires loaded { IsSome self.now.lists.tables }
+        requires loaded { IsSome self.now.workbook.lists.tables }
         requires index { index < length (loaded_tables self.now) }
         ensures area { Some result ≡ option_map (λ (own : SheetTable). own.table.area)
             (slice_get (loaded_tables self.now) index) }
@@ -215,7 +222,7 @@ impl<P: Package> Xlsx<P> {
     ///
     /// It can be called once `tables_loaded`, with an index below `table_count`.
     pub fn table_whole(&self, index: usize) -> Dimensions
-        requires loaded { IsSome self.now.lists.tables }
+        requires loaded { IsSome self.now.workbook.lists.tables }
         requires index { index < length (loaded_tables self.now) }
         ensures { Some result ≡ option_map (λ (own : SheetTable). own.table.whole)
             (slice_get (loaded_tables self.now) index) }
@@ -228,7 +235,7 @@ impl<P: Package> Xlsx<P> {
     ///
     /// It can be called once `tables_loaded`, with an index below `table_count`.
     pub fn table_headers(&self, index: usize) -> u32
-        requires loaded { IsSome self.now.lists.tables }
+        requires loaded { IsSome self.now.workbook.lists.tables }
         requires index { index < length (loaded_tables self.now) }
         ensures { Some result ≡ option_map (λ (own : SheetTable). own.table.headers)
             (slice_get (loaded_tables self.now) index) }
@@ -241,7 +248,7 @@ impl<P: Package> Xlsx<P> {
     ///
     /// It can be called once `tables_loaded`, with an index below `table_count`.
     pub fn table_totals(&self, index: usize) -> u32
-        requires loaded { IsSome self.now.lists.tables }
+        requires loaded { IsSome self.now.workbook.lists.tables }
         requires index { index < length (loaded_tables self.now) }
         ensures { Some result ≡ option_map (λ (own : SheetTable). own.table.totals)
             (slice_get (loaded_tables self.now) index) }
@@ -253,7 +260,7 @@ impl<P: Package> Xlsx<P> {
     ///
     /// It can be called once `tables_loaded`, with an index below `table_count`.
     pub fn table_columns(&self, index: usize) -> &[String]
-        requires loaded { IsSome self.now.lists.tables }
+        requires loaded { IsSome self.now.workbook.lists.tables }
         requires index { index < length (loaded_tables self.now) }
         ensures { Some (map string_bytes result.now)
             ≡ option_map (λ (own : SheetTable). own.table.columns)
@@ -266,21 +273,24 @@ impl<P: Package> Xlsx<P> {
     ///
     /// It can be called once `tables_loaded`, with an index below `table_count`.
     pub fn table_sheet(&self, index: usize) -> &str
-        requires loaded { IsSome self.now.lists.tables }
+        requires loaded { IsSome self.now.workbook.lists.tables }
         requires index { index < length (loaded_tables self.now) }
         ensures { Some result.now ≡ option_map (λ (own : SheetTable). own.sheet)
             (slice_get (loaded_tables self.now) index) }
     {
-        sheet_name(&self.metadata.sheets, self.numbered_table(index).sheet())
+        sheet_name(
+            &self.workbook.metadata.sheets,
+            self.numbered_table(index).sheet(),
+        )
     }
 
     /// The number of the sheet of the table at this index, both counted from 0.
     ///
     /// It can be called once `tables_loaded`, with an index below `table_count`.
     pub fn table_sheet_number(&self, index: usize) -> usize
-        requires loaded { IsSome self.now.lists.tables }
+        requires loaded { IsSome self.now.workbook.lists.tables }
         requires index { index < length (loaded_tables self.now) }
-        ensures { Some (sheet_name self.now.metadata.sheets.items result)
+        ensures { Some (sheet_name self.now.workbook.metadata.sheets.items result)
             ≡ option_map (λ (own : SheetTable). own.sheet)
             (slice_get (loaded_tables self.now) index) }
     {
@@ -302,19 +312,23 @@ impl<P: Package> Xlsx<P> {
     /// }
     /// ```
     pub fn table_names(&self) -> TableNames<'_>
-        requires { IsSome self.now.lists.tables }
+        requires { IsSome self.now.workbook.lists.tables }
         ensures { table_names_left result
             ≡ map (λ (own : SheetTable). own.table.name) (loaded_tables self.now) }
     {
-        TableNames::new(self.kept_tables(), &self.metadata.sheets, None)
+        TableNames::new(self.kept_tables(), &self.workbook.metadata.sheets, None)
     }
 
     /// The names of those on the sheets of this name. It can be called once `tables_loaded`.
     pub fn table_names_in_sheet<'a>(&'a self, sheet_name: &'a str) -> TableNames<'a>
-        requires { IsSome self.now.lists.tables }
+        requires { IsSome self.now.workbook.lists.tables }
         ensures { table_names_left result
             ≡ table_names_of (Some sheet_name.now) (loaded_tables self.now) }
     {
-        TableNames::new(self.kept_tables(), &self.metadata.sheets, Some(sheet_name))
+        TableNames::new(
+            self.kept_tables(),
+            &self.workbook.metadata.sheets,
+            Some(sheet_name),
+        )
     }
 }

@@ -1,24 +1,21 @@
 ghost use Rattle.std.specs.Prelude.{◌≡◌, IfOk, IfErr};
-ghost use Rattle.part_events.specs.Lending.{LentFails};
-ghost use Rattle.part_events.specs.Package.{Uses};
+ghost use Rattle.part_events.specs.Words.{LentFails, Uses};
 ghost use Rattle.xlsx_error.specs.declared.error.XlsxError.TheVariants.{Io};
-ghost use Rattle.xlsx_cells.specs.CellsReader.{area_held, grounds_by, reference_of, stream_by};
-ghost use Rattle.xlsx_cells.specs.CellsReader.{styles_held};
-ghost use Rattle.xlsx_cells.specs.Stream.{stream, IsStreaming};
-ghost use Rattle.xlsx_core.specs.Apart.{workbook_of, path_in, grounds_in, palette_in};
+ghost use Rattle.xlsx_cells.specs.Words.{area_held, context_by, reference_of, stream_by};
+ghost use Rattle.xlsx_cells.specs.Words.{styles_held, stream, IsStreaming};
+ghost use Rattle.xlsx_core.specs.Apart.{first_sheet_path, context_in, palette_in};
 ghost use Rattle.xlsx_core.specs.SheetReading.{placed_events, PlacedHeadFails, IsPlacedHeadError};
 ghost use Rattle.xlsx_core.specs.Worksheets.{EntersSheet, ReaderFails};
 
 use crate::lists::Lists;
 use crate::placed_sheet::{open_placed, path_named};
-use crate::xlsx::Xlsx;
 use cell_data::HeaderRow;
 use cell_refs::Dimensions;
 use part_events::{Package, XlReader};
 use std::sync::ArcStr;
 use xlsx_cells::{SheetCursor, XlsxCellReader};
 use xlsx_error::XlsxError;
-use xlsx_open::{KeptPath, Metadata, NameScope, SharedParts};
+use xlsx_open::{Metadata, NameScope, PartPath, SharedParts};
 
 /// What is known of an open workbook beside its package: what it was opened as, the header row that
 /// was set, and the lists that were loaded.
@@ -30,74 +27,12 @@ use xlsx_open::{KeptPath, Metadata, NameScope, SharedParts};
 pub struct Workbook {
     pub(crate) metadata: Metadata,
     pub(crate) scopes: Vec<NameScope>,
-    pub(crate) paths: Vec<KeptPath>,
+    pub(crate) paths: Vec<PartPath>,
     pub(crate) folder: ArcStr,
     pub(crate) shared: SharedParts,
     pub(crate) is_1904: bool,
     pub(crate) header_row: HeaderRow,
     pub(crate) lists: Lists,
-}
-
-/// A workbook and the reader of its package, apart and together.
-impl<P: Package> Xlsx<P> {
-    /// The reader of the package, and what is known of the workbook beside it.
-    ///
-    /// # Examples
-    ///
-    /// A sheet is read by a reader that borrows the workbook, and then a table of the same
-    /// workbook:
-    ///
-    /// ```
-    /// let (mut xml, workbook) = xlsx.into_parts();
-    /// let place = first_place(&mut xml, &workbook, sheet_name);
-    /// let mut xlsx = Xlsx::from_parts(xml, workbook);
-    /// let table = xlsx.table_by_name(table_name);
-    /// ```
-    pub fn into_parts(self) -> (XlReader<P>, Workbook)
-        ensures kept { result.0 ≡ self.xml }
-        ensures workbook { result.1 ≡ workbook_of self }
-    {
-        let Xlsx {
-            xml,
-            metadata,
-            scopes,
-            paths,
-            folder,
-            shared,
-            is_1904,
-            header_row,
-            lists,
-        } = self;
-        let workbook = Workbook {
-            metadata,
-            scopes,
-            paths,
-            folder,
-            shared,
-            is_1904,
-            header_row,
-            lists,
-        };
-        (xml, workbook)
-    }
-
-    /// The workbook of which this is known, over the package of this reader.
-    pub fn from_parts(xml: XlReader<P>, workbook: Workbook) -> Xlsx<P>
-        ensures kept { result.xml ≡ xml }
-        ensures workbook { workbook_of result ≡ workbook }
-    {
-        Xlsx {
-            xml,
-            metadata: workbook.metadata,
-            scopes: workbook.scopes,
-            paths: workbook.paths,
-            folder: workbook.folder,
-            shared: workbook.shared,
-            is_1904: workbook.is_1904,
-            header_row: workbook.header_row,
-            lists: workbook.lists,
-        }
-    }
 }
 
 /// Reading the cells of a worksheet by a reader that is lent beside the workbook.
@@ -114,11 +49,13 @@ impl Workbook {
         xml: &mut XlReader<P>,
         name: &str,
     ) -> Result<(SheetCursor, Dimensions), XlsxError>
-        ensures uses { Uses (placed_events (path_in self.now name.now) xml.old.source.parts)
+        ensures uses { Uses (placed_events (first_sheet_path self.now name.now)
+            xml.old.source.parts)
             Io result xml.old.source xml.new.source }
-        ensures enters { IfOk result (λ entered. EntersSheet (path_in self.now name.now) entered.1
+        ensures enters { IfOk result (λ entered. EntersSheet (first_sheet_path self.now name.now)
+            entered.1
             xml.old.source (stream xml.new entered.0)) }
-        ensures err { IfErr result (PlacedHeadFails name.now (path_in self.now name.now)
+        ensures err { IfErr result (PlacedHeadFails name.now (first_sheet_path self.now name.now)
             xml.old.source xml.new.source) }
         ensures kind { IfErr result (IsPlacedHeadError name.now) }
     {
@@ -137,7 +74,7 @@ impl Workbook {
         requires { IsStreaming (stream xml.old sheet) }
         ensures same_reference { reference_of result ≡ xml.entry.ghost_name }
         ensures same { result.xml.now ≡ xml.old }
-        ensures grounds { grounds_by result ≡ grounds_in self.now }
+        ensures context { context_by result ≡ context_in self.now }
         ensures styles { styles_held result ≡ palette_in self.now }
         ensures dimensions { area_held result ≡ dimensions }
         ensures stream { stream_by result ≡ stream xml.old sheet }
@@ -165,11 +102,11 @@ impl Workbook {
     ) -> Result<XlsxCellReader<'a, P>, XlsxError>
         ensures same_reference { IfOk result (λ reader.
             reference_of reader ≡ xml.entry.ghost_name) }
-        ensures enters { IfOk result (λ reader. EntersSheet (path_in self.now name.now)
+        ensures enters { IfOk result (λ reader. EntersSheet (first_sheet_path self.now name.now)
             (area_held reader) xml.old.source (stream_by reader)) }
-        ensures grounds { IfOk result (λ reader. grounds_by reader ≡ grounds_in self.now) }
+        ensures context { IfOk result (λ reader. context_by reader ≡ context_in self.now) }
         ensures styles { IfOk result (λ reader. styles_held reader ≡ palette_in self.now) }
-        ensures err { IfErr result (ReaderFails name.now (path_in self.now name.now)
+        ensures err { IfErr result (ReaderFails name.now (first_sheet_path self.now name.now)
             xml.old.source) }
         ensures fault { IfErr result (LentFails Io P.state xml.old.source) }
         ensures kind { IfErr result (IsPlacedHeadError name.now) }

@@ -2,18 +2,18 @@ ghost use Rattle.std.specs.Prelude.{◌≡◌, ℕ, List, true, IfOk, OnOk, IfEr
 ghost use Rattle.std.specs.Prelude.{if◌then◌else◌, Some, IfSome};
 ghost use Rattle.std.specs.BTreeMap.{get_by_text};
 ghost use Rattle.std.specs.Str.{bytes_eq};
-ghost use Rattle.part_events.specs.Package.{Uses, CountsUp};
+ghost use Rattle.part_events.specs.Words.{Uses, CountsUp};
 ghost use Rattle.xlsx_error.specs.declared.error.XlsxError.TheVariants.{Io};
-ghost use Rattle.xlsx_sections.specs.Failing.{SoundFails};
-ghost use Rattle.xlsx_workbook.specs.KeptContents.{path_kept};
-ghost use Rattle.xlsx_values.specs.Book.{grounds_of};
-ghost use Rattle.xlsx_cells.specs.CellsReader.{values_alone};
+ghost use Rattle.xlsx_sections.specs.Words.{SoundFails};
+ghost use Rattle.xlsx_workbook.specs.Words.{path_kept};
+ghost use Rattle.xlsx_values.specs.Words.{context_of};
+ghost use Rattle.xlsx_cells.specs.Words.{values_alone};
 ghost use Rattle.xlsx_core.specs.Opened.{path_listed, path_lent};
 ghost use Rattle.xlsx_core.specs.Listing.{AreListed, IsPutBehind, ends_listing, listed_events};
 ghost use Rattle.xlsx_core.specs.Listing.{listed_data, CountsAtLeast};
 ghost use Rattle.xlsx_core.specs.SheetReading.{placed_events, data_events};
 ghost use Rattle.xlsx_core.specs.Worksheets.{ReadsValues, RangeCause, KeepsWorkbook};
-ghost use Rattle.xlsx_core.specs.Worksheets.{grounds_of_book, path_of};
+ghost use Rattle.xlsx_core.specs.Worksheets.{context_of_book, path_of};
 
 use crate::placed_sheet::{asked_of, read_values};
 use crate::xlsx::Xlsx;
@@ -23,15 +23,15 @@ use std::alloc::{AllocError, Global};
 use std::collections::BTreeMap;
 use xlsx_cells::{Asked, Wants};
 use xlsx_error::XlsxError;
-use xlsx_open::{KeptPath, Sheet};
+use xlsx_open::{PartPath, Sheet};
 
 /// Keeps a path for a name, in place of an earlier one.
 #[tactic(auto, using(std::proofs::lemmas::Map::Text::text_keys))]
 fn put<'a>(
     alloc: Global,
-    paths: &mut BTreeMap<String, &'a KeptPath>,
+    paths: &mut BTreeMap<String, &'a PartPath>,
     name: &str,
-    path: &'a KeptPath,
+    path: &'a PartPath,
 ) -> Result<(), AllocError>
     ensures { OnOk result ((other : List ℕ) → path_lent (get_by_text paths.new other)
         ≡ (if bytes_eq other name.now then Some (path_kept path.now)
@@ -45,8 +45,8 @@ fn put<'a>(
 fn first_paths<'a>(
     alloc: Global,
     sheets: &[Sheet],
-    paths: &'a [KeptPath],
-) -> Result<BTreeMap<String, &'a KeptPath>, AllocError>
+    paths: &'a [PartPath],
+) -> Result<BTreeMap<String, &'a PartPath>, AllocError>
     ensures { IfOk result (λ firsts. (name : List ℕ) → path_lent (get_by_text firsts name)
         ≡ path_listed name sheets.now paths.now) }
 {
@@ -61,7 +61,7 @@ fn first_paths<'a>(
 }
 
 /// The path that is kept for a name.
-fn kept_path<'a>(paths: &BTreeMap<String, &'a KeptPath>, name: &str) -> Option<&'a KeptPath>
+fn kept_path<'a>(paths: &BTreeMap<String, &'a PartPath>, name: &str) -> Option<&'a PartPath>
     ensures { path_lent result ≡ path_lent (get_by_text paths.now name.now) }
 {
     paths.get(name).copied()
@@ -78,7 +78,7 @@ fn ends_listing(error: &XlsxError) -> bool
 /// isn't read for a cause in the parts.
 fn range_or_none<P: Package>(
     xml: &mut XlReader<P>,
-    path: Option<&KeptPath>,
+    path: Option<&PartPath>,
     name: &str,
     asked: Asked<'_>,
     header_row: HeaderRow,
@@ -88,14 +88,14 @@ fn range_or_none<P: Package>(
         xml.old.source xml.new.source }
     ensures to_end { let old = xml.old.source in
         let count = data_events (path_lent path.entry) old.parts in
-        old.is_told ≡ true → IfOk result (λ found.
+        old.is_visible ≡ true → IfOk result (λ found.
         IfSome found (λ range. CountsUp count old.taken xml.new.source.taken)) }
     ensures reads { let old = xml.old.source in
-        let grounds = grounds_of asked.entry.book in
+        let context = context_of asked.entry.book in
         let path = path_lent path.entry in
-        old.is_told ≡ true → IfOk result (λ found. MatchOption found
-        ((error : XlsxError) × RangeCause name.now values_alone grounds path old.parts error)
-        (ReadsValues grounds header_row path old.parts)) }
+        old.is_visible ≡ true → IfOk result (λ found. MatchOption found
+        ((error : XlsxError) × RangeCause name.now values_alone context path old.parts error)
+        (ReadsValues context header_row path old.parts)) }
     ensures err { IfErr result (SoundFails xml.old.source xml.new.source) }
 {
     match read_values(xml, path, name, asked, header_row) {
@@ -129,7 +129,7 @@ fn put_behind(
 fn ranges_listed<P: Package>(
     xml: &mut XlReader<P>,
     sheets: &[Sheet],
-    paths: &[KeptPath],
+    paths: &[PartPath],
     asked: Asked<'_>,
     header_row: HeaderRow,
 ) -> Result<Vec<(String, Range<Data>)>, XlsxError>
@@ -139,11 +139,11 @@ fn ranges_listed<P: Package>(
         xml.new.source }
     ensures to_end { let old = xml.old.source in
         let place = λ (name : List ℕ). path_listed name sheets.now paths.now in
-        old.is_told ≡ true → IfOk result (λ listed.
+        old.is_visible ≡ true → IfOk result (λ listed.
         CountsAtLeast (listed_data place old.parts listed.items) old.taken xml.new.source.taken) }
     ensures lists { let place = λ (name : List ℕ). path_listed name sheets.now paths.now in
-        xml.old.source.is_told ≡ true →
-        IfOk result (λ listed. AreListed (grounds_of asked.entry.book)
+        xml.old.source.is_visible ≡ true →
+        IfOk result (λ listed. AreListed (context_of asked.entry.book)
         header_row place xml.old.source.parts sheets.now listed.items) }
     ensures err { IfErr result (SoundFails xml.old.source xml.new.source) }
 {
@@ -174,28 +174,28 @@ impl<P: Package> Xlsx<P> {
     /// Ok(sheets.len() == xlsx.metadata().sheets.len())
     /// ```
     pub fn worksheets(&mut self) -> Result<Vec<(String, Range<Data>)>, XlsxError>
-        ensures uses { let sheets = self.old.metadata.sheets.items in
+        ensures uses { let sheets = self.old.workbook.metadata.sheets.items in
             Uses (listed_events (path_of self.old) self.old.xml.source.parts sheets) Io result
             self.old.xml.source self.new.xml.source }
         ensures to_end { let old = self.old.xml.source in
-            old.is_told ≡ true → IfOk result (λ listed. let place = path_of self.old in
+            old.is_visible ≡ true → IfOk result (λ listed. let place = path_of self.old in
             CountsAtLeast (listed_data place old.parts listed.items) old.taken
             self.new.xml.source.taken) }
         ensures rest { KeepsWorkbook self.old self.new }
-        ensures lists { self.old.xml.source.is_told ≡ true →
-            IfOk result (λ listed. AreListed (grounds_of_book self.old)
-            self.old.header_row (path_of self.old) self.old.xml.source.parts
-            self.old.metadata.sheets.items
+        ensures lists { self.old.xml.source.is_visible ≡ true →
+            IfOk result (λ listed. AreListed (context_of_book self.old)
+            self.old.workbook.header_row (path_of self.old) self.old.xml.source.parts
+            self.old.workbook.metadata.sheets.items
             listed.items) }
         ensures err { IfErr result (SoundFails self.old.xml.source self.new.xml.source) }
     {
-        let asked = asked_of(&self.shared, self.is_1904, Wants::VALUES);
+        let asked = asked_of(&self.workbook.shared, self.workbook.is_1904, Wants::VALUES);
         ranges_listed(
             &mut self.xml,
-            &self.metadata.sheets,
-            &self.paths,
+            &self.workbook.metadata.sheets,
+            &self.workbook.paths,
             asked,
-            self.header_row,
+            self.workbook.header_row,
         )
     }
 }

@@ -1,31 +1,27 @@
 ghost use Rattle.std.specs.Prelude.{◌≡◌, true, false, length, IfOk, IfErr, IsSomeAnd, Some};
 ghost use Rattle.std.specs.Prelude.{string_bytes};
-ghost use Rattle.part_events.specs.Lending.{LentFails};
-ghost use Rattle.part_events.specs.Package.{Uses};
+ghost use Rattle.part_events.specs.Words.{LentFails, Uses};
 ghost use Rattle.xlsx_error.specs.declared.error.XlsxError.TheVariants.{Io};
-ghost use Rattle.xlsx_cells.specs.CellsReader.{values_alone, formulas_alone, area_held, stream_by};
-ghost use Rattle.xlsx_cells.specs.CellsReader.{grounds_by, styles_held, styles_alone};
-ghost use Rattle.xlsx_cells.specs.Ends.{reads_children};
-ghost use Rattle.cell_data.specs.Gathered.{cells_gathered};
-ghost use Rattle.xlsx_cells.specs.SheetPart.{value_entries, formula_entries, LieInSheet};
-ghost use Rattle.xlsx_cells.specs.Stream.{stream, IsStreaming};
+ghost use Rattle.xlsx_cells.specs.Words.{values_alone, formulas_alone, area_held, stream_by};
+ghost use Rattle.xlsx_cells.specs.Words.{context_by, styles_held, styles_alone, reads_children};
+ghost use Rattle.xlsx_cells.specs.Words.{value_entries, formula_entries, LieInSheet, stream};
+ghost use Rattle.xlsx_cells.specs.Words.{IsStreaming};
+ghost use Rattle.cell_data.specs.Words.{cells_gathered};
 ghost use Rattle.xlsx_core.specs.ReadCells.{LieOnSheet, ReadsCells};
-ghost use Rattle.xlsx_core.specs.SheetReading.{all_wanted, events_at, placed_events};
-ghost use Rattle.xlsx_core.specs.SheetReading.{data_events, TakesExactly};
-ghost use Rattle.xlsx_core.specs.SheetReading.{PlacedSheetFails, PlacedHeadFails};
+ghost use Rattle.xlsx_core.specs.SheetReading.{all_wanted, events_at, placed_events, data_events};
+ghost use Rattle.xlsx_core.specs.SheetReading.{TakesExactly, PlacedSheetFails, PlacedHeadFails};
 ghost use Rattle.xlsx_core.specs.SheetReading.{IsPlacedHeadError, IsPlacedError};
-ghost use Rattle.xlsx_core.specs.Worksheets.{path_of, grounds_of_book, KeepsWorkbook, HoldsWanted};
+ghost use Rattle.xlsx_core.specs.Worksheets.{path_of, context_of_book, KeepsWorkbook, HoldsWanted};
 ghost use Rattle.xlsx_core.specs.Worksheets.{AnswersCells, ReadsValues, ReadsPlaces, LacksPath};
-ghost use Rattle.xlsx_core.specs.Worksheets.{ReadsFormulas, RangeFails};
-ghost use Rattle.xlsx_core.specs.Worksheets.{IsRangeError, EntersSheet, ReaderFails, ReadsStyles};
-ghost use Rattle.xlsx_core.specs.Worksheets.{IsStyleRangeError, palette_of_book};
+ghost use Rattle.xlsx_core.specs.Worksheets.{ReadsFormulas, RangeFails, IsRangeError, EntersSheet};
+ghost use Rattle.xlsx_core.specs.Worksheets.{ReaderFails, ReadsStyles, IsStyleRangeError};
+ghost use Rattle.xlsx_core.specs.Worksheets.{palette_of_book};
 
 use crate::as_read::ReadCells;
-use crate::placed_sheet::{
-    asked_of, open_placed, path_named, read_placed, read_range, read_values,
-};
+use crate::placed_sheet::{asked_of, path_named, read_placed, read_range, read_values};
 use crate::ranges::{copied_style_range, formula_range, place_range};
 use crate::sheet_reading::SheetAnswer;
+use crate::workbook::Workbook;
 use crate::xlsx::Xlsx;
 use cell_data::{Data, DataRef, Range};
 use cell_refs::Dimensions;
@@ -48,20 +44,20 @@ impl<P: Package> Xlsx<P> {
             LieInSheet (cells_gathered cells.values) (cells_gathered cells.formulas)
             cells.style_ids.items) }
         ensures reads { let path = path_of self.old name.now in
-            let grounds = grounds_of_book self.old in
+            let context = context_of_book self.old in
             let count = length (palette_of_book self.old) in
-            self.old.xml.source.is_told ≡ true →
+            self.old.xml.source.is_visible ≡ true →
             IfOk result (λ cells. IsSomeAnd (events_at path self.old.xml.source.parts)
             (λ events. let values = value_entries (cells_gathered cells.values) in
-            HoldsWanted wants grounds count events values
+            HoldsWanted wants context count events values
             (formula_entries (cells_gathered cells.formulas)) cells.style_ids.items)) }
-        ensures err { IfErr result (PlacedSheetFails name.now wants (grounds_of_book self.old)
+        ensures err { IfErr result (PlacedSheetFails name.now wants (context_of_book self.old)
             (path_of self.old name.now) self.old.xml.source self.new.xml.source) }
         ensures kind { IfErr result (IsPlacedError name.now) }
         ensures plain { reads_children wants ≡ false → IfErr result (IsStyleRangeError name.now) }
     {
-        let path = path_named(&self.metadata.sheets, &self.paths, name);
-        let asked = asked_of(&self.shared, self.is_1904, wants);
+        let path = path_named(&self.workbook.metadata.sheets, &self.workbook.paths, name);
+        let asked = asked_of(&self.workbook.shared, self.workbook.is_1904, wants);
         read_placed(&mut self.xml, path, name, asked)
     }
 
@@ -75,18 +71,19 @@ impl<P: Package> Xlsx<P> {
             let count = data_events (path_of self name.now) old.parts in
             TakesExactly count result.result old (P.state result.package) }
         ensures inside { IfOk result.result LieOnSheet }
-        ensures shared { IfOk result.result (λ read. read.shared ≡ self.shared) }
-        ensures reads { self.xml.source.is_told ≡ true → IfOk result.result
-            (ReadsCells (grounds_of_book self) (palette_of_book self) (path_of self name.now)
+        ensures shared { IfOk result.result (λ read. read.shared ≡ self.workbook.shared) }
+        ensures reads { self.xml.source.is_visible ≡ true → IfOk result.result
+            (ReadsCells (context_of_book self) (palette_of_book self) (path_of self name.now)
             self.xml.source.parts) }
         ensures err { IfErr result.result (PlacedSheetFails name.now all_wanted
-            (grounds_of_book self) (path_of self name.now) self.xml.source
+            (context_of_book self) (path_of self name.now) self.xml.source
             (P.state result.package)) }
         ensures kind { IfErr result.result (IsPlacedError name.now) }
     {
         let mut xlsx = self;
         let found = xlsx.placed_cells(name, Wants::ALL);
-        let Xlsx { xml, shared, .. } = xlsx;
+        let Xlsx { xml, workbook } = xlsx;
+        let Workbook { shared, .. } = workbook;
         let result = match found {
             Ok(cells) => Ok(ReadCells { cells, shared }),
             Err(error) => Err(error),
@@ -113,18 +110,18 @@ impl<P: Package> Xlsx<P> {
             LieInSheet (cells_gathered cells.values) (cells_gathered cells.formulas)
             cells.style_ids.items) }
         ensures reads { let path = path_of self.old name.now in
-            let grounds = grounds_of_book self.old in
+            let context = context_of_book self.old in
             let count = length (palette_of_book self.old) in
-            self.old.xml.source.is_told ≡ true →
+            self.old.xml.source.is_visible ≡ true →
             IfOk result (λ cells. IsSomeAnd (events_at path self.old.xml.source.parts)
-            (AnswersCells wants grounds count (value_entries (cells_gathered cells.values))
+            (AnswersCells wants context count (value_entries (cells_gathered cells.values))
             (formula_entries (cells_gathered cells.formulas)) cells.style_ids.items)) }
-        ensures err { IfErr result (RangeFails name.now wants (grounds_of_book self.old)
+        ensures err { IfErr result (RangeFails name.now wants (context_of_book self.old)
             (path_of self.old name.now) self.old.xml.source self.new.xml.source) }
         ensures kind { IfErr result (IsRangeError name.now) }
     {
-        let path = path_named(&self.metadata.sheets, &self.paths, name);
-        let asked = asked_of(&self.shared, self.is_1904, wants);
+        let path = path_named(&self.workbook.metadata.sheets, &self.workbook.paths, name);
+        let asked = asked_of(&self.workbook.shared, self.workbook.is_1904, wants);
         read_range(&mut self.xml, path, name, asked)
     }
 
@@ -152,16 +149,16 @@ impl<P: Package> Xlsx<P> {
             TakesExactly count result self.old.xml.source self.new.xml.source }
         ensures rest { KeepsWorkbook self.old self.new }
         ensures reads { let path = path_of self.old name.now in
-            self.old.xml.source.is_told ≡ true → IfOk result
-            (ReadsValues (grounds_of_book self.old) self.old.header_row path
+            self.old.xml.source.is_visible ≡ true → IfOk result
+            (ReadsValues (context_of_book self.old) self.old.workbook.header_row path
             self.old.xml.source.parts) }
-        ensures err { IfErr result (RangeFails name.now values_alone (grounds_of_book self.old)
+        ensures err { IfErr result (RangeFails name.now values_alone (context_of_book self.old)
             (path_of self.old name.now) self.old.xml.source self.new.xml.source) }
         ensures kind { IfErr result (IsRangeError name.now) }
     {
-        let path = path_named(&self.metadata.sheets, &self.paths, name);
-        let asked = asked_of(&self.shared, self.is_1904, Wants::VALUES);
-        let header_row = self.header_row;
+        let path = path_named(&self.workbook.metadata.sheets, &self.workbook.paths, name);
+        let asked = asked_of(&self.workbook.shared, self.workbook.is_1904, Wants::VALUES);
+        let header_row = self.workbook.header_row;
         read_values(&mut self.xml, path, name, asked, header_row)
     }
 
@@ -175,15 +172,15 @@ impl<P: Package> Xlsx<P> {
             TakesExactly count result self.old.xml.source self.new.xml.source }
         ensures rest { KeepsWorkbook self.old self.new }
         ensures reads { let path = path_of self.old name.now in
-            self.old.xml.source.is_told ≡ true → IfOk result
-            (ReadsPlaces (grounds_of_book self.old) self.old.header_row path
+            self.old.xml.source.is_visible ≡ true → IfOk result
+            (ReadsPlaces (context_of_book self.old) self.old.workbook.header_row path
             self.old.xml.source.parts) }
-        ensures err { IfErr result (RangeFails name.now values_alone (grounds_of_book self.old)
+        ensures err { IfErr result (RangeFails name.now values_alone (context_of_book self.old)
             (path_of self.old name.now) self.old.xml.source self.new.xml.source) }
         ensures kind { IfErr result (IsRangeError name.now) }
     {
         let cells = self.worksheet_cells(name, Wants::VALUES)?;
-        Ok(place_range(self.xml.alloc(), cells.values, self.header_row)?)
+        Ok(place_range(self.xml.alloc(), cells.values, self.workbook.header_row)?)
     }
 
     /// The formulas of the first sheet of this name (18.3.1.40) that aren't empty, without `=`: the
@@ -208,9 +205,9 @@ impl<P: Package> Xlsx<P> {
             self.old.xml.source.parts in
             TakesExactly count result self.old.xml.source self.new.xml.source }
         ensures rest { KeepsWorkbook self.old self.new }
-        ensures reads { self.old.xml.source.is_told ≡ true → IfOk result
+        ensures reads { self.old.xml.source.is_visible ≡ true → IfOk result
             (ReadsFormulas (path_of self.old name.now) self.old.xml.source.parts) }
-        ensures err { IfErr result (RangeFails name.now formulas_alone (grounds_of_book self.old)
+        ensures err { IfErr result (RangeFails name.now formulas_alone (context_of_book self.old)
             (path_of self.old name.now) self.old.xml.source self.new.xml.source) }
         ensures kind { IfErr result (IsRangeError name.now) }
     {
@@ -248,16 +245,16 @@ impl<P: Package> Xlsx<P> {
             self.old.xml.source.parts in
             TakesExactly count result self.old.xml.source self.new.xml.source }
         ensures rest { KeepsWorkbook self.old self.new }
-        ensures reads { self.old.xml.source.is_told ≡ true →
+        ensures reads { self.old.xml.source.is_visible ≡ true →
             IfOk result (ReadsStyles (palette_of_book self.old)
             (path_of self.old name.now) self.old.xml.source.parts) }
         ensures err { IfErr result (PlacedSheetFails name.now styles_alone
-            (grounds_of_book self.old) (path_of self.old name.now) self.old.xml.source
+            (context_of_book self.old) (path_of self.old name.now) self.old.xml.source
             self.new.xml.source) }
         ensures kind { IfErr result (IsStyleRangeError name.now) }
     {
         let found = self.placed_cells(name, Wants::STYLES)?;
-        let styles = &self.shared.style_sheet.styles;
+        let styles = &self.workbook.shared.style_sheet.styles;
         Ok(copied_style_range(self.xml.alloc(), found.style_ids, styles)?)
     }
 
@@ -269,7 +266,7 @@ impl<P: Package> Xlsx<P> {
         ensures path { IfOk result (λ path. path_of self.now name.now ≡ Some (string_bytes path)) }
         ensures err { IfErr result (LacksPath name.now (path_of self.now name.now)) }
     {
-        match path_named(&self.metadata.sheets, &self.paths, name) {
+        match path_named(&self.workbook.metadata.sheets, &self.workbook.paths, name) {
             Some(path) => Ok(path.joined(self.xml.alloc())?),
             None => Err(XlsxError::WorksheetNotFound(String::from_str(self.xml.alloc(), name)?)),
         }
@@ -302,8 +299,7 @@ impl<P: Package> Xlsx<P> {
             self.old.xml.source self.new.xml.source) }
         ensures kind { IfErr result (IsPlacedHeadError name.now) }
     {
-        let path = path_named(&self.metadata.sheets, &self.paths, name);
-        open_placed(&mut self.xml, path, name)
+        self.workbook.enter_worksheet(&mut self.xml, name)
     }
 
     /// A reader of the cells of a sheet of this workbook with these dimensions, that goes on where
@@ -314,22 +310,13 @@ impl<P: Package> Xlsx<P> {
         dimensions: Dimensions,
     ) -> XlsxCellReader<'a, P>
         requires { IsStreaming (stream self.old.xml sheet) }
-        ensures grounds { grounds_by result ≡ grounds_of_book self.old }
+        ensures context { context_by result ≡ context_of_book self.old }
         ensures styles { styles_held result ≡ palette_of_book self.old }
         ensures dimensions { area_held result ≡ dimensions }
         ensures stream { stream_by result ≡ stream self.old.xml sheet }
     {
-        let is_1904 = self.is_1904;
-        let Xlsx { xml, shared, .. } = self;
-        XlsxCellReader::resume(
-            xml,
-            &shared.strings,
-            &shared.style_sheet.formats,
-            &shared.style_sheet.styles,
-            is_1904,
-            sheet,
-            dimensions,
-        )
+        let Xlsx { xml, workbook } = self;
+        workbook.resume_worksheet(xml, sheet, dimensions)
     }
 
     /// A reader of the cells of the first sheet of this name, which stands behind the start of its
@@ -352,19 +339,14 @@ impl<P: Package> Xlsx<P> {
     ) -> Result<XlsxCellReader<'a, P>, XlsxError>
         ensures enters { IfOk result (λ reader. EntersSheet (path_of self.old name.now)
             (area_held reader) self.old.xml.source (stream_by reader)) }
-        ensures grounds { IfOk result (λ reader. grounds_by reader ≡ grounds_of_book self.old) }
+        ensures context { IfOk result (λ reader. context_by reader ≡ context_of_book self.old) }
         ensures styles { IfOk result (λ reader. styles_held reader ≡ palette_of_book self.old) }
         ensures err { IfErr result (ReaderFails name.now (path_of self.old name.now)
             self.old.xml.source) }
         ensures fault { IfErr result (LentFails Io P.state self.old.xml.source) }
         ensures kind { IfErr result (IsPlacedHeadError name.now) }
     {
-        match self.enter_worksheet(name) {
-            Ok((sheet, dimensions)) => Ok(self.resume_worksheet(sheet, dimensions)),
-            Err(error) => {
-                self.xml.holds_package();
-                Err(error)
-            }
-        }
+        let Xlsx { xml, workbook } = self;
+        workbook.worksheet_cells_reader(xml, name)
     }
 }

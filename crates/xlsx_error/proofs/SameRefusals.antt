@@ -13,7 +13,7 @@ use Rattle.attr_text.specs.declared.fault.AttrFault.{AttrFault}
 use Rattle.part_events.specs.contracts.fault.XmlFaultPartialEq.TheImpl as markup
 use Rattle.part_events.specs.declared.fault.XmlFault.{XmlFault}
 use Rattle.xlsx_error.specs.XlsxError
-use Rattle.xlsx_error.specs.XlsxError.{Refusal, refusal_seen}
+use Rattle.xlsx_error.specs.XlsxError.{RefusalSeen, refusal_seen}
 use Rattle.xlsx_error.specs.contracts.error.XlsxErrorPartialEq.TheImpl as error
 use Rattle.xlsx_error.specs.contracts.error.XlsxError.{as_values}
 use Rattle.xlsx_error.specs.declared.error.XlsxError.{XlsxError}
@@ -102,7 +102,7 @@ values_seen a =
     sum_seen string_seen (sum_seen string_seen (sum_seen string_seen (sum_seen string_seen (
     sum_seen string_seen (λ (x : ⊥). x))))))))))))))))))))))))) (as_values a)
 
-abbrev decode_names : NamesSeen → Refusal
+abbrev decode_names : NamesSeen → RefusalSeen
 decode_names (inl text) = XlsxError.cell_error text
 decode_names (inr (inl text)) = XlsxError.worksheet_not_found text
 decode_names (inr (inr (inl text))) = XlsxError.table_not_found text
@@ -110,7 +110,7 @@ decode_names (inr (inr (inr (inl text)))) = XlsxError.not_a_worksheet text
 decode_names (inr (inr (inr (inr (inl text))))) = XlsxError.pivot_table_not_found text
 decode_names (inr (inr (inr (inr (inr none))))) = absurd none
 
-abbrev decode_cells : CellsSeen → Refusal
+abbrev decode_cells : CellsSeen → RefusalSeen
 decode_cells (inl nothing) = XlsxError.row_number_overflow
 decode_cells (inr (inl number)) = XlsxError.dimension_count number
 decode_cells (inr (inr (inl text))) = XlsxError.cell_t_attribute text
@@ -118,7 +118,7 @@ decode_cells (inr (inr (inr (inl text)))) = XlsxError.unexpected text
 decode_cells (inr (inr (inr (inr (inl (typ, val)))))) = XlsxError.unrecognized typ val
 decode_cells (inr (inr (inr (inr (inr others))))) = decode_names others
 
-abbrev decode_references : ReferencesSeen → Refusal
+abbrev decode_references : ReferencesSeen → RefusalSeen
 decode_references (inl nothing) = XlsxError.relationship_not_found
 decode_references (inr (inl number)) = XlsxError.alphanumeric number
 decode_references (inr (inr (inl nothing))) = XlsxError.range_without_column_component
@@ -126,7 +126,7 @@ decode_references (inr (inr (inr (inl nothing)))) = XlsxError.range_without_row_
 decode_references (inr (inr (inr (inr (inl nothing))))) = XlsxError.column_number_overflow
 decode_references (inr (inr (inr (inr (inr others))))) = decode_cells others
 
-abbrev decode_parts : PartsSeen → Refusal
+abbrev decode_parts : PartsSeen → RefusalSeen
 decode_parts (inl text) = XlsxError.parse_float text
 decode_parts (inr (inl text)) = XlsxError.parse_int text
 decode_parts (inr (inr (inl text))) = XlsxError.xml_eof text
@@ -134,7 +134,7 @@ decode_parts (inr (inr (inr (inl text)))) = XlsxError.unexpected_node text
 decode_parts (inr (inr (inr (inr (inl text))))) = XlsxError.file_not_found text
 decode_parts (inr (inr (inr (inr (inr others))))) = decode_references others
 
-abbrev decode : Seen → Refusal
+abbrev decode : Seen → RefusalSeen
 decode (inl nothing) = XlsxError.out_of_memory
 decode (inr (inl nothing)) = XlsxError.failed
 decode (inr (inr (inl nothing))) = XlsxError.io
@@ -154,7 +154,7 @@ of_cells others = of_references (behind others)
 abbrev of_names : NamesSeen → Seen
 of_names others = of_cells (behind others)
 
-abbrev encode : Refusal → Seen
+abbrev encode : RefusalSeen → Seen
 encode XlsxError.out_of_memory = inl tt
 encode XlsxError.failed = inr (inl tt)
 encode XlsxError.io = inr (inr (inl tt))

@@ -2,18 +2,17 @@
 -- become.
 use Rattle.std.specs.Prelude.{ℕ, List, ◌++◌, codes, string_bytes, true}
 use Rattle.std.specs.Fmt.{decimal, digits}
-use Rattle.attr_text.specs.TextFaults.{attribute_text}
+use Rattle.attr_text.specs.Words.{attribute_text}
 use Rattle.attr_text.specs.declared.fault.AttrFault.{AttrFault}
-use Rattle.part_events.specs.StreamFaults.{markup_text}
+use Rattle.part_events.specs.Words.{markup_text}
 use Rattle.part_events.specs.declared.fault.StreamError.{StreamError}
 use Rattle.part_events.specs.declared.fault.XmlFault.{XmlFault}
 use Rattle.part_events.specs.declared.fault.StreamError.TheVariants as stream
 use Rattle.cell_refs.specs.declared.error.RefError.{RefError}
 use Rattle.cell_refs.specs.declared.error.RefError.TheVariants as ref
 use Rattle.xlsx_error.specs.declared.error.XlsxError.{XlsxError}
-use Rattle.xlsx_error.specs.declared.error.XlsxError.TheVariants.{OutOfMemory, Failed, Io}
-use Rattle.xlsx_error.specs.declared.error.XlsxError.TheVariants.{Xml, XmlAttr, ParseFloat}
-use Rattle.xlsx_error.specs.declared.error.XlsxError.TheVariants.{ParseInt}
+use Rattle.xlsx_error.specs.declared.error.XlsxError.TheVariants.{OutOfMemory, Failed, Io, Xml}
+use Rattle.xlsx_error.specs.declared.error.XlsxError.TheVariants.{XmlAttr, ParseFloat, ParseInt}
 use Rattle.xlsx_error.specs.declared.error.XlsxError.TheVariants.{XmlEof, UnexpectedNode}
 use Rattle.xlsx_error.specs.declared.error.XlsxError.TheVariants.{FileNotFound}
 use Rattle.xlsx_error.specs.declared.error.XlsxError.TheVariants.{RelationshipNotFound}
@@ -42,7 +41,7 @@ of_reference ref.ColumnNumberOverflow = ColumnNumberOverflow
 of_reference ref.RowNumberOverflow = RowNumberOverflow
 of_reference (ref.DimensionCount count) = DimensionCount count
 
--- the text of a refusal
+-- the text that tells a refusal
 abbrev pub text_of : XlsxError → List ℕ
 text_of OutOfMemory = codes "out of memory"
 text_of Failed = codes "the reader has failed before"
@@ -79,35 +78,35 @@ text_of (PivotTableNotFound name) =
     codes "Pivot Table '" ++ (string_bytes name ++ codes "' was not found on worksheet")
 
 -- a refusal as it is seen: which one, its texts by their bytes
-pub data Refusal : Type 0 where
-  out_of_memory : Refusal
-  failed : Refusal
-  io : Refusal
-  xml : XmlFault → Refusal
-  xml_attr : AttrFault → Refusal
-  parse_float : List ℕ → Refusal
-  parse_int : List ℕ → Refusal
-  xml_eof : List ℕ → Refusal
-  unexpected_node : List ℕ → Refusal
-  file_not_found : List ℕ → Refusal
-  relationship_not_found : Refusal
-  alphanumeric : ℕ → Refusal
-  range_without_column_component : Refusal
-  range_without_row_component : Refusal
-  column_number_overflow : Refusal
-  row_number_overflow : Refusal
-  dimension_count : ℕ → Refusal
-  cell_t_attribute : List ℕ → Refusal
-  unexpected : List ℕ → Refusal
-  unrecognized : List ℕ → List ℕ → Refusal
-  cell_error : List ℕ → Refusal
-  worksheet_not_found : List ℕ → Refusal
-  table_not_found : List ℕ → Refusal
-  not_a_worksheet : List ℕ → Refusal
-  pivot_table_not_found : List ℕ → Refusal
+pub data RefusalSeen : Type 0 where
+  out_of_memory : RefusalSeen
+  failed : RefusalSeen
+  io : RefusalSeen
+  xml : XmlFault → RefusalSeen
+  xml_attr : AttrFault → RefusalSeen
+  parse_float : List ℕ → RefusalSeen
+  parse_int : List ℕ → RefusalSeen
+  xml_eof : List ℕ → RefusalSeen
+  unexpected_node : List ℕ → RefusalSeen
+  file_not_found : List ℕ → RefusalSeen
+  relationship_not_found : RefusalSeen
+  alphanumeric : ℕ → RefusalSeen
+  range_without_column_component : RefusalSeen
+  range_without_row_component : RefusalSeen
+  column_number_overflow : RefusalSeen
+  row_number_overflow : RefusalSeen
+  dimension_count : ℕ → RefusalSeen
+  cell_t_attribute : List ℕ → RefusalSeen
+  unexpected : List ℕ → RefusalSeen
+  unrecognized : List ℕ → List ℕ → RefusalSeen
+  cell_error : List ℕ → RefusalSeen
+  worksheet_not_found : List ℕ → RefusalSeen
+  table_not_found : List ℕ → RefusalSeen
+  not_a_worksheet : List ℕ → RefusalSeen
+  pivot_table_not_found : List ℕ → RefusalSeen
 
 -- what is seen of a refusal
-abbrev pub refusal_seen : XlsxError → Refusal
+abbrev pub refusal_seen : XlsxError → RefusalSeen
 refusal_seen OutOfMemory = out_of_memory
 refusal_seen Failed = failed
 refusal_seen Io = io

@@ -1,6 +1,6 @@
 ghost use Rattle.std.specs.Prelude.{◌≡◌};
 ghost use Rattle.xlsx_error.specs.declared.error.XlsxError.TheVariants.{Io, XmlAttr, OutOfMemory};
-ghost use Rattle.part_events.specs.StreamFaults.{of_package};
+ghost use Rattle.part_events.specs.Words.{of_package};
 ghost use Rattle.xlsx_error.specs.XlsxError.{of_stream, of_reference};
 
 use attr_text::AttrFault;

@@ -2,12 +2,10 @@
 use Rattle.std.proofs.Common.{◌≡◌, ℕ, List, [], ◌∷◌, ◌++◌, Option, Some, None, Result, Ok, Err}
 use Rattle.std.proofs.Common.{refl, sym, ◌∙◌, ap, subst, append_assoc, append-nil, length, arith}
 use Rattle.std.specs.Prelude.{IsOkAnd}
-use Rattle.part_events.specs.Reading.{Reading, ahead}
-use Rattle.part_events.specs.Section.{PlacedTag, content, starts_by}
-use Rattle.part_events.specs.Walk.{inside, section_ahead}
+use Rattle.part_events.specs.Words.{Reading, ahead, PlacedTag, content, starts_by, inside}
+use Rattle.part_events.specs.Words.{section_ahead}
 use Rattle.xlsx_error.specs.declared.error.XlsxError.{XlsxError}
-use Rattle.xlsx_sections.specs.Answers.{some_answers, and_others_if, prepended}
-use Rattle.xlsx_sections.specs.Refusal.{Refusal, ElementFails}
+use Rattle.xlsx_sections.specs.Words.{some_answers, and_others_if, prepended, Refusal, ElementFails}
 use Rattle.xlsx_sections.proofs.Refused.{refused_at_weaker}
 use Rattle.xlsx_sections.proofs.Kept.{some_and_more, some_refused}
 use Rattle.xlsx_formats.specs.FormatCodes.{WrittenFormat, with_code, written_format, with_written}

@@ -1,6 +1,6 @@
 -- The codes that are kept are those of some number formats.
-use Rattle.std.proofs.Common.{◌≡◌, ℕ, List, [], ◌∷◌, Bool, Some, None}
-use Rattle.std.proofs.Common.{refl, sym, ◌∙◌, ap, String, Global, string_bytes}
+use Rattle.std.proofs.Common.{◌≡◌, ℕ, List, [], ◌∷◌, Bool, Some, None, refl, sym, ◌∙◌, ap, String}
+use Rattle.std.proofs.Common.{Global, string_bytes}
 use Rattle.std.specs.Prelude.{option_map, if◌then◌else◌, cond}
 use Rattle.std.specs.BTreeMap.{is_at}
 use Rattle.std.specs.Cmp.Lexicographic.{slice_cmp}

@@ -2,25 +2,22 @@
 use Rattle.std.proofs.Common.{◌≡◌, ℕ, List, Option, Some, None, Result, Ok, Err, refl, sym, ◌∙◌, ap}
 use Rattle.std.proofs.Common.{subst, codes, length, get_or}
 use Rattle.std.specs.Prelude.{IsOkAnd}
-use Rattle.attr_text.specs.Attributes.{lookup}
+use Rattle.attr_text.specs.Words.{lookup}
 use Rattle.attr_text.specs.declared.fault.AttrFault.{AttrFault}
-use Rattle.part_events.specs.Event.{Tag, Event}
-use Rattle.part_events.specs.Reading.{Reading}
+use Rattle.part_events.specs.Words.{Tag, Event, Reading}
 use Rattle.part_events.specs.declared.fault.XmlFault.TheVariants.{Break}
 use Rattle.xlsx_error.specs.declared.error.XlsxError.{XlsxError}
 use Rattle.xlsx_error.specs.declared.error.XlsxError.TheVariants.{OutOfMemory, Io, Xml, XmlAttr}
 use Rattle.xlsx_error.specs.declared.error.XlsxError.TheVariants.{XmlEof}
-use Rattle.xlsx_sections.specs.Elements.{ElementReadFails, IsInsideRefused}
-use Rattle.xlsx_sections.specs.PartSection.{always, inside_of, section_left}
-use Rattle.xlsx_sections.specs.Refusal.{Refusal, ElementFails}
+use Rattle.xlsx_sections.specs.Words.{ElementReadFails, IsInsideRefused, always, inside_of}
+use Rattle.xlsx_sections.specs.Words.{section_left, Refusal, ElementFails}
 use Rattle.xlsx_sections.proofs.Refused.{refused_as}
-use Rattle.xlsx_styles.specs.Errors.{IsPlainError}
+use Rattle.xlsx_styles.specs.Words.{IsPlainError}
 use Rattle.xlsx_formats.specs.FormatCodes.{WrittenFormat, code_kept, code_written, AreCodes}
 use Rattle.xlsx_formats.specs.Formattings.{NamedSaid, FormattingSaid, format_named}
-use Rattle.xlsx_formats.specs.Formattings.{number_format_named}
-use Rattle.xlsx_formats.specs.Formattings.{formatting_keys, formatting_named, no_settings}
-use Rattle.xlsx_formats.specs.Formattings.{settings_of, code_said}
-use Rattle.xlsx_formats.specs.Formattings.{formatting_set, formatting_by, formatting_of, named_said}
+use Rattle.xlsx_formats.specs.Formattings.{number_format_named, formatting_keys, formatting_named}
+use Rattle.xlsx_formats.specs.Formattings.{no_settings, settings_of, code_said, formatting_set}
+use Rattle.xlsx_formats.specs.Formattings.{formatting_by, formatting_of, named_said}
 use Rattle.xlsx_formats.specs.declared.format_codes.FormatCodes.{FormatCodes}
 use Rattle.xlsx_formats.proofs.CodesRead.{ok_found}
 use Rattle.xlsx_formats.specs.declared.formatting.NamedLists.{NamedLists}

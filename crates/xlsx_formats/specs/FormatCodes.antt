@@ -5,12 +5,11 @@ use Rattle.std.specs.BTreeMap.{get_by_text}
 use Rattle.std.specs.Option.{option_or}
 use Rattle.std.specs.Str.{bytes_eq}
 use Rattle.std.specs.declared.alloc.Global.{Global}
-use Rattle.attr_text.specs.Attributes.{lookup}
+use Rattle.attr_text.specs.Words.{lookup}
 use Rattle.attr_text.specs.declared.fault.AttrFault.{AttrFault}
-use Rattle.part_events.specs.Event.{Tag, Event}
-use Rattle.part_events.specs.Section.{PlacedTag, starts_by, is_named}
-use Rattle.xlsx_sections.specs.Answers.{some_answers, with_two}
-use Rattle.xlsx_sections.specs.Refusal.{Refusal, plain, lookup_fault, decoded_at}
+use Rattle.part_events.specs.Words.{Tag, Event, PlacedTag, starts_by, is_named}
+use Rattle.xlsx_sections.specs.Words.{some_answers, with_two, Refusal, plain, lookup_fault}
+use Rattle.xlsx_sections.specs.Words.{decoded_at}
 use Rattle.xlsx_formats.specs.declared.format_codes.FormatCodes.{FormatCodes}
 use Rattle.xlsx_formats.specs.declared.kept_code.KeptCode.{KeptCode}
 
@@ -25,7 +24,7 @@ abbrev pub with_code : List ℕ → Result (List ℕ) Refusal → Result (Option
 with_code id (Ok code) = Ok (Some (record { id = id; code = code }))
 with_code id (Err refusal) = Err refusal
 
--- a start that lacks one of the two writes no format
+-- the format that a start writes by its id and its code; one that lacks one of them writes none
 abbrev pub written_by :
     ℕ → Option (List ℕ) → Option (List ℕ) → Result (Option WrittenFormat) Refusal
 written_by behind None code = Ok None
@@ -46,7 +45,7 @@ written_keys = codes "numFmtId" ∷ codes "formatCode" ∷ []
 abbrev pub written_format : PlacedTag → Result (Option WrittenFormat) Refusal
 written_format start = written_if start.behind (lookup written_keys start.tag.attributes)
 
--- a start is a written number format
+-- a start of the element `numFmt`, a written number format
 abbrev pub is_number_format : Tag → Bool
 is_number_format tag = is_named (codes "numFmt" ∷ []) tag
 

@@ -2,25 +2,21 @@
 use Rattle.std.specs.Prelude.{ℕ, ◌^◌, List, [], ◌∷◌, map, get_or, slice_get, Bool, if◌then◌else◌}
 use Rattle.std.specs.Prelude.{codes, Option, Some, None, option_map, Result, Ok, Err}
 use Rattle.std.specs.Option.{option_and_then, option_or, unwrap_or}
-use Rattle.attr_text.specs.Attributes.{lookup}
+use Rattle.attr_text.specs.Words.{lookup}
 use Rattle.attr_text.specs.declared.fault.AttrFault.{AttrFault}
-use Rattle.part_events.specs.Event.{Tag, Event}
-use Rattle.part_events.specs.Section.{PlacedTag, starts_by, is_named}
-use Rattle.cell_data.specs.NumberFormat.{builtin_format, builtin_code, custom_format}
+use Rattle.part_events.specs.Words.{Tag, Event, PlacedTag, starts_by, is_named}
+use Rattle.cell_data.specs.Words.{builtin_format, builtin_code, custom_format}
 use Rattle.cell_data.specs.declared.format.CellFormat.{CellFormat}
 use Rattle.cell_data.specs.declared.format.CellFormat.TheVariants.{Other}
-use Rattle.cell_styles.specs.StyleFormats.{NumberFormatFields}
+use Rattle.cell_styles.specs.Words.{NumberFormatFields}
 use Rattle.cell_styles.specs.declared.alignment.Alignment.{Alignment}
 use Rattle.cell_styles.specs.declared.border.Borders.{Borders}
 use Rattle.cell_styles.specs.declared.fill.Fill.{Fill}
 use Rattle.cell_styles.specs.declared.protection.Protection.{Protection}
 use Rattle.cell_styles.specs.declared.style.Style.{Style}
-use Rattle.xlsx_sections.specs.Changes.{all_changes, or_fault, changed_with}
-use Rattle.xlsx_sections.specs.NumberText.{number_text}
-use Rattle.xlsx_sections.specs.Refusal.{Refusal, plain, lookup_fault}
-use Rattle.xlsx_styles.specs.Alignments.{alignment_of, protection_of}
-use Rattle.xlsx_styles.specs.Fonts.{FontSaid, said_of}
-use Rattle.xlsx_sections.specs.NumberText.{number_below}
+use Rattle.xlsx_sections.specs.Words.{all_changes, or_fault, changed_with, number_text, Refusal}
+use Rattle.xlsx_sections.specs.Words.{plain, lookup_fault, number_below}
+use Rattle.xlsx_styles.specs.Words.{alignment_of, protection_of, FontSaid, said_of}
 use Rattle.xlsx_formats.specs.FormatCodes.{WrittenFormat, code_written, formats_kept}
 use Rattle.xlsx_formats.specs.declared.formatting.Formatting.{Formatting}
 use Rattle.xlsx_formats.specs.declared.formatting.NamedLists.{NamedLists}
@@ -48,7 +44,7 @@ pub record FormattingSaid : Type 0 where
   pub format : CellFormat
   pub style : StyleSaid
 
--- what a style says
+-- what a style says, the size of its font as a number
 abbrev pub style_said : Style → StyleSaid
 style_said style = record {
   font = option_map said_of style.font;
@@ -59,7 +55,7 @@ style_said style = record {
   protection = style.protection;
 }
 
--- what a formatting says
+-- what a formatting that is kept says: what it makes of a number, and its style
 abbrev pub formatting_said : Formatting → FormattingSaid
 formatting_said formatting = record {
   format = formatting.format;
@@ -75,25 +71,26 @@ named_said formats lists = record {
   borders = lists.borders.now;
 }
 
--- and where their number formats are those whose codes are kept
+-- what the lists that a formatting names say, where their number formats are those whose codes are
+-- kept
 abbrev pub named_kept : NamedLists → NamedSaid
 named_kept lists = named_said (formats_kept lists.codes.now) lists
 
--- with the alignment, or the protection, of a later start
+-- settings with this alignment, that of a later start
 abbrev pub with_alignment : Settings → Alignment → Settings
 with_alignment settings alignment = record {
   alignment = Some alignment;
   protection = settings.protection;
 }
 
--- settings with this protection
+-- settings with this protection, that of a later start
 abbrev pub with_protection : Settings → Protection → Settings
 with_protection settings protection = record {
   alignment = settings.alignment;
   protection = Some protection;
 }
 
--- a start is an alignment
+-- a start of the element `alignment`
 abbrev pub is_alignment : Tag → Bool
 is_alignment tag = is_named (codes "alignment" ∷ []) tag
 
@@ -104,7 +101,7 @@ setting_change start settings =
     then or_fault (changed_with with_alignment settings (alignment_of start.tag))
     else or_fault (changed_with with_protection settings (protection_of start.tag))
 
--- a start is a setting of a formatting
+-- a start is a setting of a formatting: `alignment` or `protection`
 abbrev pub is_setting : Tag → Bool
 is_setting tag = is_named (codes "alignment" ∷ codes "protection" ∷ []) tag
 

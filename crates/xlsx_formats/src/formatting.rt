@@ -1,17 +1,14 @@
-ghost use Rattle.std.specs.Prelude.{◌≡◌, ◌^◌, List, [], ◌∷◌, codes, true, Result};
-ghost use Rattle.std.specs.Prelude.{Ok, Err, IfOk, IfErr, MatchResult, IsOkAnd};
+ghost use Rattle.std.specs.Prelude.{◌≡◌, ◌^◌, List, [], ◌∷◌, codes, true, Result, Ok, Err, IfOk};
+ghost use Rattle.std.specs.Prelude.{IfErr, MatchResult, IsOkAnd};
 ghost use Rattle.std.specs.Option.{option_copied, option_or, unwrap_or};
-ghost use Rattle.attr_text.specs.Attributes.{lookup};
-ghost use Rattle.part_events.specs.Event.{Tag, start, tag_of};
-ghost use Rattle.part_events.specs.Reading.{IsReadingElement, ReadsElement, ahead};
-ghost use Rattle.part_events.specs.Section.{content};
-ghost use Rattle.cell_data.specs.NumberFormat.{builtin_code};
+ghost use Rattle.attr_text.specs.Words.{lookup};
+ghost use Rattle.part_events.specs.Words.{Tag, start, tag_of, IsReadingElement, ReadsElement};
+ghost use Rattle.part_events.specs.Words.{ahead, content};
+ghost use Rattle.cell_data.specs.Words.{builtin_code};
 ghost use Rattle.xlsx_error.specs.declared.error.XlsxError.TheVariants.{Io};
-ghost use Rattle.xlsx_sections.specs.Elements.{ElementReadFails};
-ghost use Rattle.xlsx_sections.specs.PartSection.{always};
-ghost use Rattle.xlsx_sections.specs.Refusal.{Refusal, ElementFails};
-ghost use Rattle.xlsx_styles.specs.Errors.{IsPlainError};
-ghost use Rattle.xlsx_sections.specs.NumberText.{number_below};
+ghost use Rattle.xlsx_sections.specs.Words.{ElementReadFails, always, Refusal, ElementFails};
+ghost use Rattle.xlsx_sections.specs.Words.{number_below};
+ghost use Rattle.xlsx_styles.specs.Words.{IsPlainError};
 ghost use Rattle.xlsx_formats.specs.FormatCodes.{WrittenFormat, code_kept, AreCodes};
 ghost use Rattle.xlsx_formats.specs.Formattings.{NamedSaid, numbered, format_named};
 ghost use Rattle.xlsx_formats.specs.Formattings.{number_format_named, formatting_keys};
@@ -181,7 +178,7 @@ pub fn read_format<P: Package>(
 ) -> Result<Formatting, XlsxError>
     requires element { IsReadingElement xml.old }
     ensures reads { ReadsElement Io result xml.old xml.new }
-    ensures formatting { xml.old.source.is_told ≡ true → IfOk result (λ formatting.
+    ensures formatting { xml.old.source.is_visible ≡ true → IfOk result (λ formatting.
         (tag : Tag) (formats : List WrittenFormat) → start tag ≡ xml.old.source.current →
         AreCodes formats lists.now.codes.now →
         formatting_of (named_said formats lists.now) tag (content 0 (ahead xml.old))

@@ -1,5 +1,5 @@
 ghost use Rattle.std.specs.Prelude.{◌≡◌, string_bytes};
-ghost use Rattle.cell_data.specs.NumberFormat.{custom_format};
+ghost use Rattle.cell_data.specs.Words.{custom_format};
 
 use cell_data::{CellFormat, detect_custom_number_format};
 

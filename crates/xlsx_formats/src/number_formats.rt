@@ -1,14 +1,12 @@
-ghost use Rattle.std.specs.Prelude.{◌≡◌, ◌⊎◌, ◌++◌, List, ℕ, codes, true, Some};
-ghost use Rattle.std.specs.Prelude.{Ok, OnOk, OnErr, IfErr, IsOkAnd};
-ghost use Rattle.attr_text.specs.Attributes.{lookup};
-ghost use Rattle.part_events.specs.Event.{tag_of};
-ghost use Rattle.part_events.specs.Reading.{IsReadingElement, ReadsElement, ahead};
-ghost use Rattle.part_events.specs.Section.{content, starts_by};
+ghost use Rattle.std.specs.Prelude.{◌≡◌, ◌⊎◌, ◌++◌, List, ℕ, codes, true, Some, Ok, OnOk, OnErr};
+ghost use Rattle.std.specs.Prelude.{IfErr, IsOkAnd};
+ghost use Rattle.attr_text.specs.Words.{lookup};
+ghost use Rattle.part_events.specs.Words.{tag_of, IsReadingElement, ReadsElement, ahead, content};
+ghost use Rattle.part_events.specs.Words.{starts_by};
 ghost use Rattle.xlsx_error.specs.declared.error.XlsxError.TheVariants.{Io};
-ghost use Rattle.xlsx_sections.specs.Elements.{ElementReadFails};
-ghost use Rattle.xlsx_sections.specs.PartSection.{always};
-ghost use Rattle.xlsx_sections.specs.Refusal.{ElementFails, IsDecodeError, placed_at};
-ghost use Rattle.xlsx_styles.specs.Errors.{IsPlainError};
+ghost use Rattle.xlsx_sections.specs.Words.{ElementReadFails, always, ElementFails, IsDecodeError};
+ghost use Rattle.xlsx_sections.specs.Words.{placed_at};
+ghost use Rattle.xlsx_styles.specs.Words.{IsPlainError};
 ghost use Rattle.xlsx_formats.specs.FormatCodes.{WrittenFormat, written_format, formats_written};
 ghost use Rattle.xlsx_formats.specs.FormatCodes.{with_written, is_number_format, AreCodes};
 ghost use Rattle.xlsx_formats.specs.FormatCodes.{KeepsFront};
@@ -59,12 +57,12 @@ pub fn read_number_formats<P: Package>(
 ) -> Result<(), XlsxError>
     requires element { IsReadingElement xml.old }
     ensures reads { ReadsElement Io result xml.old xml.new }
-    ensures formats { xml.old.source.is_told ≡ true → OnOk result
+    ensures formats { xml.old.source.is_visible ≡ true → OnOk result
         (IsOkAnd (formats_written (content 0 (ahead xml.old))) (λ formats.
         (earlier : List WrittenFormat) → AreCodes earlier kept.old →
         AreCodes (earlier ++ formats) kept.new)) }
     ensures front { let starts = starts_by is_number_format (content 0 (ahead xml.old)) in
-        xml.old.source.is_told ≡ true → OnErr result (KeepsFront starts kept.old kept.new) }
+        xml.old.source.is_visible ≡ true → OnErr result (KeepsFront starts kept.old kept.new) }
     ensures err { IfErr result
         (ElementReadFails (always (codes "numFmts")) formats_written xml.old xml.new) }
     ensures kind { IfErr result (λ error.

@@ -1,11 +1,8 @@
 ghost use Rattle.std.proofs.Common.{rules};
 ghost use Rattle.std.specs.Prelude.{◌≡◌, ⊤, ℕ, codes, Ok, MatchResult, Err};
-ghost use Rattle.part_events.specs.Event.{tag_of};
-ghost use Rattle.part_events.specs.Reading.{IsReadingElement};
-ghost use Rattle.xlsx_sections.specs.PartSection.{always};
-ghost use Rattle.xlsx_sections.specs.Refusal.{plain, lookup_fault, placed_at};
-ghost use Rattle.xlsx_styles.specs.Errors.{IsPlainError};
-ghost use Rattle.xlsx_styles.specs.ReadElements.{ReadsInside};
+ghost use Rattle.part_events.specs.Words.{tag_of, IsReadingElement};
+ghost use Rattle.xlsx_sections.specs.Words.{always, plain, lookup_fault, placed_at};
+ghost use Rattle.xlsx_styles.specs.Words.{IsPlainError, ReadsInside};
 ghost use Rattle.xlsx_formats.specs.Formattings.{setting_change, settings_of};
 ghost use Rattle.xlsx_formats.specs.declared.settings.Settings.{Settings};
 

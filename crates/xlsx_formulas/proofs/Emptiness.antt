@@ -2,7 +2,7 @@
 use Rattle.std.proofs.Common.{◌≡◌, ℕ, List, [], ◌∷◌, length, sym, ap, arith}
 use Rattle.std.specs.Prelude.{◌==◌, ℤ}
 use Rattle.std.proofs.lemmas.Bool.Decides.{nat_tests}
-use Rattle.formula_shift.specs.Relocation.{moved}
+use Rattle.formula_shift.specs.Words.{moved}
 use Rattle.formula_shift.proofs.Cutting.{pieces-nil}
 use Rattle.formula_shift.proofs.Moving.{moved-nil, moved-some}
 

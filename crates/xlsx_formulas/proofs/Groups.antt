@@ -8,8 +8,8 @@ use Rattle.std.specs.Rc.{rc_value}
 use Rattle.std.specs.declared.rc.Rc.{Rc}
 use Rattle.xlsx_formulas.specs.Formula.{FormulaText, master, master_of, or_further}
 use Rattle.xlsx_formulas.specs.Kept.{AreMasters, group_seen}
-use Rattle.xlsx_formulas.specs.declared.masters.Masters.{Masters}
-use Rattle.xlsx_formulas.specs.declared.masters.Master as kept
+use Rattle.xlsx_formulas.specs.declared.shared_formulas.SharedFormulas.{SharedFormulas}
+use Rattle.xlsx_formulas.specs.declared.shared_formulas.Master as kept
 
 -- a formula of which a group is kept so
 group_formula : ℕ × Rc kept.Master Global → FormulaText
@@ -40,6 +40,7 @@ groups_of index (entry ∷ entries) =
     (lookup (is_at (nat_cmp index)) entries)
     ∙ rw (same_test index entry.0, groups_of index entries) refl
 
-pub formulas_kept : (masters : Masters) → (earlier : List FormulaText) × AreMasters earlier masters
+pub formulas_kept : (masters : SharedFormulas) → (earlier : List FormulaText)
+    × AreMasters earlier masters
 formulas_kept masters =
     (map group_formula masters.groups.entries, λ index. groups_of index masters.groups.entries)

@@ -1,12 +1,10 @@
 -- How a start that says no sharing makes its formula refused.
 use Rattle.std.proofs.Common.{◌≡◌, length, Err, sym, ◌∙◌, ap, subst, codes}
-use Rattle.part_events.specs.Event.{Tag, Event, start}
-use Rattle.part_events.specs.Reading.{Reading}
+use Rattle.part_events.specs.Words.{Tag, Event, start, Reading}
 use Rattle.xlsx_error.specs.declared.error.XlsxError.{XlsxError}
 use Rattle.xlsx_error.specs.declared.error.XlsxError.TheVariants.{OutOfMemory, Io, Xml, XmlEof}
-use Rattle.xlsx_sections.specs.Elements.{ElementReadFails}
-use Rattle.xlsx_sections.specs.PartSection.{always, inside_of, section_left}
-use Rattle.xlsx_sections.specs.Refusal.{ElementFails, plain, plain_told}
+use Rattle.xlsx_sections.specs.Words.{ElementReadFails, always, inside_of, section_left}
+use Rattle.xlsx_sections.specs.Words.{ElementFails, plain, plain_told}
 use Rattle.xlsx_sections.proofs.Refused.{told_weaker}
 use Rattle.xlsx_sections.proofs.SectionsRead.{same_tag}
 use Rattle.xlsx_formulas.specs.Formula.{sharing_of, with_sharing, formula_text}

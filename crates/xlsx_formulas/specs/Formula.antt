@@ -1,23 +1,18 @@
 -- The formulas of a sheet's cells. A formula element is seen by those that stand before it in the
 -- sheet, the latest first.
-use Rattle.std.specs.Prelude.{ℕ, ◌==◌, List, [], ◌∷◌, false, if◌then◌else◌}
-use Rattle.std.specs.Prelude.{codes, Option, Some, None, option_and_then, Result, Ok, Err}
+use Rattle.std.specs.Prelude.{ℕ, ◌==◌, List, [], ◌∷◌, false, if◌then◌else◌, codes, Option, Some}
+use Rattle.std.specs.Prelude.{None, option_and_then, Result, Ok, Err}
 use Rattle.std.specs.Str.{bytes_eq}
-use Rattle.attr_text.specs.Attributes.{lookup}
+use Rattle.attr_text.specs.Words.{lookup}
 use Rattle.attr_text.specs.declared.fault.AttrFault.{AttrFault}
-use Rattle.cell_refs.specs.A1.{area}
-use Rattle.cell_refs.specs.Positions.{is_in_area, area_with}
+use Rattle.cell_refs.specs.Words.{area, is_in_area, area_with}
 use Rattle.cell_refs.specs.declared.dimensions.Dimensions.{Dimensions}
 use Rattle.cell_refs.specs.declared.error.RefError.{RefError}
-use Rattle.formula_shift.specs.Relocation.{moved, offset_between}
-use Rattle.part_events.specs.Event.{Tag, Event}
-use Rattle.part_events.specs.Section.{Element, children, is_named}
-use Rattle.xlsx_sections.specs.Answers.{some_answers, with_two, with_three}
-use Rattle.xlsx_sections.specs.ElementText.{element_text}
-use Rattle.xlsx_sections.specs.NumberText.{number_text}
-use Rattle.xlsx_sections.specs.Refusal.{Refusal, plain, lookup_fault, misplaced, stray_child}
-use Rattle.xlsx_sections.specs.Refusal.{lacks_index}
-use Rattle.xlsx_sections.specs.Refusal.{wrong_index, in_element}
+use Rattle.formula_shift.specs.Words.{moved, offset_between}
+use Rattle.part_events.specs.Words.{Tag, Event, Element, children, is_named}
+use Rattle.xlsx_sections.specs.Words.{some_answers, with_two, with_three, element_text, number_text}
+use Rattle.xlsx_sections.specs.Words.{Refusal, plain, lookup_fault, misplaced, stray_child}
+use Rattle.xlsx_sections.specs.Words.{lacks_index, wrong_index, in_element}
 
 -- whose formula an element writes: its cell's alone, that of a group of this index and area, or one
 -- of a group's
@@ -80,7 +75,7 @@ covers_typed (Some typ) range =
     if bytes_eq typ (codes "array") then option_and_then (λ own. area_or_none (area own)) range
     else None
 
--- the same, by what was looked up at its start
+-- the area of an array, by what was looked up at the start of its formula
 abbrev pub covers_from : Result (List (Option (List ℕ))) AttrFault → Option Dimensions
 covers_from (Ok values) = with_two covers_typed None values
 covers_from (Err fault) = None
@@ -136,7 +131,7 @@ abbrev pub covers_with : Option Dimensions → Element → Option Dimensions
 covers_with latest child =
     if is_named (codes "f" ∷ []) child.tag then covers_of child.tag else latest
 
--- the same behind more children
+-- what the last `f` says that it covers, behind these children of its cell
 abbrev pub covers_along : Option Dimensions → List Element → Option Dimensions
 covers_along latest [] = latest
 covers_along latest (child ∷ others) = covers_along (covers_with latest child) others
@@ -195,7 +190,8 @@ cell_formula earlier position (found ∷ []) = formula_of earlier position found
 cell_formula earlier position (found ∷ next ∷ others) =
     cell_formula (found ∷ earlier) position (next ∷ others)
 
--- the same by its last `f` alone, if it has one, behind these
+-- the formula of the cell at a position, by its last `f` and the formulas before that; empty
+-- without one
 abbrev pub formula_of_last : List FormulaText → ℕ × ℕ → Option FormulaText → List ℕ
 formula_of_last earlier position None = []
 formula_of_last earlier position (Some found) = formula_of earlier position found

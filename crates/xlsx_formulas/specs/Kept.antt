@@ -10,14 +10,14 @@ use Rattle.xlsx_formulas.specs.Formula.{Sharing, own, master, derived, FormulaTe
 use Rattle.xlsx_formulas.specs.Formula.{master_of, moved_to}
 use Rattle.xlsx_formulas.specs.declared.cell_formula.CellFormula.{CellFormula}
 use Rattle.xlsx_formulas.specs.declared.cell_formula.CellFormula.TheVariants as cells
-use Rattle.xlsx_formulas.specs.declared.formula.Share.{Share}
-use Rattle.xlsx_formulas.specs.declared.formula.Share.TheVariants.{Own, Master, Derived}
+use Rattle.xlsx_formulas.specs.declared.formula.FormulaAttributes.{FormulaAttributes}
+use Rattle.xlsx_formulas.specs.declared.formula.FormulaAttributes.TheVariants.{Own, Master, Derived}
 use Rattle.xlsx_formulas.specs.declared.formula.Formula.{Formula}
-use Rattle.xlsx_formulas.specs.declared.masters.Masters.{Masters}
-use Rattle.xlsx_formulas.specs.declared.masters.Master as kept
+use Rattle.xlsx_formulas.specs.declared.shared_formulas.SharedFormulas.{SharedFormulas}
+use Rattle.xlsx_formulas.specs.declared.shared_formulas.Master as kept
 
 -- how a formula that is kept is shared
-abbrev pub sharing_seen : Share → Sharing
+abbrev pub sharing_seen : FormulaAttributes → Sharing
 sharing_seen Own = own
 sharing_seen (Master index area) = master index area
 sharing_seen (Derived index) = derived index
@@ -29,11 +29,11 @@ formula_seen formula = record {
   text = string_bytes formula.text;
 }
 
--- that of a cell's last `f`, if it has one
+-- the text and the sharing of a cell's last `f` as it is kept, if the cell has one
 abbrev pub last_seen : Option Formula → Option FormulaText
 last_seen last = option_map formula_seen last
 
--- what it says that it covers
+-- what a cell's last formula, as it is kept, says that it covers
 abbrev pub covers_seen : Option Formula → Option Dimensions
 covers_seen None = None
 covers_seen (Some formula) = formula.covers
@@ -43,11 +43,11 @@ abbrev pub group_seen : Rc kept.Master Global → GroupFormula
 group_seen found = record { text = (rc_value found).formula; corner = (rc_value found).corner }
 
 -- the formula that is kept of the group of an index
-abbrev pub masters_in : Masters → ℕ → Option GroupFormula
+abbrev pub masters_in : SharedFormulas → ℕ → Option GroupFormula
 masters_in masters index = option_map group_seen (get nat_cmp masters.groups index)
 
 -- the formulas that are kept are those of the last masters among these
-abbrev pub AreMasters : List FormulaText → Masters → Type 0
+abbrev pub AreMasters : List FormulaText → SharedFormulas → Type 0
 AreMasters earlier masters = (index : ℕ) → masters_in masters index ≡ master_of index earlier
 
 -- the text of a cell's formula: a derived one is that of its group, as it stands at the position

@@ -2,3 +2,4 @@ pub mod Described
 pub mod Formula
 pub mod Kept
 pub mod Refused
+pub mod Words

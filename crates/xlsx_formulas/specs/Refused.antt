@@ -3,14 +3,14 @@ use Rattle.std.specs.Prelude.{◌≡◌, ◌⊎◌, ⊤, codes}
 use Rattle.part_events.specs.declared.fault.XmlFault.TheVariants.{Break, Entity}
 use Rattle.xlsx_error.specs.declared.error.XlsxError.{XlsxError}
 use Rattle.xlsx_error.specs.declared.error.XlsxError.TheVariants.{OutOfMemory, Io, Xml, XmlAttr}
-use Rattle.xlsx_error.specs.declared.error.XlsxError.TheVariants.{XmlEof, Unexpected}
-use Rattle.xlsx_error.specs.declared.error.XlsxError.TheVariants.{Alphanumeric, DimensionCount}
+use Rattle.xlsx_error.specs.declared.error.XlsxError.TheVariants.{XmlEof, Unexpected, Alphanumeric}
+use Rattle.xlsx_error.specs.declared.error.XlsxError.TheVariants.{DimensionCount}
 use Rattle.xlsx_error.specs.declared.error.XlsxError.TheVariants.{RangeWithoutRowComponent}
 use Rattle.xlsx_error.specs.declared.error.XlsxError.TheVariants.{RangeWithoutColumnComponent}
 use Rattle.xlsx_error.specs.declared.error.XlsxError.TheVariants.{ColumnNumberOverflow}
 use Rattle.xlsx_error.specs.declared.error.XlsxError.TheVariants.{RowNumberOverflow}
 
--- those of its start
+-- the refusals that the start of a formula can have
 abbrev pub IsShareError : XlsxError → Type 0
 IsShareError (XmlAttr fault) = ⊤
 IsShareError (Unexpected text) =
@@ -24,7 +24,7 @@ IsShareError RowNumberOverflow = ⊤
 IsShareError (DimensionCount count) = ⊤
 IsShareError _ = ⊥
 
--- and those of all of it
+-- the refusals that reading a formula can have
 abbrev pub IsFormulaError : XlsxError → Type 0
 IsFormulaError Io = ⊤
 IsFormulaError OutOfMemory = ⊤

@@ -1,7 +1,7 @@
 ghost use Rattle.std.specs.Prelude.{◌≡◌, ◌==◌, length, string_bytes, IfOk};
 ghost use Rattle.xlsx_formulas.specs.Kept.{text_of_formula};
 
-use crate::masters::Master;
+use crate::shared_formulas::Master;
 use std::alloc::{AllocError, Global};
 use std::rc::Rc;
 

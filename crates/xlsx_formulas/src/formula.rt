@@ -1,11 +1,8 @@
 ghost use Rattle.std.specs.Prelude.{◌≡◌, ℕ, codes, true, Ok, Err, IfOk, IfErr};
-ghost use Rattle.part_events.specs.Event.{Tag, start, tag_of};
-ghost use Rattle.part_events.specs.Reading.{ahead, IsReadingElement, ReadsElement};
-ghost use Rattle.part_events.specs.Section.{content};
+ghost use Rattle.part_events.specs.Words.{Tag, start, tag_of, ahead, IsReadingElement};
+ghost use Rattle.part_events.specs.Words.{ReadsElement, content};
 ghost use Rattle.xlsx_error.specs.declared.error.XlsxError.TheVariants.{Io};
-ghost use Rattle.xlsx_sections.specs.Elements.{ElementReadFails};
-ghost use Rattle.xlsx_sections.specs.PartSection.{always};
-ghost use Rattle.xlsx_sections.specs.Refusal.{ElementFails};
+ghost use Rattle.xlsx_sections.specs.Words.{ElementReadFails, always, ElementFails};
 ghost use Rattle.xlsx_formulas.specs.Formula.{sharing_of, formula_text, covers_of};
 ghost use Rattle.xlsx_formulas.specs.Kept.{sharing_seen, formula_seen};
 ghost use Rattle.xlsx_formulas.specs.Refused.{IsShareError, IsFormulaError};
@@ -18,7 +15,7 @@ use xlsx_sections::{number_text, read_element_text, start_tag};
 
 /// Whose formula an `f` writes.
 #[derive(Clone, Copy, Debug, PartialEq, Eq)]
-pub enum Share {
+pub enum FormulaAttributes {
     /// Its cell's alone.
     Own,
     /// That of the group of this index, which is written for this area.
@@ -30,7 +27,7 @@ pub enum Share {
 /// A formula as its `f` writes it.
 #[derive(Debug, Drop)]
 pub struct Formula {
-    pub share: Share,
+    pub share: FormulaAttributes,
     /// The area of an array, where its `ref` names one, whether its cell lies there or not.
     pub covers: Option<Dimensions>,
     pub text: String,
@@ -41,7 +38,7 @@ pub struct Formula {
 ///
 /// A shared formula is refused as `Unexpected` where it has no `si`, or one that is no number of 64
 /// bits, and as its reference where `ref` names no area.
-pub fn share_of(tag: StartTag<'_>) -> Result<Share, XlsxError>
+pub fn share_of(tag: StartTag<'_>) -> Result<FormulaAttributes, XlsxError>
     ensures ok { IfOk result (λ share. sharing_of (tag_of tag.entry) ≡ Ok (sharing_seen share)) }
     ensures err { IfErr result (λ error. (at behind : ℕ) →
         ElementFails (sharing_of (tag_of tag.entry)) at behind error) }
@@ -49,7 +46,7 @@ pub fn share_of(tag: StartTag<'_>) -> Result<Share, XlsxError>
 {
     let (typ, index, range) = get_attrs!(tag, "t" => typ, "si" => index, "ref" => range)?;
     let Some("shared") = typ else {
-        return Ok(Share::Own);
+        return Ok(FormulaAttributes::Own);
     };
     let Some(index) = index else {
         return Err(XlsxError::Unexpected("si attribute is mandatory if it is shared"));
@@ -58,11 +55,11 @@ pub fn share_of(tag: StartTag<'_>) -> Result<Share, XlsxError>
         return Err(XlsxError::Unexpected("si attribute must be a number"));
     };
     match range {
-        Some(range) => Ok(Share::Master {
+        Some(range) => Ok(FormulaAttributes::Master {
             index,
             area: get_dimension(range)?,
         }),
-        None => Ok(Share::Derived { index }),
+        None => Ok(FormulaAttributes::Derived { index }),
     }
 }
 
@@ -94,7 +91,7 @@ pub fn read_formula<P: Package>(xml: &mut XlReader<P>) -> Result<Formula, XlsxEr
     requires element { IsReadingElement xml.old }
     ensures reads { ReadsElement Io result xml.old xml.new }
     ensures formula { let inside = content 0 (ahead xml.old) in
-        xml.old.source.is_told ≡ true → (tag : Tag) → start tag ≡ xml.old.source.current →
+        xml.old.source.is_visible ≡ true → (tag : Tag) → start tag ≡ xml.old.source.current →
         IfOk result (λ found. formula_text tag inside ≡ Ok (formula_seen found)) }
     ensures covers { (tag : Tag) → start tag ≡ xml.old.source.current →
         IfOk result (λ found. found.covers ≡ covers_of tag) }

@@ -1,10 +1,10 @@
 //! The formulas that cells write, those of shared groups among them (ECMA-376 part 1,
 //! section 18.3.1.40).
 //!
-//! Rooms: `formula` (an `f`, and whose formula it writes), `masters` (the groups of a sheet),
-//! `cell_formula` (a cell's formula, and its text), `covers` (the cells that have its values),
-//! `metadata` (what a formula tells with none of a group written out), `equality` (`==` and
-//! copies).
+//! Rooms: `formula` (an `f`, and whose formula it writes), `shared_formulas` (the groups of a
+//! sheet), `cell_formula` (a cell's formula, and its text), `covers` (the cells that have its
+//! values), `metadata` (what a formula tells with none of a group written out), `equality` (`==`
+//! and copies).
 //!
 //! **A formula is seen by those that stand before it in the sheet**, the latest first. `master_of`
 //! looks back to the last master of an index, and `formula_of` is a formula's text by it. The code
@@ -28,12 +28,12 @@ mod cell_formula;
 mod covers;
 mod equality;
 mod formula;
-mod masters;
 mod metadata;
+mod shared_formulas;
 
 pub use cell_formula::CellFormula;
 pub use covers::covered_area;
 pub use equality::{copies_are_the_same, equality_is_by_all_fields};
-pub use formula::{Formula, Share, covers_of, read_formula, share_of};
-pub use masters::{Master, Masters};
+pub use formula::{Formula, FormulaAttributes, covers_of, read_formula, share_of};
 pub use metadata::{XlsxFormulaMetadata, metadata_of};
+pub use shared_formulas::{Master, SharedFormulas};

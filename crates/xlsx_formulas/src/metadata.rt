@@ -2,7 +2,7 @@ ghost use Rattle.std.specs.Prelude.{◌≡◌, option_map, IfOk};
 ghost use Rattle.xlsx_formulas.specs.Kept.{last_seen};
 ghost use Rattle.xlsx_formulas.specs.Described.{description_seen, group_of, described};
 
-use crate::formula::{Formula, Share};
+use crate::formula::{Formula, FormulaAttributes};
 use cell_refs::Dimensions;
 use std::alloc::{AllocError, Global};
 
@@ -72,18 +72,18 @@ pub fn metadata_of(last: Option<Formula>) -> Option<XlsxFormulaMetadata>
 {
     let Formula { share, text, .. } = last?;
     match share {
-        Share::Own => {
+        FormulaAttributes::Own => {
             if text.is_empty() {
                 return None;
             }
             Some(XlsxFormulaMetadata::Normal { formula: text })
         }
-        Share::Master { index, area } => Some(XlsxFormulaMetadata::Shared {
+        FormulaAttributes::Master { index, area } => Some(XlsxFormulaMetadata::Shared {
             shared_index: index as usize,
             range: Some(area),
             formula: text,
         }),
-        Share::Derived { index } => Some(XlsxFormulaMetadata::SharedDerived {
+        FormulaAttributes::Derived { index } => Some(XlsxFormulaMetadata::SharedDerived {
             shared_index: index as usize,
         }),
     }

@@ -1,6 +1,6 @@
 -- What is found is put behind what was kept, part by part.
-use Rattle.std.proofs.Common.{◌≡◌, ◌+◌, List, [], ◌∷◌, ◌++◌, refl, sym, ap}
-use Rattle.std.proofs.Common.{◌∙◌, arith, inl, inr, append_assoc, append-nil, length-append}
+use Rattle.std.proofs.Common.{◌≡◌, ◌+◌, List, [], ◌∷◌, ◌++◌, refl, sym, ap, ◌∙◌, arith, inl, inr}
+use Rattle.std.proofs.Common.{append_assoc, append-nil, length-append}
 use Rattle.xlsx_graph.specs.Naming.{Found, nothing_found, both_found, areas_weight, weight}
 use Rattle.xlsx_graph.specs.Kept.{Kept, Adds, IsBeyond, WhenTooLarge}
 use Rattle.xlsx_graph.specs.declared.error.NamingError.{NamingError}

@@ -3,7 +3,7 @@ use Rattle.std.proofs.Common.{◌≡◌, ◌∙◌, ◌&&◌, ℕ, zero, suc, Li
 use Rattle.std.specs.Prelude.{if◌then◌else◌}
 use Rattle.formula_tokens.specs.Items.{PlaceText, NamedText, ItemText, says, calls, opens, closes}
 use Rattle.formula_tokens.specs.Items.{colon, apart, unread}
-use Rattle.xlsx_graph.specs.Naming.{Found, found_along, item_found, items_within, range_found}
+use Rattle.xlsx_graph.specs.Naming.{Found, found_along, item_found, items_belonging, range_found}
 use Rattle.xlsx_graph.specs.Naming.{ranged, ranged_on, place_alone, closes_next, is_place_asked}
 use Rattle.xlsx_graph.specs.Naming.{before_next, both_found}
 use Rattle.xlsx_graph.specs.declared.before.Before.{Before}
@@ -60,7 +60,7 @@ along_agrees find other call answer before (suc skip) (i ∷ is) agree =
 along_agrees find other call answer before zero (i ∷ is) agree =
     ap
     (λ x. both_found x
-    (found_along find call (before_next before i) (items_within i is) is))
+    (found_along find call (before_next before i) (items_belonging i is) is))
     (item_agrees find other call answer before i is agree.0 agree.1)
     ∙ ap (both_found (item_found other answer before i is))
-    (along_agrees find other call answer (before_next before i) (items_within i is) is agree.1)
+    (along_agrees find other call answer (before_next before i) (items_belonging i is) is agree.1)

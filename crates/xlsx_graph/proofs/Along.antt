@@ -1,16 +1,14 @@
 -- What is found along items is that of the first and that of those behind it.
-use Rattle.std.proofs.Common.{◌≡◌, ℕ, zero, suc, ◌-◌, ◌<◌, List, [], ◌∷◌, drop, refl, sym, ap}
-use Rattle.std.proofs.Common.{◌∙◌, arith, Bool, subst}
+use Rattle.std.proofs.Common.{◌≡◌, ℕ, zero, suc, ◌-◌, ◌<◌, List, [], ◌∷◌, drop, refl, sym, ap, ◌∙◌}
+use Rattle.std.proofs.Common.{arith, Bool, subst, length, false}
 use Rattle.formula_tokens.specs.Items.{PlaceText, NamedText, ItemText, says, calls, opens, closes}
-use Rattle.formula_tokens.specs.Items.{colon, apart, unread, items}
+use Rattle.formula_tokens.specs.Items.{colon, apart, unread, formula_items}
 use Rattle.book_names.specs.Book.{Book}
-use Rattle.xlsx_graph.specs.Naming.{Found, found_along, found_within, item_found, items_within}
+use Rattle.xlsx_graph.specs.Naming.{Found, found_along, found_within, item_found, items_belonging}
 use Rattle.xlsx_graph.specs.Naming.{before_next, both_found, mention_found, function_found}
 use Rattle.xlsx_graph.specs.Naming.{word_found, named_in}
-use Rattle.xlsx_graph.specs.Kept.{none_open}
+use Rattle.xlsx_graph.specs.Kept.{none_open, Kept, Adds, IsBeyond, WhenTooLarge}
 use Rattle.xlsx_graph.specs.declared.named.Standing.{Standing}
-use Rattle.std.proofs.Common.{length, false}
-use Rattle.xlsx_graph.specs.Kept.{Kept, Adds, IsBeyond, WhenTooLarge}
 use Rattle.xlsx_graph.specs.declared.error.NamingError.{NamingError}
 use Rattle.xlsx_graph.specs.declared.error.NamingError.TheVariants.{TooLarge, OutOfMemory}
 use Rattle.xlsx_graph.specs.declared.named.Cause.TheVariants.{Endless}
@@ -39,11 +37,11 @@ pub along_step : (find : PlaceText → NamedText → Found) (call : PlaceText �
     (before : Before) (i : ItemText) (is : List ItemText) →
     found_along find call before 0 (i ∷ is)
     ≡ both_found (item_found find call before i is)
-    (found_along find call (before_next before i) 0 (drop (items_within i is) is))
+    (found_along find call (before_next before i) 0 (drop (items_belonging i is) is))
 unfolding found_along
 along_step find call before (says p n) is =
     ap (both_found (item_found find call before (says p n) is))
-    (along_behind find call (items_within (says p n) is) is)
+    (along_behind find call (items_belonging (says p n) is) is)
 along_step find call before (calls p w) is = refl
 along_step find call before opens is = refl
 along_step find call before closes is = refl
@@ -71,7 +69,7 @@ counts_start find call before is k whole e = record {
 pub counts_step : (find : PlaceText → NamedText → Found) (call : PlaceText → List ℕ → Found)
     (before : Before) (i : ItemText) (all is rest : List ItemText) (start now new : Kept)
     (whole : Found) → Counts find call before all start now whole → all ≡ i ∷ is →
-    Adds now new (item_found find call before i is) → rest ≡ drop (items_within i is) is →
+    Adds now new (item_found find call before i is) → rest ≡ drop (items_belonging i is) is →
     Counts find call (before_next before i) rest start new whole
 counts_step find call before i all is rest start now new whole counts e adds behind =
     let sum : found_along find call before 0 all
@@ -111,7 +109,7 @@ counts_end find call before all start now whole counts e =
 pub text_along : (turns : ℕ) (book : Book) (r : Reader) (opened : List Bool) (text : List ℕ) →
     0 < turns → found_within turns book r opened text
     ≡ found_along (mention_found (turns - 1) book r opened)
-    (function_found (turns - 1) book r opened) AnyOther 0 (items text)
+    (function_found (turns - 1) book r opened) AnyOther 0 (formula_items text)
 unfolding found_within
 text_along zero book r opened text lt = absurd (omega (arith, lt))
 text_along (suc turns) book r opened text lt =
@@ -125,7 +123,7 @@ pub text_step : (turns : ℕ) (book : Book) (r : Reader) (opened own : List Bool
     Counts (mention_found turns book r opened) (function_found turns book r opened) before all
     start now whole → all ≡ i ∷ is →
     Adds now new (item_found (mention_found turns book r own) (function_found turns book r own)
-    before i is) → rest ≡ drop (items_within i is) is → next ≡ before_next before i →
+    before i is) → rest ≡ drop (items_belonging i is) is → next ≡ before_next before i →
     Counts (mention_found turns book r opened) (function_found turns book r opened) next rest
     start new whole
 text_step turns book r opened own before next i all is rest start now new whole same counts e

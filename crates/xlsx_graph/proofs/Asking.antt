@@ -1,6 +1,6 @@
 -- Which formulas ask for the value of a cell.
-use Rattle.std.proofs.Common.{◌≡◌, ◌∙◌, ℕ, zero, suc, ◌<◌, ◌≤◌, Bool, false, List, [], ◌∷◌}
-use Rattle.std.proofs.Common.{◌||◌, ap, arith, get_or, length, map, refl, sym, inl, inr}
+use Rattle.std.proofs.Common.{◌≡◌, ◌∙◌, ℕ, zero, suc, ◌<◌, ◌≤◌, Bool, false, List, [], ◌∷◌, ◌||◌}
+use Rattle.std.proofs.Common.{ap, arith, get_or, length, map, refl, sym, inl, inr}
 use Rattle.std.specs.Prelude.{Some}
 use Rattle.std.specs.List.{list_any, range_with_len, slice_get}
 use Rattle.std.proofs.lemmas.Bool.{cases_lt}
@@ -8,12 +8,12 @@ use Rattle.std.proofs.lemmas.List.FromFn.{get_or-map-range_with_len, length-map-
 use Rattle.std.proofs.Math.ListN.{get_or-eq_default}
 use Rattle.calculation_order.proofs.InRounds.{filter_same}
 use Rattle.calculation_order.specs.Edges.{dependents_of, depends_on, numbers_below, reached}
-use Rattle.xlsx_graph.specs.Graph.{GraphFormula, asks_at, asks_for, dependents_at, needed}
+use Rattle.xlsx_graph.specs.Graph.{GraphFormula, asks_for_cell, asks_for, dependents_at, needed}
 use Rattle.xlsx_graph.specs.declared.named.Standing.{Standing}
 
 -- the formula of a number
 pub asks_own : (s : Standing) (fs : List GraphFormula) (n : ℕ) (f : GraphFormula)
-    → slice_get fs n ≡ Some f → asks_at s fs n ≡ asks_for s f
+    → slice_get fs n ≡ Some f → asks_for_cell s fs n ≡ asks_for s f
 asks_own s [] n f at = absurd (cc)
 asks_own s (g ∷ gs) zero f at = let e : g ≡ f = cc in ap (asks_for s) e
 asks_own s (g ∷ gs) (suc n) f at = asks_own s gs n f at
@@ -26,22 +26,23 @@ formula_at (g ∷ gs) (suc n) within = formula_at gs n (omega arith)
 
 -- none behind the last
 asks_none : (s : Standing) (fs : List GraphFormula) (n : ℕ) → length fs ≤ n
-    → asks_at s fs n ≡ false
+    → asks_for_cell s fs n ≡ false
 asks_none s [] n past = refl
 asks_none s (g ∷ gs) zero past = absurd (omega arith)
 asks_none s (g ∷ gs) (suc n) past = asks_none s gs n (omega arith)
 
 -- a list of all answers has each
 pub asking_at : (s : Standing) (fs : List GraphFormula) (count n : ℕ) (asking : List Bool)
-    → count ≡ length fs → asking ≡ map (asks_at s fs) (range_with_len 0 count)
-    → get_or asking n false ≡ asks_at s fs n
+    → count ≡ length fs → asking ≡ map (asks_for_cell s fs) (range_with_len 0 count)
+    → get_or asking n false ≡ asks_for_cell s fs n
 asking_at s fs count n asking size is =
     elim (cases_lt n count) [
       | inl below ↦ ap (λ bs. get_or bs n false) is
-          ∙ get_or-map-range_with_len (asks_at s fs) 0 count n n false below (omega arith)
-      | inr past ↦ (let long = length-map-range_with_len (asks_at s fs) 0 count in
+          ∙ get_or-map-range_with_len (asks_for_cell s fs) 0 count n n false below (omega arith)
+      | inr past ↦ (let long = length-map-range_with_len (asks_for_cell s fs) 0 count in
           ap (λ bs. get_or bs n false) is
-          ∙ get_or-eq_default (map (asks_at s fs) (range_with_len 0 count)) false (omega arith)
+          ∙ get_or-eq_default (map (asks_for_cell s fs) (range_with_len 0 count)) false
+          (omega arith)
           ∙ sym (asks_none s fs n (omega arith)))
     ]
 
@@ -60,6 +61,6 @@ dependents_same p q edges same =
 
 -- so do those of a cell
 pub dependents_are : (p : ℕ → Bool) (s : Standing) (fs : List GraphFormula)
-    → ((n : ℕ) → p n ≡ asks_at s fs n) → dependents_of p (needed fs) ≡ dependents_at fs s
+    → ((n : ℕ) → p n ≡ asks_for_cell s fs n) → dependents_of p (needed fs) ≡ dependents_at fs s
 unfolding dependents_at
-dependents_are p s fs same = dependents_same p (asks_at s fs) (needed fs) same
+dependents_are p s fs same = dependents_same p (asks_for_cell s fs) (needed fs) same

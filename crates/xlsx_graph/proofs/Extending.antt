@@ -2,11 +2,11 @@
 use Rattle.std.proofs.Common.{◌≡◌, ◌∙◌, [], ◌++◌, sym, ap, append_assoc, append-nil}
 use Rattle.std.specs.Prelude.{Result, Ok, Err, OnErr}
 use Rattle.xlsx_graph.specs.Naming.{Found}
-use Rattle.xlsx_graph.specs.Kept.{Kept, Adds, Extends}
+use Rattle.xlsx_graph.specs.Kept.{Kept, Adds, KeepsInFront}
 
 -- the same areas and words are kept, and the same names are open
 pub extends_same : (old new : Kept) → new.areas ≡ old.areas → new.words ≡ old.words →
-    new.opened ≡ old.opened → Extends old new
+    new.opened ≡ old.opened → KeepsInFront old new
 extends_same old new areas words opened = record {
   more_areas = [];
   more_words = [];
@@ -16,7 +16,7 @@ extends_same old new areas words opened = record {
 }
 
 -- what was found is behind what was kept
-pub extends_by : (old new : Kept) (f : Found) → Adds old new f → Extends old new
+pub extends_by : (old new : Kept) (f : Found) → Adds old new f → KeepsInFront old new
 extends_by old new f adds = record {
   more_areas = f.areas;
   more_words = f.words;
@@ -26,7 +26,7 @@ extends_by old new f adds = record {
 }
 
 -- one step behind the other
-pub extends_on : (a b c : Kept) → Extends a b → Extends b c → Extends a c
+pub extends_on : (a b c : Kept) → KeepsInFront a b → KeepsInFront b c → KeepsInFront a c
 extends_on a b c first second = record {
   more_areas = first.more_areas ++ second.more_areas;
   more_words = first.more_words ++ second.more_words;

@@ -1,31 +1,29 @@
 -- Formulas that are gathered: what each of them names stays where it is as more is found.
 use Rattle.std.proofs.Common.{◌≡◌, ◌∙◌, ℕ, ◌+◌, ◌-◌, ◌≤◌, ◌<◌, Bool, true, false, List, [], ◌∷◌}
 use Rattle.std.proofs.Common.{◌++◌, ap, arith, drop, inl, inr, length, map, refl, sym, take, get_or}
-use Rattle.std.specs.Prelude.{◌&&◌, ◌^◌, nat_le, min, option_map, replicate}
-use Rattle.std.specs.Prelude.{Option, Some, sum_by}
+use Rattle.std.specs.Prelude.{◌&&◌, ◌^◌, nat_le, min, option_map, replicate, Option, Some, sum_by}
 use Rattle.std.specs.List.{list_all, slice_get, slice_range}
 use Rattle.std.proofs.lemmas.Bool.{and_from, and_parts, le-leb, leb-true, lt-ltb, or_left, or_right}
 use Rattle.std.proofs.lemmas.Bool.{le-ltb, or_from}
-use Rattle.std.proofs.lemmas.List.{drop-append-le, length-append}
-use Rattle.std.proofs.lemmas.List.{drop-map, length-drop, map-append, take-append-le, take-map}
+use Rattle.std.proofs.lemmas.List.{drop-append-le, length-append, drop-map, length-drop, map-append}
+use Rattle.std.proofs.lemmas.List.{take-append-le, take-map}
 use Rattle.std.proofs.lemmas.Option.{same_Some, slice_get-map, slice_get_read}
 use Rattle.std.proofs.lemmas.List.Folds.{list_all-append}
 use Rattle.std.proofs.lemmas.List.Sums.{sum_by-append, sum_by-cons}
 use Rattle.std.proofs.Math.Seq.{drop-append_seam, take-length}
-use Rattle.cell_refs.specs.Dimensions.{cell_count}
+use Rattle.cell_refs.specs.Words.{cell_count}
 use Rattle.xlsx_graph.specs.Gathered.{AreGathered, Gathered, Gathers, IsMeasured, IsOver, Stays}
 use Rattle.xlsx_graph.specs.Gathered.{formula_in, gathered_of, is_too_large, lies_among}
-use Rattle.xlsx_graph.specs.Gathered.{lies_in_areas, nothing_gathered}
-use Rattle.xlsx_graph.specs.Gathered.{total_covered, total_named, total_read}
+use Rattle.xlsx_graph.specs.Gathered.{lies_in_areas, nothing_gathered, total_covered, total_named}
+use Rattle.xlsx_graph.specs.Gathered.{total_read}
 use Rattle.xlsx_graph.specs.Graph.{GraphFormula}
-use Rattle.xlsx_graph.specs.Kept.{Adds, Extends, Kept}
+use Rattle.xlsx_graph.specs.Kept.{Adds, KeepsInFront, Kept}
 use Rattle.xlsx_graph.specs.Naming.{Found, OpenText, weight}
 use Rattle.xlsx_graph.specs.Told.{open_told}
 use Rattle.xlsx_graph.specs.declared.named.BookArea.{BookArea}
 use Rattle.xlsx_graph.specs.declared.named.OpenWord.{OpenWord}
 use Rattle.xlsx_graph.specs.declared.workbook_graph.Placed.{Placed}
-use Rattle.xlsx_graph.specs.declared.workbook_graph.TheConstants.{MAX_COVERED, MAX_NAMED}
-use Rattle.xlsx_graph.specs.declared.workbook_graph.TheConstants.{MAX_READ}
+use Rattle.xlsx_graph.specs.declared.workbook_graph.TheConstants.{MAX_COVERED, MAX_NAMED, MAX_READ}
 
 -- a part of a list stays as more stands behind the list
 part_stays : {X : Type 0} (xs ys : List X) (a b : ℕ) → a ≤ b → b ≤ length xs
@@ -94,16 +92,16 @@ all_more a b words more (p ∷ ps) areas_more words_more is =
     and_from _ _ (lies_more a b words more p areas_more words_more parts.0)
     (all_more a b words more ps areas_more words_more parts.1)
 
-extends_areas : (old new : Kept) → Extends old new → length old.areas ≤ length new.areas
+extends_areas : (old new : Kept) → KeepsInFront old new → length old.areas ≤ length new.areas
 extends_areas old new more =
     let size = ap length more.areas ∙ length-append old.areas more.more_areas in omega arith
 
-extends_words : (old new : Kept) → Extends old new → length old.words ≤ length new.words
+extends_words : (old new : Kept) → KeepsInFront old new → length old.words ≤ length new.words
 extends_words old new more =
     let size = ap length more.words ∙ length-append old.words more.more_words in omega arith
 
 -- what is known stays as more is found
-pub gathered_more : (old new : Kept) (placed : List Placed) (covered : ℕ) → Extends old new
+pub gathered_more : (old new : Kept) (placed : List Placed) (covered : ℕ) → KeepsInFront old new
     → AreGathered old placed covered → AreGathered new placed covered
 gathered_more old new placed covered more are = record {
   within = all_more (length old.areas) (length new.areas) (length old.words) (length new.words)
@@ -113,7 +111,7 @@ gathered_more old new placed covered more are = record {
   most = are.most;
 }
 
-formula_stays : (old new : Kept) (p : Placed) → Extends old new
+formula_stays : (old new : Kept) (p : Placed) → KeepsInFront old new
     → lies_among (length old.areas) (length old.words) p ≡ true
     → formula_in new.areas new.words p ≡ formula_in old.areas old.words p
 formula_stays old new p more is =
@@ -138,7 +136,7 @@ formula_stays old new p more is =
     ∙ ap (with (slice_range old.areas p.areas.0 p.areas.1)) same_words
 
 -- and the formulas stay
-pub formulas_stay : (old new : Kept) (placed : List Placed) → Extends old new
+pub formulas_stay : (old new : Kept) (placed : List Placed) → KeepsInFront old new
     → list_all (lies_among (length old.areas) (length old.words)) placed ≡ true
     → map (formula_in new.areas new.words) placed ≡ map (formula_in old.areas old.words) placed
 formulas_stay old new [] more is = refl
@@ -175,7 +173,7 @@ formula_new old new p f adds is =
     ap (λ x. with x (slice_range new.words p.words.0 p.words.1) p.read) areas
     ∙ ap (λ x. with f.areas x p.read) words ∙ ap (with f.areas f.words) read
 
-placed_lies : (old new : Kept) (p : Placed) → Extends old new → IsPlaced old new p
+placed_lies : (old new : Kept) (p : Placed) → KeepsInFront old new → IsPlaced old new p
     → lies_among (length new.areas) (length new.words) p ≡ true
 placed_lies old new p more is =
     let areas_more = extends_areas old new more in
@@ -193,7 +191,7 @@ placed_lies old new p more is =
 
 -- what is known of one formula more
 pub gathered_one : (old new : Kept) (placed : List Placed) (p : Placed) (covered left : ℕ)
-    → Extends old new → IsPlaced old new p → left ≤ covered → AreGathered old placed covered
+    → KeepsInFront old new → IsPlaced old new p → left ≤ covered → AreGathered old placed covered
     → AreGathered new (placed ++ p ∷ []) left
 gathered_one old new placed p covered left more is less are =
     let kept = gathered_more old new placed covered more are in
@@ -207,7 +205,7 @@ gathered_one old new placed p covered left more is less are =
 
 -- the formulas with one more
 pub formulas_one : (old new : Kept) (placed : List Placed) (p : Placed) (f : Found)
-    → Extends old new → Adds old new f → IsPlaced old new p
+    → KeepsInFront old new → Adds old new f → IsPlaced old new p
     → list_all (lies_among (length old.areas) (length old.words)) placed ≡ true
     → map (formula_in new.areas new.words) (placed ++ p ∷ [])
     ≡ map (formula_in old.areas old.words) placed
@@ -223,7 +221,7 @@ formulas_one old new placed p f more adds is within =
 
 -- the formulas stay where more is found than is kept
 pub stays_now : (old new : Kept) (placed : List Placed) (covered left : ℕ) (was : Gathered)
-    → gathered_of old placed covered ≡ was → Extends old new → AreGathered old placed covered
+    → gathered_of old placed covered ≡ was → KeepsInFront old new → AreGathered old placed covered
     → Stays was (gathered_of new placed left)
 stays_now old new placed covered left was is more are = record {
   formulas = formulas_stay old new placed more are.within ∙ ap (λ (g : Gathered). g.formulas) is;
@@ -232,7 +230,7 @@ stays_now old new placed covered left was is more are = record {
 
 -- one more formula is gathered
 pub gathers_now : (old new : Kept) (placed : List Placed) (p : Placed) (covered cells : ℕ)
-    (was : Gathered) (f : Found) → gathered_of old placed covered ≡ was → Extends old new
+    (was : Gathered) (f : Found) → gathered_of old placed covered ≡ was → KeepsInFront old new
     → AreGathered old placed covered → Adds old new f → IsPlaced old new p → cells ≤ covered
     → cells ≡ cell_count p.covers
     → Gathers was (gathered_of new (placed ++ p ∷ []) (covered - cells))

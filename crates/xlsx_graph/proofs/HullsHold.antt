@@ -1,8 +1,8 @@
 -- Hulls have what the formulas under their forks cover, and lie inside of each: so an area that is
 -- apart from a hull meets none of these, and one that meets its inside meets each.
-use Rattle.std.proofs.Common.{◌≡◌, ◌∙◌, inl, inr, ℕ, zero, suc, ◌+◌, ◌*◌, ◌<◌, ◌≤◌, true}
-use Rattle.std.proofs.Common.{false, List, [], ◌∷◌, ◌++◌, cond, refl, sym, ap, subst, arith, length}
-use Rattle.std.proofs.Common.{min, max, filter, set, ◌-◌}
+use Rattle.std.proofs.Common.{◌≡◌, ◌∙◌, inl, inr, ℕ, zero, suc, ◌+◌, ◌*◌, ◌<◌, ◌≤◌, true, false}
+use Rattle.std.proofs.Common.{List, [], ◌∷◌, ◌++◌, cond, refl, sym, ap, subst, arith, length, min}
+use Rattle.std.proofs.Common.{max, filter, set, ◌-◌}
 use Rattle.std.specs.Prelude.{◌&&◌, nat_le, Option, None, Some, option_to_list}
 use Rattle.std.specs.List.{slice_get}
 use Rattle.std.proofs.lemmas.Bool.{leb-true, le-leb, and_parts, and_from, false_from_ne_true}
@@ -11,8 +11,8 @@ use Rattle.std.proofs.lemmas.List.Folds.{list_all-append}
 use Rattle.xlsx_graph.specs.Graph.{do_meet, has_sheet}
 use Rattle.xlsx_graph.specs.Hulls.{may_meet, meets_all, corners_of, joined_hull}
 use Rattle.xlsx_graph.specs.Tree.{meets, meets_at, has_corners, has_corners_at, lie_between}
-use Rattle.xlsx_graph.specs.Tree.{is_hull, lies_inside}
-use Rattle.xlsx_graph.specs.Tree.{under, fork_count, AreNumbers, IsHullOf, AreHullsFrom, leaf_at}
+use Rattle.xlsx_graph.specs.Tree.{is_hull, lies_inside, under, fork_count, AreNumbers, IsHullOf}
+use Rattle.xlsx_graph.specs.Tree.{AreHullsFrom, leaf_at}
 use Rattle.xlsx_graph.specs.declared.hulls.Hull.{Hull}
 use Rattle.xlsx_graph.specs.declared.named.BookArea.{BookArea}
 use Rattle.cell_refs.specs.declared.dimensions.Dimensions.{Dimensions}

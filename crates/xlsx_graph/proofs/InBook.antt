@@ -1,6 +1,6 @@
 -- What is looked up on sheets of the workbook is found on sheets of it.
-use Rattle.std.proofs.Common.{◌≡◌, ℕ, ◌+◌, ◌<◌, Bool, true, false, List, [], ◌∷◌, length}
-use Rattle.std.proofs.Common.{Option, Some, None, arith, refl, cond, ◌⊎◌, inl, inr}
+use Rattle.std.proofs.Common.{◌≡◌, ℕ, ◌+◌, ◌<◌, Bool, true, false, List, [], ◌∷◌, length, Option}
+use Rattle.std.proofs.Common.{Some, None, arith, refl, cond, ◌⊎◌, inl, inr}
 use Rattle.std.specs.Prelude.{if◌then◌else◌, position}
 use Rattle.std.specs.List.{position_from, slice_get}
 use Rattle.formula_tokens.specs.Items.{PlaceText, here, on_sheet, on_sheets, in_book, elsewhere}
@@ -8,18 +8,16 @@ use Rattle.formula_tokens.specs.Items.{NamedText, cells, lost_cells, name, table
 use Rattle.formula_tokens.specs.Tokens.{is_same_name}
 use Rattle.book_names.specs.Book.{Book, BookTable, sheet_numbered, table_numbered}
 use Rattle.book_names.specs.Structured.{AreaText, found, no_column, no_rows, not_read, table_area}
-use Rattle.xlsx_graph.specs.Naming.{SheetsText, from_to, unknown_sheet, other_file, sheets_of}
+use Rattle.xlsx_graph.specs.Naming.{SheetsText, from_to, unknown_sheet, other_file, sheets_of_place}
 use Rattle.xlsx_graph.specs.Naming.{one_sheet, two_sheets, HasSheets, IsInBook, MeaningText}
-use Rattle.xlsx_graph.specs.Naming.{means_nothing, name_or}
-use Rattle.xlsx_graph.specs.Naming.{word_on, in_numbered, in_table, table_meaning, open_on}
-use Rattle.xlsx_graph.specs.Naming.{cells_on}
-use Rattle.xlsx_graph.specs.Naming.{word_meaning, named_meaning, mention_meaning, is_span}
-use Rattle.xlsx_graph.specs.Naming.{function_meaning, is_computed, is_parameter, name_placed}
-use Rattle.xlsx_graph.specs.Naming.{corner_here, in_brackets, stands_in}
+use Rattle.xlsx_graph.specs.Naming.{means_nothing, name_or, word_on, in_numbered, in_table}
+use Rattle.xlsx_graph.specs.Naming.{table_meaning, open_on, cells_on, word_meaning, named_meaning}
+use Rattle.xlsx_graph.specs.Naming.{mention_meaning, is_span, function_meaning, is_computed}
+use Rattle.xlsx_graph.specs.Naming.{is_parameter, name_placed, corner_here, in_brackets, stands_in}
 use Rattle.xlsx_graph.specs.declared.named.Cause.{Cause}
 use Rattle.xlsx_graph.specs.declared.named.Cause.TheVariants.{NoName, NoTable, Computed}
 use Rattle.cell_refs.specs.declared.dimensions.Dimensions.{Dimensions}
-use Rattle.formula_shift.specs.Areas.{area_between}
+use Rattle.formula_shift.specs.Words.{area_between}
 use Rattle.xlsx_graph.specs.declared.reader.Reader.{Reader}
 
 chosen_number : (t : Bool) (k n : ℕ) (o : Option ℕ) → cond t (Some k) o ≡ Some n →
@@ -57,7 +55,7 @@ two_in book a b (Some m) (Some n) below = omega (arith, below m refl)
 
 -- the sheets of a place are the workbook's
 pub sheets_in : (book : Book) (sheet : ℕ) (place : PlaceText) → sheet < length book.sheets →
-    HasSheets book (sheets_of book sheet place)
+    HasSheets book (sheets_of_place book sheet place)
 sheets_in book sheet here lt = lt
 sheets_in book sheet in_book lt = lt
 sheets_in book sheet (on_sheet a) lt =
@@ -119,17 +117,17 @@ word_meaning_in : (book : Book) (r : Reader) (place : PlaceText) (w : List ℕ) 
 word_meaning_in book r place w lt =
     either_in book (is_parameter w) means_nothing _ tt
     (word_in book place w (in_numbered book r.cell.row NoName w [] (table_numbered book w))
-    (sheets_of book r.sheet place) (sheets_in book r.sheet place lt)
+    (sheets_of_place book r.sheet place) (sheets_in book r.sheet place lt)
     (numbered_in book r.cell.row NoName w [] (table_numbered book w)))
 
 named_in_book : (book : Book) (r : Reader) (place : PlaceText) (named : NamedText) →
     r.sheet < length book.sheets → IsInBook book (named_meaning book r place named)
 named_in_book book r place (cells a b) lt =
-    cells_in book (sheets_of book r.sheet place)
+    cells_in book (sheets_of_place book r.sheet place)
     (area_between (corner_here r a) (corner_here r b))
 named_in_book book r place lost_cells lt = tt
 named_in_book book r place (name w) lt =
-    either_in book (is_span place) _ _ (open_in book (sheets_of book r.sheet place) NoName w)
+    either_in book (is_span place) _ _ (open_in book (sheets_of_place book r.sheet place) NoName w)
     (word_meaning_in book r place w lt)
 named_in_book book r place (table w inside) lt =
     numbered_in book r.cell.row NoTable w inside (table_numbered book w)
@@ -150,6 +148,7 @@ mention_in_book book r (on_sheets a b) named lt = named_in_book book r (on_sheet
 pub function_in_book : (book : Book) (r : Reader) (place : PlaceText) (w : List ℕ) →
     r.sheet < length book.sheets → IsInBook book (function_meaning book r place w)
 function_in_book book r place w lt =
-    either_in book (is_computed w) _ _ (open_in book (sheets_of book r.sheet place) Computed w)
-    (word_in book place w means_nothing (sheets_of book r.sheet place)
+    either_in book (is_computed w) _ _ (open_in book (sheets_of_place book r.sheet place)
+    Computed w)
+    (word_in book place w means_nothing (sheets_of_place book r.sheet place)
     (sheets_in book r.sheet place lt) tt)

@@ -1,10 +1,9 @@
 -- A text in which an apostrophe keeps the byte behind it, cut at its first apostrophe.
 use Rattle.std.proofs.Common.{◌≡◌, ℕ, zero, suc, ◌+◌, ◌<◌, List, [], ◌∷◌, ◌++◌, length, take, drop}
 use Rattle.std.proofs.Common.{refl, sym, ap, ◌∙◌, arith, Bool, true, false, cond, ◌==◌, not}
-use Rattle.std.proofs.Common.{add-one}
+use Rattle.std.proofs.Common.{add-one, ◌≢◌, append_assoc, append-nil}
 use Rattle.std.specs.List.{position_or_len, before_first, after_first}
 use Rattle.std.proofs.lemmas.Bool.{eqb-true}
-use Rattle.std.proofs.Common.{◌≢◌, append_assoc, append-nil}
 use Rattle.formula_tokens.specs.Items.{kept_bytes}
 use Rattle.xlsx_graph.specs.Told.{is_apostrophe}
 

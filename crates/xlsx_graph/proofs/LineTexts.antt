@@ -7,15 +7,14 @@ use Rattle.std.specs.List.{after_first, before_first, position_or_len, slice_get
 use Rattle.std.proofs.lemmas.Bool.{cases_Bool}
 use Rattle.std.proofs.lemmas.Grind.{flat_map-append}
 use Rattle.book_names.specs.Book.{Book}
-use Rattle.cell_refs.specs.A1.{capitals_with_fuel}
+use Rattle.cell_refs.specs.Words.{capitals_with_fuel}
 use Rattle.escaped_text.proofs.Extending.{Extends-push, Extends-trans}
-use Rattle.escaped_text.specs.Escaped.{Extends, escaped, escaped_byte}
+use Rattle.escaped_text.specs.Escaped.{AddsBehind, escaped, escaped_byte}
 use Rattle.list_lines.specs.Fields.{next_field}
 use Rattle.xlsx_graph.proofs.Asking.{formula_at}
 use Rattle.xlsx_graph.specs.Graph.{GraphFormula}
 use Rattle.xlsx_graph.specs.GraphLines.{book_area_field, cell_text, doubled, graph_line}
-use Rattle.xlsx_graph.specs.GraphLines.{graph_lines}
-use Rattle.xlsx_graph.specs.GraphLines.{cell_numbered, one_of, open_field}
+use Rattle.xlsx_graph.specs.GraphLines.{graph_lines, cell_numbered, one_of, open_field}
 use Rattle.xlsx_graph.specs.Naming.{OpenText}
 use Rattle.xlsx_graph.specs.Told.{is_apostrophe}
 use Rattle.xlsx_graph.specs.declared.named.BookArea.{BookArea}
@@ -164,9 +163,9 @@ on_pushed (Err error) was now own told P follows = tt
 
 -- a text with one line more has what the text had in front
 pub line_extends : (book : Book) (fs : List GraphFormula) (n : ℕ) (start out new : List ℕ)
-    → n < length fs → Extends start out
+    → n < length fs → AddsBehind start out
     → ((f : GraphFormula) → slice_get fs n ≡ Some f → new ≡ out ++ graph_line book f)
-    → Extends start new
+    → AddsBehind start new
 line_extends book fs n start out new within before pushed =
     let found = formula_at fs n within in
     Extends-trans start out new before

@@ -3,11 +3,9 @@ use Rattle.std.proofs.Common.{◌≡◌, ◌∙◌, ℕ, zero, suc, ◌+◌, ◌
 use Rattle.std.proofs.Common.{List, [], ◌∷◌, ◌++◌, cond, refl, sym, ap, subst, arith, length, map}
 use Rattle.std.proofs.Common.{filter, flat_map, append-nil, inl, inr, zero-add}
 use Rattle.std.specs.Prelude.{◌&&◌, ◌||◌, ◌==◌, nat_lt, Option, Some, option_to_list, option_map}
-use Rattle.std.specs.List.{list_all, list_any, slice_get, slice_index_or}
-use Rattle.std.specs.List.{range_with_len}
-use Rattle.std.proofs.lemmas.Bool.{and_parts, and_from, or_left, or_right, cases_Bool}
-use Rattle.std.proofs.lemmas.Bool.{eq-eqb, lt-ltb, le-ltb, ltb-true, ltb-false, cond-true}
-use Rattle.std.proofs.lemmas.Bool.{cond-false}
+use Rattle.std.specs.List.{list_all, list_any, slice_get, slice_index_or, range_with_len}
+use Rattle.std.proofs.lemmas.Bool.{and_parts, and_from, or_left, or_right, cases_Bool, eq-eqb}
+use Rattle.std.proofs.lemmas.Bool.{lt-ltb, le-ltb, ltb-true, ltb-false, cond-true, cond-false}
 use Rattle.std.proofs.lemmas.Bool.{ne_eqb}
 use Rattle.std.proofs.lemmas.List.{length-map, length-append, get_or_append_left, get_or-append-add}
 use Rattle.std.proofs.lemmas.List.Folds.{list_any-append}
@@ -15,8 +13,8 @@ use Rattle.std.proofs.lemmas.List.FromFn.{length-map-range_with_len, get_or-map-
 use Rattle.std.proofs.lemmas.Option.{slice_get-map}
 use Rattle.calculation_order.proofs.Members.{in_filter, of_filter}
 use Rattle.calculation_order.specs.Edges.{is_number_of, needs_of, numbers_below}
-use Rattle.calculation_order.specs.Links.{Linked, members_within, members, leads_on}
-use Rattle.calculation_order.specs.Links.{lead_on_from, AreGrouped, AreLinked}
+use Rattle.calculation_order.specs.Links.{Linked, members_within, members, leads_on, lead_on_from}
+use Rattle.calculation_order.specs.Links.{AreGrouped, AreLinked}
 use Rattle.xlsx_graph.specs.Gathered.{formula_in}
 use Rattle.xlsx_graph.specs.Graph.{GraphFormula, needed, needs, numbers_needed}
 use Rattle.xlsx_graph.specs.Naming.{OpenText}

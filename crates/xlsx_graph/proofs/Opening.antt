@@ -1,21 +1,19 @@
 -- The text of a defined name is read while it is open.
-use Rattle.std.proofs.Common.{◌≡◌, ℕ, zero, suc, ◌+◌, Bool, true, false, List, [], ◌∷◌, ◌++◌}
-use Rattle.std.proofs.Common.{refl, sym, ap, ◌∙◌, arith, append-nil, get_or, set, length, inl, inr}
+use Rattle.std.proofs.Common.{◌≡◌, ℕ, zero, suc, ◌+◌, Bool, true, false, List, [], ◌∷◌, ◌++◌, refl}
+use Rattle.std.proofs.Common.{sym, ap, ◌∙◌, arith, append-nil, get_or, set, length, inl, inr, cond}
+use Rattle.std.proofs.Common.{nat_lt, not, ◌<◌, ◌≤◌, take, drop}
 use Rattle.std.specs.Prelude.{Some, None, map, position, slice_get, Result, Ok, Err, OnErr}
 use Rattle.std.specs.List.{position_or_len}
-use Rattle.std.proofs.Common.{cond, nat_lt, not}
 use Rattle.book_names.specs.declared.book.TableShape.{TableShape}
 use Rattle.book_names.specs.Told.{table_told}
 use Rattle.xlsx_graph.specs.declared.named.BookArea.{BookArea}
 use Rattle.xlsx_graph.specs.declared.named.Standing.{Standing}
-use Rattle.std.proofs.Common.{◌<◌, ◌≤◌, take, drop}
 use Rattle.book_names.specs.Book.{Book, BookName}
 use Rattle.xlsx_graph.specs.declared.reader.Reader.{Reader}
 use Rattle.xlsx_graph.specs.declared.named.Cause.TheVariants.{NoName, Endless}
-use Rattle.xlsx_graph.specs.Naming.{word_found, numbered_found, name_found, found_within}
-use Rattle.xlsx_graph.specs.Naming.{stands_in, unvalued}
-use Rattle.xlsx_graph.specs.Naming.{Found, nothing_found, read_more}
-use Rattle.xlsx_graph.specs.Kept.{Kept, Adds, Extends, Gives, IsBeyond, Opens}
+use Rattle.xlsx_graph.specs.Naming.{word_found, numbered_found, name_found, found_within, stands_in}
+use Rattle.xlsx_graph.specs.Naming.{unvalued, Found, nothing_found, read_more}
+use Rattle.xlsx_graph.specs.Kept.{Kept, Adds, KeepsInFront, Gives, IsBeyond, MarksOpen}
 use Rattle.xlsx_graph.specs.declared.error.NamingError.{NamingError}
 use Rattle.xlsx_graph.specs.declared.error.NamingError.TheVariants.{TooLarge, OutOfMemory}
 
@@ -26,10 +24,10 @@ closed_again [] n h = refl
 closed_again (x ∷ xs) zero h = ap (λ y. y ∷ xs) (sym h)
 closed_again (x ∷ xs) (suc n) h = ap (λ ys. x ∷ ys) (closed_again xs n h)
 
--- the bytes of a name's text are counted, and what it names is put behind what was kept
+-- a name's text is counted, and what it names is put behind what was kept
 pub adds_name : (a b c d e : Kept) (n bytes : ℕ) (f : Found) → get_or a.opened n false ≡ false →
-    Adds a b (read_more bytes nothing_found) → Opens b c n true → Adds c d f →
-    Opens d e n false → Adds a e (read_more bytes f)
+    Adds a b (read_more bytes nothing_found) → MarksOpen b c n true → Adds c d f →
+    MarksOpen d e n false → Adds a e (read_more bytes f)
 adds_name a b c d e n bytes f closed read opens adds closes = record {
   areas =
       closes.areas ∙ adds.areas
@@ -46,7 +44,7 @@ adds_name a b c d e n bytes f closed read opens adds closes = record {
 
 -- there is no room for what the text names
 pub beyond_name : (a b c : Kept) (n bytes : ℕ) (f : Found) →
-    Adds a b (read_more bytes nothing_found) → Opens b c n true → IsBeyond c f →
+    Adds a b (read_more bytes nothing_found) → MarksOpen b c n true → IsBeyond c f →
     IsBeyond a (read_more bytes f)
 beyond_name a b c n bytes f read opens (inl lt) =
     inl (omega (arith, opens.named, read.named, lt))
@@ -56,7 +54,7 @@ beyond_name a b c n bytes f read opens (inr lt) =
 -- so what the call answers that reads the text is what is answered of the name
 pub gives_name : {T : Type 0} (answer : Result T NamingError) (a b c d e : Kept) (n bytes : ℕ)
     (f : Found) → get_or a.opened n false ≡ false → Adds a b (read_more bytes nothing_found) →
-    Opens b c n true → Gives answer c d f → Opens d e n false →
+    MarksOpen b c n true → Gives answer c d f → MarksOpen d e n false →
     Gives answer a e (read_more bytes f)
 gives_name (Ok value) a b c d e n bytes f closed read opens gives closes =
     adds_name a b c d e n bytes f closed read opens gives closes
@@ -67,8 +65,8 @@ gives_name (Err OutOfMemory) a b c d e n bytes f closed read opens gives closes 
 -- and what was kept stands in front, with the same names open
 pub front_name : {T : Type 0} (answer : Result T NamingError) (a b c d e : Kept) (n bytes : ℕ) →
     get_or a.opened n false ≡ false → Adds a b (read_more bytes nothing_found) →
-    Opens b c n true → OnErr answer (Extends c d) → Opens d e n false →
-    OnErr answer (Extends a e)
+    MarksOpen b c n true → OnErr answer (KeepsInFront c d) → MarksOpen d e n false →
+    OnErr answer (KeepsInFront a e)
 front_name (Ok value) a b c d e n bytes closed read opens more closes = tt
 front_name (Err error) a b c d e n bytes closed read opens more closes = record {
   more_areas = more.more_areas;

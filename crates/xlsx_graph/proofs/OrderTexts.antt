@@ -1,7 +1,7 @@
 -- The lines of an order, formula by formula.
 use Rattle.std.proofs.Common.{◌≡◌, ◌∙◌, ℕ, ◌+◌, ◌<◌, ◌≤◌, ◌||◌, Bool, true, false, List, [], ◌∷◌}
-use Rattle.std.proofs.Common.{◌++◌, ap, append_assoc, append-nil, cond, filter, flat_map}
-use Rattle.std.proofs.Common.{get_or, length, map, not, refl, sym}
+use Rattle.std.proofs.Common.{◌++◌, ap, append_assoc, append-nil, cond, filter, flat_map, get_or}
+use Rattle.std.proofs.Common.{length, map, not, refl, sym}
 use Rattle.std.specs.Prelude.{Some}
 use Rattle.std.specs.List.{list_any, slice_get}
 use Rattle.std.proofs.Math.Bool.{or-false}
@@ -106,7 +106,8 @@ lines_by book fs order marks start middle new marked first second =
     ≡ filter (λ n. not (is_number_of order n)) (numbers_below (length (needed fs))) =
     filter_same (λ n. not (get_or marks n false)) (λ n. not (is_number_of order n))
     (numbers_below (length fs)) (λ n is. ap not (marked n (of_below (length fs) n is)))
-    ∙ ap (λ k. filter (λ n. not (is_number_of order n)) (numbers_below k)) (sym (count_needed fs)) in
+    ∙ ap (λ k. filter (λ n. not (is_number_of order n)) (numbers_below k))
+    (sym (count_needed fs)) in
     second ∙ ap (λ ns. middle ++ flat_map left ns) others
     ∙ ap (λ s. s ++ flat_map left
     (filter (λ n. not (is_number_of order n)) (numbers_below (length (needed fs))))) first

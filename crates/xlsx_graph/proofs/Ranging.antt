@@ -1,22 +1,19 @@
 -- What is found around colons is made a range.
-use Rattle.std.proofs.Common.{◌≡◌, ℕ, ◌+◌, ◌<◌, ◌≤◌, List, [], ◌∷◌, ◌++◌, length}
-use Rattle.std.proofs.Common.{◌-◌, take, drop, refl, sym, ap, ◌∙◌, arith, inl, inr}
-use Rattle.std.proofs.Common.{Bool, true, false, subst}
-use Rattle.std.proofs.Common.{append_assoc}
-use Rattle.std.proofs.Common.{Option, Some, None, ◌==◌, ◌&&◌, length-append}
-use Rattle.std.specs.Prelude.{codes, if◌then◌else◌}
+use Rattle.std.proofs.Common.{◌≡◌, ℕ, ◌+◌, ◌<◌, ◌≤◌, List, [], ◌∷◌, ◌++◌, length, ◌-◌, take, drop}
+use Rattle.std.proofs.Common.{refl, sym, ap, ◌∙◌, arith, inl, inr, Bool, true, false, subst}
+use Rattle.std.proofs.Common.{append_assoc, Option, Some, None, ◌==◌, ◌&&◌, length-append}
+use Rattle.std.specs.Prelude.{codes, if◌then◌else◌, map, Result, Ok, Err, OnOk, IfErr}
 use Rattle.std.proofs.lemmas.Bool.{eqb-true, eq-eqb}
 use Rattle.formula_tokens.specs.Items.{PlaceText, NamedText, ItemText, says, calls, opens, closes}
 use Rattle.formula_tokens.specs.Items.{colon, apart, unread}
 use Rattle.xlsx_graph.specs.Naming.{Found, weight, areas_weight, sheets_under, ranged, ranged_on}
 use Rattle.xlsx_graph.specs.Naming.{range_area, range_or_both, range_length, joined_areas}
-use Rattle.xlsx_graph.specs.Naming.{both_found, word_found, are_areas, joined_pair}
-use Rattle.xlsx_graph.specs.Kept.{Kept, Adds, IsBeyond, Spends, GivesBack, IsMark, IsRanging}
-use Rattle.std.specs.Prelude.{map, Result, Ok, Err, OnOk, IfErr}
-use Rattle.book_names.specs.Book.{Book}
-use Rattle.xlsx_graph.specs.Naming.{unvalued, place_alone, range_found, is_place_asked, closes_next}
+use Rattle.xlsx_graph.specs.Naming.{both_found, word_found, are_areas, joined_pair, unvalued}
+use Rattle.xlsx_graph.specs.Naming.{place_alone, range_found, is_place_asked, closes_next}
 use Rattle.xlsx_graph.specs.Naming.{mention_found}
+use Rattle.xlsx_graph.specs.Kept.{Kept, Adds, IsBeyond, Spends, GivesBack, TellsKept, IsRanging}
 use Rattle.xlsx_graph.specs.Kept.{WhenTooLarge, Gives}
+use Rattle.book_names.specs.Book.{Book}
 use Rattle.xlsx_graph.specs.declared.before.Before.{Before}
 use Rattle.xlsx_graph.specs.declared.error.NamingError.{NamingError}
 use Rattle.xlsx_graph.specs.declared.error.NamingError.TheVariants.{TooLarge, OutOfMemory}
@@ -28,7 +25,8 @@ use Rattle.xlsx_graph.proofs.Adding.{adds_both, beyond_first, beyond_second, wei
 
 -- two parts, the room of the first given back
 pub ranging : (kept first given now : Kept) (start middle : Mark) (a b : Found) →
-    IsMark start kept → Adds kept first a → IsMark middle first → GivesBack first given start →
+    TellsKept start kept → Adds kept first a → TellsKept middle first
+    → GivesBack first given start →
     Adds given now b → IsRanging kept middle now a b
 ranging kept first given now start middle a b begins one is_middle gives two = record {
   areas = two.areas ∙ ap (λ xs. xs ++ b.areas) (gives.areas ∙ one.areas);
@@ -153,7 +151,7 @@ pub weighs : (a b : Found) → Weighs a b
 weighs a b = weighs_by a b (range_area a b) refl
 
 -- there is no room for the second part, where the room of the first is given back
-pub beyond_end : (kept first given : Kept) (start : Mark) (a b : Found) → IsMark start kept →
+pub beyond_end : (kept first given : Kept) (start : Mark) (a b : Found) → TellsKept start kept →
     Adds kept first a → GivesBack first given start → IsBeyond given b → IsBeyond kept (ranged a b)
 beyond_end kept first given start a b begins one gives (inl lt) =
     let w = weighs a b in
@@ -216,10 +214,10 @@ pub record SoFar (find : PlaceText → NamedText → Found) (kept : Kept) (f : F
 -- one mention more is joined
 pub so_far_step : (find : PlaceText → NamedText → Found) (kept : Kept) (f : Found)
     (all rest behind : List ItemText) (now given pushed new : Kept) (start middle : Mark)
-    (p : PlaceText) (n : NamedText) → IsMark start kept → SoFar find kept f all rest now →
-    rest ≡ colon ∷ says p n ∷ behind → IsMark middle now → GivesBack now given start →
+    (p : PlaceText) (n : NamedText) → TellsKept start kept → SoFar find kept f all rest now →
+    rest ≡ colon ∷ says p n ∷ behind → TellsKept middle now → GivesBack now given start →
     Adds given pushed (find p n) →
-    ((k : Kept) (a b : Found) → IsMark start k → IsRanging k middle pushed a b →
+    ((k : Kept) (a b : Found) → TellsKept start k → IsRanging k middle pushed a b →
     Adds k new (ranged a b)) →
     SoFar find kept f all behind new
 so_far_step find kept f all rest behind now given pushed new start middle p n begins so_far e
@@ -235,7 +233,7 @@ so_far_step find kept f all rest behind now given pushed new start middle p n be
 -- there is no room for a mention
 pub so_far_beyond : (find : PlaceText → NamedText → Found) (kept : Kept) (f : Found)
     (all rest behind : List ItemText) (now given : Kept) (start : Mark)
-    (p : PlaceText) (n : NamedText) → IsMark start kept → SoFar find kept f all rest now →
+    (p : PlaceText) (n : NamedText) → TellsKept start kept → SoFar find kept f all rest now →
     rest ≡ colon ∷ says p n ∷ behind → GivesBack now given start →
     IsBeyond given (find p n) → IsBeyond kept (ranged_on find f all)
 so_far_beyond find kept f all rest behind now given start p n begins so_far e gives beyond =
@@ -246,10 +244,10 @@ so_far_beyond find kept f all rest behind now given start p n begins so_far e gi
 -- there is no room for the range of a mention
 pub so_far_joins_beyond : (find : PlaceText → NamedText → Found) (kept : Kept) (f : Found)
     (all rest behind : List ItemText) (now given pushed : Kept) (start middle : Mark)
-    (p : PlaceText) (n : NamedText) → IsMark start kept → SoFar find kept f all rest now →
-    rest ≡ colon ∷ says p n ∷ behind → IsMark middle now → GivesBack now given start →
+    (p : PlaceText) (n : NamedText) → TellsKept start kept → SoFar find kept f all rest now →
+    rest ≡ colon ∷ says p n ∷ behind → TellsKept middle now → GivesBack now given start →
     Adds given pushed (find p n) →
-    ((k : Kept) (a b : Found) → IsMark start k → IsRanging k middle pushed a b →
+    ((k : Kept) (a b : Found) → TellsKept start k → IsRanging k middle pushed a b →
     IsBeyond k (ranged a b)) → IsBeyond kept (ranged_on find f all)
 so_far_joins_beyond find kept f all rest behind now given pushed start middle p n begins so_far e
     is_middle gives adds beyond =
@@ -277,7 +275,7 @@ no_items (x ∷ xs) e = absurd (omega (arith, e))
 
 -- an area in place of two parts
 pub adds_area : (kept now new : Kept) (start middle : Mark) (a b : Found) (area : BookArea) →
-    IsMark start kept → IsRanging kept middle now a b → Some area ≡ range_area a b →
+    TellsKept start kept → IsRanging kept middle now a b → Some area ≡ range_area a b →
     new.areas ≡ take start.areas now.areas ++ area ∷ [] → new.words ≡ now.words →
     new.named_left ≡ now.named_left → new.read_left ≡ now.read_left →
     new.opened ≡ now.opened → Adds kept new (ranged a b)
@@ -306,7 +304,7 @@ adds_area kept now new start middle a b area begins ranging is areas words named
     })
 
 -- both parts, where room for the first is taken again
-adds_parts : (kept now spent : Kept) (start middle : Mark) (a b : Found) → IsMark start kept →
+adds_parts : (kept now spent : Kept) (start middle : Mark) (a b : Found) → TellsKept start kept →
     IsRanging kept middle now a b → Spends now spent (start.named - middle.named) →
     Adds kept spent (both_found a b)
 adds_parts kept now spent start middle a b begins ranging spends = record {
@@ -326,7 +324,7 @@ adds_parts kept now spent start middle a b begins ranging spends = record {
 
 -- both parts, and a word
 pub adds_word : (kept now spent new : Kept) (start middle : Mark) (a b : Found) →
-    IsMark start kept → IsRanging kept middle now a b → None ≡ range_area a b →
+    TellsKept start kept → IsRanging kept middle now a b → None ≡ range_area a b →
     Spends now spent (start.named - middle.named) →
     Adds spent new (word_found NoRange (codes ":")) → Adds kept new (ranged a b)
 adds_word kept now spent new start middle a b begins ranging is spends word =
@@ -337,7 +335,7 @@ adds_word kept now spent new start middle a b begins ranging is spends word =
     (adds_parts kept now spent start middle a b begins ranging spends) word)
 
 -- there is no room for the first part beside the second
-pub beyond_parts : (kept now : Kept) (start middle : Mark) (a b : Found) → IsMark start kept →
+pub beyond_parts : (kept now : Kept) (start middle : Mark) (a b : Found) → TellsKept start kept →
     IsRanging kept middle now a b → None ≡ range_area a b →
     now.named_left < start.named - middle.named → IsBeyond kept (ranged a b)
 beyond_parts kept now start middle a b begins ranging is lt =
@@ -356,7 +354,7 @@ beyond_parts kept now start middle a b begins ranging is lt =
 
 -- there is no room for the word
 pub beyond_word : (kept now spent : Kept) (start middle : Mark) (a b : Found) →
-    IsMark start kept → IsRanging kept middle now a b → None ≡ range_area a b →
+    TellsKept start kept → IsRanging kept middle now a b → None ≡ range_area a b →
     Spends now spent (start.named - middle.named) →
     IsBeyond spent (word_found NoRange (codes ":")) → IsBeyond kept (ranged a b)
 beyond_word kept now spent start middle a b begins ranging is spends beyond =
@@ -380,7 +378,7 @@ all_true true q false s e f g = absurd (cc)
 all_true true q true false e f g = absurd (cc)
 
 -- no area where there are more words than before
-pub no_area_words : (kept now : Kept) (start middle : Mark) (a b : Found) → IsMark start kept →
+pub no_area_words : (kept now : Kept) (start middle : Mark) (a b : Found) → TellsKept start kept →
     IsRanging kept middle now a b → (length now.words ≡ start.words → ⊥) → None ≡ range_area a b
 no_area_words kept now start middle a b begins ranging never =
     none_by (are_areas a b) (joined_areas a.areas b.areas)
@@ -396,7 +394,7 @@ no_area_words kept now start middle a b begins ranging never =
     )))
 
 -- no area where the first part has not one
-pub no_area_first : (kept now : Kept) (start middle : Mark) (a b : Found) → IsMark start kept →
+pub no_area_first : (kept now : Kept) (start middle : Mark) (a b : Found) → TellsKept start kept →
     IsRanging kept middle now a b → (middle.areas - start.areas ≡ 1 → ⊥) → None ≡ range_area a b
 no_area_first kept now start middle a b begins ranging never =
     none_by (are_areas a b) (joined_areas a.areas b.areas)
@@ -419,7 +417,7 @@ pair_is (x ∷ w ∷ xs) ys e = absurd (omega (arith, e))
 
 -- the area of two that stand behind a mark alone
 pub area_of_pair : (kept now : Kept) (start middle : Mark) (a b : Found) (part : List BookArea) →
-    IsMark start kept → IsRanging kept middle now a b → length now.words ≡ start.words →
+    TellsKept start kept → IsRanging kept middle now a b → length now.words ≡ start.words →
     middle.areas - start.areas ≡ 1 → part ≡ drop start.areas now.areas →
     joined_pair part ≡ range_area a b
 area_of_pair kept now start middle a b part begins ranging words one is =
@@ -484,11 +482,11 @@ range_alone find before first items e =
 -- what the joins behind a mention answer
 range_gives_by : {T : Type 0} (answer : Result T NamingError)
     (find : PlaceText → NamedText → Found) (before : Before) (first : Found)
-    (items : List ItemText) (start : Mark) (old mid new : Kept) → IsMark start old →
+    (items : List ItemText) (start : Mark) (old mid new : Kept) → TellsKept start old →
     Adds old mid first → (is_place_asked before && closes_next items) ≡ false →
-    OnOk answer ((kept : Kept) (f : Found) → IsMark start kept → Adds kept mid f →
+    OnOk answer ((kept : Kept) (f : Found) → TellsKept start kept → Adds kept mid f →
     Adds kept new (ranged_on find f items)) →
-    IfErr answer (λ e. WhenTooLarge e ((kept : Kept) (f : Found) → IsMark start kept →
+    IfErr answer (λ e. WhenTooLarge e ((kept : Kept) (f : Found) → TellsKept start kept →
     Adds kept mid f → IsBeyond kept (ranged_on find f items))) →
     Gives answer old new (range_found find before first items)
 range_gives_by (Ok x) find before first items start old mid new begins adds e ok large =
@@ -501,10 +499,11 @@ range_gives_by (Err OutOfMemory) find before first items start old mid new begin
 pub range_gives : {T : Type 0} (answer : Result T NamingError) (turns : ℕ) (book : Book)
     (r : Reader) (opened own : List Bool) (before : Before) (first : Found)
     (items : List ItemText) (start : Mark) (old mid new : Kept) → own ≡ opened →
-    IsMark start old → Adds old mid first → (is_place_asked before && closes_next items) ≡ false →
-    OnOk answer ((kept : Kept) (f : Found) → IsMark start kept → Adds kept mid f →
+    TellsKept start old → Adds old mid first → (is_place_asked before && closes_next items)
+    ≡ false →
+    OnOk answer ((kept : Kept) (f : Found) → TellsKept start kept → Adds kept mid f →
     Adds kept new (ranged_on (mention_found turns book r own) f items)) →
-    IfErr answer (λ e. WhenTooLarge e ((kept : Kept) (f : Found) → IsMark start kept →
+    IfErr answer (λ e. WhenTooLarge e ((kept : Kept) (f : Found) → TellsKept start kept →
     Adds kept mid f → IsBeyond kept (ranged_on (mention_found turns book r own) f items))) →
     Gives answer old new (range_found (mention_found turns book r opened) before first items)
 range_gives answer turns book r opened own before first items start old mid new same begins adds e
@@ -519,11 +518,11 @@ range_gives answer turns book r opened own before first items start old mid new 
 pub end_refused : (e : NamingError) (turns : ℕ) (book : Book) (r : Reader) (opened own : List Bool)
     (all rest behind : List ItemText) (entry now given : Kept) (start : Mark) (p : PlaceText)
     (n : NamedText) → own ≡ opened →
-    ((kept : Kept) (f : Found) → IsMark start kept → Adds kept entry f →
+    ((kept : Kept) (f : Found) → TellsKept start kept → Adds kept entry f →
     SoFar (mention_found turns book r opened) kept f all rest now) →
     rest ≡ colon ∷ says p n ∷ behind → GivesBack now given start →
     WhenTooLarge e (IsBeyond given (mention_found turns book r own p n)) →
-    WhenTooLarge e ((kept : Kept) (f : Found) → IsMark start kept → Adds kept entry f →
+    WhenTooLarge e ((kept : Kept) (f : Found) → TellsKept start kept → Adds kept entry f →
     IsBeyond kept (ranged_on (mention_found turns book r opened) f all))
 end_refused OutOfMemory turns book r opened own all rest behind entry now given start p n same
     so_far e gives h = tt
@@ -536,13 +535,13 @@ end_refused TooLarge turns book r opened own all rest behind entry now given sta
 pub join_refused : (e : NamingError) (turns : ℕ) (book : Book) (r : Reader) (opened own : List Bool)
     (all rest behind : List ItemText) (entry now given pushed : Kept) (start middle : Mark)
     (p : PlaceText) (n : NamedText) → own ≡ opened →
-    ((kept : Kept) (f : Found) → IsMark start kept → Adds kept entry f →
+    ((kept : Kept) (f : Found) → TellsKept start kept → Adds kept entry f →
     SoFar (mention_found turns book r opened) kept f all rest now) →
-    rest ≡ colon ∷ says p n ∷ behind → IsMark middle now → GivesBack now given start →
+    rest ≡ colon ∷ says p n ∷ behind → TellsKept middle now → GivesBack now given start →
     Adds given pushed (mention_found turns book r own p n) →
-    WhenTooLarge e ((k : Kept) (a b : Found) → IsMark start k → IsRanging k middle pushed a b →
+    WhenTooLarge e ((k : Kept) (a b : Found) → TellsKept start k → IsRanging k middle pushed a b →
     IsBeyond k (ranged a b)) →
-    WhenTooLarge e ((kept : Kept) (f : Found) → IsMark start kept → Adds kept entry f →
+    WhenTooLarge e ((kept : Kept) (f : Found) → TellsKept start kept → Adds kept entry f →
     IsBeyond kept (ranged_on (mention_found turns book r opened) f all))
 join_refused OutOfMemory turns book r opened own all rest behind entry now given pushed start middle
     p n same so_far e is_middle gives pushes h = tt
@@ -556,12 +555,12 @@ join_refused TooLarge turns book r opened own all rest behind entry now given pu
 pub end_step : (turns : ℕ) (book : Book) (r : Reader) (opened own : List Bool)
     (all rest behind : List ItemText) (entry now given pushed new : Kept) (start middle : Mark)
     (p : PlaceText) (n : NamedText) → own ≡ opened →
-    ((kept : Kept) (f : Found) → IsMark start kept → Adds kept entry f →
+    ((kept : Kept) (f : Found) → TellsKept start kept → Adds kept entry f →
     SoFar (mention_found turns book r opened) kept f all rest now) →
-    rest ≡ colon ∷ says p n ∷ behind → IsMark middle now → GivesBack now given start →
+    rest ≡ colon ∷ says p n ∷ behind → TellsKept middle now → GivesBack now given start →
     Adds given pushed (mention_found turns book r own p n) →
-    ((k : Kept) (a b : Found) → IsMark start k → IsRanging k middle pushed a b →
-    Adds k new (ranged a b)) → (kept : Kept) (f : Found) → IsMark start kept →
+    ((k : Kept) (a b : Found) → TellsKept start k → IsRanging k middle pushed a b →
+    Adds k new (ranged a b)) → (kept : Kept) (f : Found) → TellsKept start kept →
     Adds kept entry f → SoFar (mention_found turns book r opened) kept f all behind new
 end_step turns book r opened own all rest behind entry now given pushed new start middle p n same
     so_far e is_middle gives pushes joins_well kept f begins adds =
@@ -578,9 +577,9 @@ behind_step rest behind p n e = sym (ap (λ is. drop (range_length is) is) e)
 -- ---- what a join answers
 
 pub spend_refused : (e : NamingError) (now : Kept) (start middle : Mark) →
-    ((kept : Kept) (a b : Found) → IsMark start kept → IsRanging kept middle now a b →
+    ((kept : Kept) (a b : Found) → TellsKept start kept → IsRanging kept middle now a b →
     None ≡ range_area a b) → now.named_left < start.named - middle.named →
-    WhenTooLarge e ((kept : Kept) (a b : Found) → IsMark start kept →
+    WhenTooLarge e ((kept : Kept) (a b : Found) → TellsKept start kept →
     IsRanging kept middle now a b → IsBeyond kept (ranged a b))
 spend_refused OutOfMemory now start middle none lt = tt
 spend_refused TooLarge now start middle none lt = λ kept a b begins is.
@@ -588,10 +587,10 @@ spend_refused TooLarge now start middle none lt = λ kept a b begins is.
 
 pub word_ok : {T : Type 0} (answer : Result T NamingError) (now spent new : Kept)
     (start middle : Mark) →
-    ((kept : Kept) (a b : Found) → IsMark start kept → IsRanging kept middle now a b →
+    ((kept : Kept) (a b : Found) → TellsKept start kept → IsRanging kept middle now a b →
     None ≡ range_area a b) → Spends now spent (start.named - middle.named) →
     Gives answer spent new (word_found NoRange (codes ":")) →
-    OnOk answer ((kept : Kept) (a b : Found) → IsMark start kept →
+    OnOk answer ((kept : Kept) (a b : Found) → TellsKept start kept →
     IsRanging kept middle now a b → Adds kept new (ranged a b))
 word_ok (Ok x) now spent new start middle none spends adds = λ kept a b begins is.
     adds_word kept now spent new start middle a b begins is (none kept a b begins is) spends adds
@@ -599,10 +598,10 @@ word_ok (Err e) now spent new start middle none spends adds = tt
 
 pub word_large : {T : Type 0} (answer : Result T NamingError) (now spent new : Kept)
     (start middle : Mark) →
-    ((kept : Kept) (a b : Found) → IsMark start kept → IsRanging kept middle now a b →
+    ((kept : Kept) (a b : Found) → TellsKept start kept → IsRanging kept middle now a b →
     None ≡ range_area a b) → Spends now spent (start.named - middle.named) →
     Gives answer spent new (word_found NoRange (codes ":")) →
-    IfErr answer (λ e. WhenTooLarge e ((kept : Kept) (a b : Found) → IsMark start kept →
+    IfErr answer (λ e. WhenTooLarge e ((kept : Kept) (a b : Found) → TellsKept start kept →
     IsRanging kept middle now a b → IsBeyond kept (ranged a b)))
 word_large (Ok x) now spent new start middle none spends h = tt
 word_large (Err OutOfMemory) now spent new start middle none spends h = tt
@@ -610,7 +609,7 @@ word_large (Err TooLarge) now spent new start middle none spends h = λ kept a b
     beyond_word kept now spent start middle a b begins is (none kept a b begins is) spends h
 
 -- what was found behind a mark is asked for its place alone
-pub adds_alone : (kept old new : Kept) (start : Mark) (f : Found) → IsMark start kept →
+pub adds_alone : (kept old new : Kept) (start : Mark) (f : Found) → TellsKept start kept →
     Adds kept old f → (start.areas ≤ length old.areas →
     new.areas ≡ take start.areas old.areas ++ map unvalued (drop start.areas old.areas)) →
     new.words ≡ old.words → new.named_left ≡ old.named_left → new.read_left ≡ old.read_left →

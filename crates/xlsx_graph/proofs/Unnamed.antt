@@ -6,19 +6,18 @@ use Rattle.std.specs.List.{list_any}
 use Rattle.formula_tokens.specs.Items.{PlaceText, here, on_sheet, on_sheets, in_book, elsewhere}
 use Rattle.formula_tokens.specs.Items.{NamedText, cells, lost_cells, name, table, own_table}
 use Rattle.formula_tokens.specs.Items.{ItemText, says, calls, opens, closes, colon, apart, unread}
-use Rattle.formula_tokens.specs.Items.{items}
-use Rattle.formula_shift.specs.Areas.{area_between}
+use Rattle.formula_tokens.specs.Items.{formula_items}
+use Rattle.formula_shift.specs.Words.{area_between}
 use Rattle.book_names.specs.Book.{Book, BookName, table_numbered}
-use Rattle.xlsx_graph.specs.Naming.{Found, nothing_found, area_found, word_found}
-use Rattle.xlsx_graph.specs.Naming.{MeaningText, means_nothing, means_area, means_open, means_name}
-use Rattle.xlsx_graph.specs.Naming.{SheetsText, from_to, unknown_sheet, other_file, sheets_of}
-use Rattle.xlsx_graph.specs.Naming.{name_or, word_on, in_numbered, cells_on, open_on, name_placed}
-use Rattle.xlsx_graph.specs.Naming.{is_span, is_parameter, is_computed, word_meaning}
-use Rattle.xlsx_graph.specs.Naming.{named_meaning, mention_meaning, function_meaning, corner_here}
-use Rattle.xlsx_graph.specs.Naming.{found_along, found_within, item_found, items_within}
-use Rattle.xlsx_graph.specs.Naming.{ranged, ranged_on, place_alone, closes_next}
-use Rattle.xlsx_graph.specs.Naming.{is_place_asked, before_next, meaning_found, named_in}
-use Rattle.xlsx_graph.specs.Naming.{range_area, range_or_both, sign_found}
+use Rattle.xlsx_graph.specs.Naming.{Found, nothing_found, area_found, word_found, MeaningText}
+use Rattle.xlsx_graph.specs.Naming.{means_nothing, means_area, means_open, means_name, SheetsText}
+use Rattle.xlsx_graph.specs.Naming.{from_to, unknown_sheet, other_file, sheets_of_place, name_or}
+use Rattle.xlsx_graph.specs.Naming.{word_on, in_numbered, cells_on, open_on, name_placed, is_span}
+use Rattle.xlsx_graph.specs.Naming.{is_parameter, is_computed, word_meaning, named_meaning}
+use Rattle.xlsx_graph.specs.Naming.{mention_meaning, function_meaning, corner_here, found_along}
+use Rattle.xlsx_graph.specs.Naming.{found_within, item_found, items_belonging, ranged, ranged_on}
+use Rattle.xlsx_graph.specs.Naming.{place_alone, closes_next, is_place_asked, before_next}
+use Rattle.xlsx_graph.specs.Naming.{meaning_found, named_in, range_area, range_or_both, sign_found}
 use Rattle.xlsx_graph.specs.NamingLaws.{with_names, formula_reader, is_name, is_name_item}
 use Rattle.xlsx_graph.specs.NamingLaws.{says_name}
 use Rattle.xlsx_graph.specs.declared.before.Before.{Before}
@@ -94,14 +93,16 @@ plain_on read book cell opened (i ∷ is) none =
 -- what a formula names that says no defined name, without the texts of names
 named_plain : (book : Book) (cell : Standing) (text : List ℕ) →
     says_name book cell text ≡ false → named_in book cell text
-    ≡ found_along (plain_mention book cell) (plain_function book cell) AnyOther 0 (items text)
+    ≡ found_along (plain_mention book cell) (plain_function book cell) AnyOther 0
+    (formula_items text)
 unfolding named_in found_within
 named_plain book cell text none =
-    along_agrees _ (plain_mention book cell) _ (plain_function book cell) AnyOther 0 (items text)
+    along_agrees _ (plain_mention book cell) _ (plain_function book cell) AnyOther 0
+    (formula_items text)
     (plain_on (found_within (length book.names) book) book cell
-    (replicate (length book.names) false) (items text) none)
+    (replicate (length book.names) false) (formula_items text) none)
 
--- ---- no bytes are read
+-- ---- nothing is read of names
 
 plain_unread : (m : MeaningText) → (plain_found m).read ≡ 0
 unfolding plain_found
@@ -167,14 +168,14 @@ along_unread book cell before (suc skip) [] = refl
 along_unread book cell before (suc skip) (i ∷ is) = along_unread book cell AnyOther skip is
 along_unread book cell before zero (i ∷ is) =
     sum_unread _ _ (item_unread book cell before i is)
-    (along_unread book cell (before_next before i) (items_within i is) is)
+    (along_unread book cell (before_next before i) (items_belonging i is) is)
 
--- no bytes of names' texts are read for a formula that says no defined name
+-- nothing is read of names for a formula that says no defined name
 pub unnamed_unread : (book : Book) (cell : Standing) (text : List ℕ) →
     says_name book cell text ≡ false → (named_in book cell text).read ≡ 0
 unnamed_unread book cell text none =
     ap (λ f. f.read) (named_plain book cell text none)
-    ∙ along_unread book cell AnyOther 0 (items text)
+    ∙ along_unread book cell AnyOther 0 (formula_items text)
 
 -- ---- other defined names
 
@@ -195,7 +196,7 @@ word_same a b place w other (other_file text) none also = refl
 
 -- the sheets of a place are the same, whatever names there are
 sheets_same : (book : Book) (names : List BookName) (sheet : ℕ) (place : PlaceText) →
-    sheets_of book sheet place ≡ sheets_of (with_names book names) sheet place
+    sheets_of_place book sheet place ≡ sheets_of_place (with_names book names) sheet place
 sheets_same book names sheet here = refl
 sheets_same book names sheet in_book = refl
 sheets_same book names sheet (on_sheet a) = refl
@@ -205,19 +206,19 @@ sheets_same book names sheet (elsewhere a) = refl
 -- a word in a place, where its sheets are the same
 placed_same : (book : Book) (names : List BookName) (sheet : ℕ) (place : PlaceText) (w : List ℕ)
     (other : MeaningText) →
-    is_name (word_on book place w other (sheets_of book sheet place)) ≡ false →
+    is_name (word_on book place w other (sheets_of_place book sheet place)) ≡ false →
     is_name (word_on (with_names book names) place w other
-    (sheets_of (with_names book names) sheet place)) ≡ false →
-    word_on book place w other (sheets_of book sheet place)
+    (sheets_of_place (with_names book names) sheet place)) ≡ false →
+    word_on book place w other (sheets_of_place book sheet place)
     ≡ word_on (with_names book names) place w other
-    (sheets_of (with_names book names) sheet place)
+    (sheets_of_place (with_names book names) sheet place)
 placed_same book names sheet place w other none =
     subst
     (λ s. is_name (word_on (with_names book names) place w other s) ≡ false →
-    word_on book place w other (sheets_of book sheet place)
+    word_on book place w other (sheets_of_place book sheet place)
     ≡ word_on (with_names book names) place w other s)
     (sheets_same book names sheet place)
-    (word_same book (with_names book names) place w other (sheets_of book sheet place) none)
+    (word_same book (with_names book names) place w other (sheets_of_place book sheet place) none)
 
 -- where one of two is the same, what is chosen by a test is the same
 either_same : (t : Bool) (x y a b : MeaningText) → x ≡ y →
@@ -304,4 +305,4 @@ unnamed_same book names cell text none also =
     (named_plain book cell text none
     ∙ along_agrees (plain_mention book cell) (plain_mention (with_names book names) cell)
     (plain_function book cell) (plain_function (with_names book names) cell) AnyOther 0
-    (items text) (same_on book names cell (items text) none also))
+    (formula_items text) (same_on book names cell (formula_items text) none also))

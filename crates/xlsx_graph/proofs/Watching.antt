@@ -1,7 +1,7 @@
 -- Vertices of a tree that were begun stand for formulas.
-use Rattle.std.proofs.Common.{◌≡◌, ◌∙◌, ℕ, ◌<◌, true, false, List, [], ◌∷◌, ◌++◌, refl, sym}
-use Rattle.std.proofs.Common.{ap, append_assoc, append-nil, flat_map, subst, length, map, arith}
-use Rattle.std.proofs.Common.{◌+◌, ◌*◌, filter, get_or, take}
+use Rattle.std.proofs.Common.{◌≡◌, ◌∙◌, ℕ, ◌<◌, true, false, List, [], ◌∷◌, ◌++◌, refl, sym, ap}
+use Rattle.std.proofs.Common.{append_assoc, append-nil, flat_map, subst, length, map, arith, ◌+◌}
+use Rattle.std.proofs.Common.{◌*◌, filter, get_or, take}
 use Rattle.std.specs.Prelude.{nat_lt, Option, Some}
 use Rattle.std.specs.List.{list_all, slice_get}
 use Rattle.std.proofs.lemmas.Bool.{and_from, le-leb, lt-ltb}
@@ -13,10 +13,9 @@ use Rattle.std.proofs.lemmas.List.FromFn.{map-range_with_len_more}
 use Rattle.calculation_order.specs.Edges.{numbers_below}
 use Rattle.calculation_order.specs.Links.{Linked, with_closed, with_link}
 use Rattle.xlsx_graph.specs.Tree.{Watches, fork_count, fork_links, sons_of, stands_for, under}
-use Rattle.xlsx_graph.specs.Tree.{vertex_count, vertex_of}
+use Rattle.xlsx_graph.specs.Tree.{vertex_count, vertex_of, AreWatched, IsHullOf, IsTree, asked_by}
+use Rattle.xlsx_graph.specs.Tree.{asked_of, is_hull, meets_at}
 use Rattle.xlsx_graph.specs.Hulls.{may_meet, meets_all}
-use Rattle.xlsx_graph.specs.Tree.{AreWatched, IsHullOf, IsTree, asked_by, asked_of, is_hull}
-use Rattle.xlsx_graph.specs.Tree.{meets_at}
 use Rattle.xlsx_graph.specs.declared.hulls.Hull.{Hull}
 use Rattle.xlsx_graph.specs.declared.named.BookArea.{BookArea}
 use Rattle.xlsx_graph.specs.declared.workbook_graph.Placed.{Placed}

@@ -1,9 +1,9 @@
 -- The formulas of a workbook, gathered within limits.
 use Rattle.std.specs.Prelude.{◌≡◌, ℕ, ◌+◌, ◌<◌, ◌≤◌, ◌⊎◌, ◌||◌, ◌&&◌, nat_lt, nat_le, Bool, true}
-use Rattle.std.specs.Prelude.{false, List, [], ◌∷◌, ◌++◌, length, map, replicate, sum_by}
-use Rattle.std.specs.Prelude.{Result, MatchResult}
+use Rattle.std.specs.Prelude.{false, List, [], ◌∷◌, ◌++◌, length, map, replicate, sum_by, Result}
+use Rattle.std.specs.Prelude.{MatchResult}
 use Rattle.std.specs.List.{list_all, slice_range}
-use Rattle.cell_refs.specs.Dimensions.{cell_count}
+use Rattle.cell_refs.specs.Words.{cell_count}
 use Rattle.cell_refs.specs.declared.dimensions.Dimensions.{Dimensions}
 use Rattle.book_names.specs.Book.{Book}
 use Rattle.xlsx_graph.specs.Graph.{GraphFormula}
@@ -13,12 +13,11 @@ use Rattle.xlsx_graph.specs.declared.error.NamingError.{NamingError}
 use Rattle.xlsx_graph.specs.declared.named.BookArea.{BookArea}
 use Rattle.xlsx_graph.specs.declared.named.Standing.{Standing}
 use Rattle.xlsx_graph.specs.declared.workbook_graph.Placed.{Placed}
-use Rattle.xlsx_graph.specs.declared.workbook_graph.TheConstants.{MAX_COVERED, MAX_NAMED}
-use Rattle.xlsx_graph.specs.declared.workbook_graph.TheConstants.{MAX_READ}
+use Rattle.xlsx_graph.specs.declared.workbook_graph.TheConstants.{MAX_COVERED, MAX_NAMED, MAX_READ}
 
 -- What is gathered: formulas of a workbook that has so many defined names; how much more may be
--- named, an area as often as it has sheets; how many more bytes of names may be read; and how many
--- more cells may be covered.
+-- named, an area as often as it has sheets; how much more may be read of names; and how many more
+-- cells may be covered.
 pub record Gathered : Type 0 where
   pub formulas : List GraphFormula
   pub names : ℕ
@@ -37,8 +36,8 @@ nothing_gathered names = record {
 }
 
 -- a formula by its cell, the cells that it covers, and its text
-abbrev pub formula_of : Book → Standing → Dimensions → List ℕ → GraphFormula
-formula_of book cell covers text =
+abbrev pub gathered_formula : Book → Standing → Dimensions → List ℕ → GraphFormula
+gathered_formula book cell covers text =
     record { cell = cell; covers = covers; found = named_in book cell text }
 
 -- a formula was put behind what was gathered
@@ -49,12 +48,12 @@ pub record Gathers (old new : Gathered) (f : GraphFormula) : Type 0 where
   pub read : new.read_left + f.found.read ≡ old.read_left
   pub covered : new.covered_left + cell_count f.covers ≡ old.covered_left
 
--- the formulas stay; there may be less room for more
+-- the formulas that were gathered stay; there may be less room for more
 pub record Stays (old new : Gathered) : Type 0 where
   pub formulas : new.formulas ≡ old.formulas
   pub names : new.names ≡ old.names
 
--- a formula takes more room than there is
+-- a formula takes more room than there is left
 abbrev pub IsOver : Gathered → GraphFormula → Type 0
 IsOver gathered f =
     (gathered.named_left < weight f.found)
@@ -73,7 +72,7 @@ GathersOr answer old new f =
 abbrev pub total_named : List GraphFormula → ℕ
 total_named formulas = sum_by (λ f. weight f.found) formulas
 
--- how many bytes of defined names are read for formulas
+-- how much is read of defined names for formulas
 abbrev pub total_read : List GraphFormula → ℕ
 total_read formulas = sum_by (λ f. f.found.read) formulas
 

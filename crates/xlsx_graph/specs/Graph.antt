@@ -1,10 +1,10 @@
 -- The formulas of a workbook, and those that each of them needs. Formulas are told by their
 -- numbers, sheet by sheet, row by row.
-use Rattle.std.specs.Prelude.{ℕ, zero, suc, ◌&&◌, nat_le, Bool, false, if◌then◌else◌}
-use Rattle.std.specs.Prelude.{List, [], ◌∷◌, map}
+use Rattle.std.specs.Prelude.{ℕ, zero, suc, ◌&&◌, nat_le, Bool, false, if◌then◌else◌, List, [], ◌∷◌}
+use Rattle.std.specs.Prelude.{map}
 use Rattle.std.specs.List.{list_any}
 use Rattle.calculation_order.specs.Edges.{dependents_of}
-use Rattle.cell_refs.specs.Positions.{is_in_area}
+use Rattle.cell_refs.specs.Words.{is_in_area}
 use Rattle.cell_refs.specs.declared.dimensions.Dimensions.{Dimensions}
 use Rattle.xlsx_graph.specs.Naming.{Found}
 use Rattle.xlsx_graph.specs.declared.named.BookArea.{BookArea}
@@ -54,11 +54,11 @@ abbrev pub asks_for : Standing → GraphFormula → Bool
 asks_for s f = list_any (asks_area s) f.found.areas
 
 -- the formula of a number asks for the value of a cell
-abbrev pub asks_at : Standing → List GraphFormula → ℕ → Bool
-asks_at s [] n = false
-asks_at s (f ∷ fs) zero = asks_for s f
-asks_at s (f ∷ fs) (suc n) = asks_at s fs n
+abbrev pub asks_for_cell : Standing → List GraphFormula → ℕ → Bool
+asks_for_cell s [] n = false
+asks_for_cell s (f ∷ fs) zero = asks_for s f
+asks_for_cell s (f ∷ fs) (suc n) = asks_for_cell s fs n
 
 -- the formulas that need the value of a cell, themselves or through others
 unfoldable pub dependents_at : List GraphFormula → Standing → List ℕ
-dependents_at formulas s = dependents_of (asks_at s formulas) (needed formulas)
+dependents_at formulas s = dependents_of (asks_for_cell s formulas) (needed formulas)

@@ -1,8 +1,8 @@
 -- What is printed of a workbook's graph: lines of fields, a tab between two of them.
-use Rattle.std.specs.Prelude.{ℕ, zero, suc, ◌==◌, not, Bool, true, false, if◌then◌else◌}
-use Rattle.std.specs.Prelude.{List, [], ◌∷◌, ◌++◌, length, filter, codes}
+use Rattle.std.specs.Prelude.{ℕ, zero, suc, ◌==◌, not, Bool, true, false, if◌then◌else◌, List, []}
+use Rattle.std.specs.Prelude.{◌∷◌, ◌++◌, length, filter, codes}
 use Rattle.std.specs.List.{list_any, slice_index_or, flat_map}
-use Rattle.cell_refs.specs.Reference.{reference}
+use Rattle.cell_refs.specs.Words.{reference}
 use Rattle.escaped_text.specs.Escaped.{escaped}
 use Rattle.list_lines.specs.Fields.{area_field, next_field}
 use Rattle.book_names.specs.Book.{Book}
@@ -26,11 +26,11 @@ abbrev pub sheet_text : Book → ℕ → List ℕ
 sheet_text book n =
     39 ∷ (escaped (doubled (slice_index_or book.sheets n [])) ++ 39 ∷ [])
 
--- a cell of a sheet
+-- the text of a cell of a sheet, behind the sheet's name
 abbrev pub cell_text : Book → Standing → List ℕ
 cell_text book s = sheet_text book s.sheet ++ (33 ∷ reference (s.row, s.column))
 
--- the sheets of an area
+-- the text of the sheets of an area
 abbrev pub sheets_text : Book → BookArea → List ℕ
 sheets_text book a =
     if a.first == a.last then sheet_text book a.first
@@ -93,20 +93,20 @@ may_name o = is_hiding o.cause
 abbrev pub is_open : List GraphFormula → ℕ → Bool
 is_open formulas n = list_any (λ f. list_any may_name f.found.words) (one_of formulas n)
 
--- its mark
-abbrev pub open_mark : List GraphFormula → ℕ → List ℕ
-open_mark formulas n = if is_open formulas n then next_field (codes "open") else []
+-- the mark of the formula of a number that may name more cells than are known, and else none
+abbrev pub mark_of_open : List GraphFormula → ℕ → List ℕ
+mark_of_open formulas n = if is_open formulas n then next_field (codes "open") else []
 
--- a formula by its number, with its marks
+-- the line of a formula by its number, with its marks
 abbrev pub order_line : Book → List GraphFormula → List ℕ → ℕ → List ℕ
 order_line book formulas mark n =
-    cell_numbered book formulas n ++ (mark ++ (open_mark formulas n ++ codes "\n"))
+    cell_numbered book formulas n ++ (mark ++ (mark_of_open formulas n ++ codes "\n"))
 
 -- the mark of a formula that has no place in the order: it needs itself, or one that does
 abbrev pub left_mark : List (List ℕ) → ℕ → List ℕ
 left_mark edges n = next_field (if is_on_cycle edges n then codes "cycle" else codes "behind")
 
--- such a formula by its number, with its marks
+-- the line of a formula that has no place in the order, by its number, with its marks
 abbrev pub left_line : Book → List GraphFormula → List (List ℕ) → ℕ → List ℕ
 left_line book formulas edges n = order_line book formulas (left_mark edges n) n
 
@@ -139,6 +139,6 @@ abbrev pub numbered_line : Book → List GraphFormula → ℕ → List ℕ
 numbered_line book formulas n = cell_numbered book formulas n ++ codes "\n"
 
 -- a line for each formula that needs the value of a cell, itself or through others
-unfoldable pub dependents_lines : Book → List GraphFormula → Standing → List ℕ
-dependents_lines book formulas s =
+unfoldable pub all_dependents_lines : Book → List GraphFormula → Standing → List ℕ
+all_dependents_lines book formulas s =
     flat_map (numbered_line book formulas) (dependents_at formulas s)

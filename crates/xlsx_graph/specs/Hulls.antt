@@ -27,14 +27,14 @@ corners_of p = record {
   each = p.covers;
 }
 
--- from the later start of two areas up to the earlier end
+-- the area from the later start of two areas up to their earlier end
 abbrev pub shared : Dimensions → Dimensions → Dimensions
 shared a b = record {
   start = (max a.start.0 b.start.0, max a.start.1 b.start.1);
   end = (min a.end.0 b.end.0, min a.end.1 b.end.1);
 }
 
--- the hull of what two have
+-- the hull of what two hulls have
 abbrev pub joined_hull : Hull → Hull → Hull
 joined_hull a b = record {
   first = min a.first b.first;

@@ -9,8 +9,8 @@ use Rattle.xlsx_graph.specs.declared.error.NamingError.TheVariants.{TooLarge, Ou
 use Rattle.xlsx_graph.specs.declared.named.BookArea.{BookArea}
 
 -- What is kept: areas and open words; how much more may be named, an area as often as it has
--- sheets; how many more bytes of names may be read; for each defined name whether the text stands
--- in it that is read.
+-- sheets; how much more may be read of names; for each defined name whether the text stands in it
+-- that is read.
 pub record Kept : Type 0 where
   pub areas : List BookArea
   pub words : List OpenText
@@ -27,7 +27,7 @@ pub record Adds (old new : Kept) (f : Found) : Type 0 where
   pub opened : new.opened ≡ old.opened
 
 -- what was kept stands in front of what is kept, and the same defined names are open
-pub record Extends (old new : Kept) : Type 0 where
+pub record KeepsInFront (old new : Kept) : Type 0 where
   pub more_areas : List BookArea
   pub more_words : List OpenText
   pub areas : new.areas ≡ old.areas ++ more_areas
@@ -46,8 +46,8 @@ pub record Spends (old new : Kept) (count : ℕ) : Type 0 where
   pub read : new.read_left ≡ old.read_left
   pub opened : new.opened ≡ old.opened
 
--- it is kept whether a defined name is open
-pub record Opens (old new : Kept) (name : ℕ) (is_open : Bool) : Type 0 where
+-- it is noted whether a defined name is open, and all else stays as it was kept
+pub record MarksOpen (old new : Kept) (name : ℕ) (is_open : Bool) : Type 0 where
   pub areas : new.areas ≡ old.areas
   pub words : new.words ≡ old.words
   pub named : new.named_left ≡ old.named_left
@@ -55,7 +55,7 @@ pub record Opens (old new : Kept) (name : ℕ) (is_open : Bool) : Type 0 where
   pub opened : new.opened ≡ slice_set old.opened name is_open
 
 -- a mark tells how much was kept
-pub record IsMark (mark : Mark) (kept : Kept) : Type 0 where
+pub record TellsKept (mark : Mark) (kept : Kept) : Type 0 where
   pub areas : mark.areas ≡ length kept.areas
   pub words : mark.words ≡ length kept.words
   pub named : mark.named ≡ kept.named_left

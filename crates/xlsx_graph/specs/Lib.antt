@@ -7,3 +7,4 @@ pub mod Naming
 pub mod NamingLaws
 pub mod Told
 pub mod Tree
+pub mod Words

@@ -1,22 +1,20 @@
 -- What a formula names in its workbook. A text is a list of bytes; sheets, names, tables, rows and
 -- columns are counted from 0.
-use Rattle.std.specs.Prelude.{ℕ, zero, suc, ◌+◌, ◌-◌, ◌%◌, ◌<◌, ◌==◌, ◌||◌, ◌&&◌, min, max}
-use Rattle.std.specs.Prelude.{Bool}
-use Rattle.std.specs.Prelude.{true, false, if◌then◌else◌, List, [], ◌∷◌, ◌++◌, drop, length}
-use Rattle.std.specs.Prelude.{map, replicate, codes, Option, None, Some, position}
-use Rattle.std.specs.Prelude.{slice_index_or, slice_set}
+use Rattle.std.specs.Prelude.{ℕ, zero, suc, ◌+◌, ◌-◌, ◌%◌, ◌<◌, ◌==◌, ◌||◌, ◌&&◌, min, max, Bool}
+use Rattle.std.specs.Prelude.{true, false, if◌then◌else◌, List, [], ◌∷◌, ◌++◌, drop, length, map}
+use Rattle.std.specs.Prelude.{replicate, codes, Option, None, Some, position, slice_index_or}
+use Rattle.std.specs.Prelude.{slice_set}
 use Rattle.std.specs.List.{list_any, slice_get}
-use Rattle.cell_refs.specs.A1.{row_limit, column_limit}
-use Rattle.cell_refs.specs.Positions.{is_in_area}
+use Rattle.cell_refs.specs.Words.{row_limit, column_limit, is_in_area}
 use Rattle.cell_refs.specs.declared.dimensions.Dimensions.{Dimensions}
-use Rattle.formula_shift.specs.Areas.{area_between}
+use Rattle.formula_shift.specs.Words.{area_between}
 use Rattle.formula_shift.specs.declared.corner.Corner.{Corner}
 use Rattle.formula_shift.specs.declared.corner.Corner.TheVariants.{Cell, Row, Column}
 use Rattle.formula_tokens.specs.Tokens.{is_same_name, is_begun_by}
 use Rattle.formula_tokens.specs.Items.{PlaceText, here, on_sheet, on_sheets, in_book, elsewhere}
 use Rattle.formula_tokens.specs.Items.{NamedText, cells, lost_cells, name, table, own_table}
 use Rattle.formula_tokens.specs.Items.{ItemText, says, calls, opens, closes, colon, unread}
-use Rattle.formula_tokens.specs.Items.{items, kept_bytes}
+use Rattle.formula_tokens.specs.Items.{formula_items, kept_bytes}
 use Rattle.book_names.specs.Book.{Book, BookName, BookTable, sheet_numbered, name_numbered}
 use Rattle.book_names.specs.Book.{name_in_scope, table_numbered}
 use Rattle.book_names.specs.Structured.{AreaText, found, no_column, no_rows, not_read, table_area}
@@ -36,22 +34,22 @@ pub record OpenText : Type 0 where
   pub cause : Cause
   pub text : List ℕ
 
--- What is found: areas, words that are left open, and how many bytes of the texts of defined names
--- were read for it, each text as often as it is read.
+-- What is found: areas, words that are left open, and how much the texts of defined names weigh
+-- that were read for it, each as often as it is read.
 pub record Found : Type 0 where
   pub areas : List BookArea
   pub words : List OpenText
   pub read : ℕ
 
--- nothing is found
+-- what is found where nothing is named: no areas, no open words, and no bytes read
 abbrev pub nothing_found : Found
 nothing_found = record { areas = []; words = []; read = 0 }
 
--- an area alone
+-- what is found where an area alone is named
 abbrev pub area_found : BookArea → Found
 area_found area = record { areas = area ∷ []; words = []; read = 0 }
 
--- an open word alone
+-- what is found where a word alone is left open
 abbrev pub word_found : Cause → List ℕ → Found
 word_found cause text =
     record { areas = []; words = record { cause = cause; text = text } ∷ []; read = 0 }
@@ -61,9 +59,15 @@ abbrev pub both_found : Found → Found → Found
 both_found a b =
     record { areas = a.areas ++ b.areas; words = a.words ++ b.words; read = a.read + b.read }
 
--- the same, with more bytes of names that were read for it
+-- How much a text weighs that is read for a defined name, by its bytes: so much more than these,
+-- since each reading takes its time, however short the text is.
+abbrev pub reading_weight : ℕ → ℕ
+reading_weight bytes = bytes + 64
+
+-- what was found, with one more text of a defined name read for it, of so many bytes
 abbrev pub read_more : ℕ → Found → Found
-read_more bytes f = record { areas = f.areas; words = f.words; read = bytes + f.read }
+read_more bytes f =
+    record { areas = f.areas; words = f.words; read = reading_weight bytes + f.read }
 
 -- on how many sheets an area lies
 abbrev pub sheets_under : BookArea → ℕ
@@ -116,13 +120,13 @@ two_sheets a b (Some m) None = unknown_sheet b
 two_sheets a b (Some m) (Some n) = from_to (min m n) (max m n)
 
 -- the sheets of a place, where the formula's own are read on a sheet
-abbrev pub sheets_of : Book → ℕ → PlaceText → SheetsText
-sheets_of book sheet here = from_to sheet sheet
-sheets_of book sheet in_book = from_to sheet sheet
-sheets_of book sheet (on_sheet a) = one_sheet a (sheet_numbered book a)
-sheets_of book sheet (on_sheets a b) =
+abbrev pub sheets_of_place : Book → ℕ → PlaceText → SheetsText
+sheets_of_place book sheet here = from_to sheet sheet
+sheets_of_place book sheet in_book = from_to sheet sheet
+sheets_of_place book sheet (on_sheet a) = one_sheet a (sheet_numbered book a)
+sheets_of_place book sheet (on_sheets a b) =
     two_sheets a b (sheet_numbered book a) (sheet_numbered book b)
-sheets_of book sheet (elsewhere a) = other_file a
+sheets_of_place book sheet (elsewhere a) = other_file a
 
 -- sheets of a place are sheets of the workbook, where they are known
 abbrev pub HasSheets : Book → SheetsText → Type 0
@@ -144,7 +148,7 @@ abbrev pub IsInBook : Book → MeaningText → Type 0
 IsInBook book (means_name n sheet w) = sheet < length book.sheets
 IsInBook book _ = Unit {0}
 
--- a text in brackets behind a word
+-- the text of a word with a text in brackets behind it
 abbrev pub in_brackets : List ℕ → List ℕ → List ℕ
 in_brackets word inside = word ++ (91 ∷ inside ++ 93 ∷ [])
 
@@ -161,7 +165,8 @@ abbrev pub in_table : ℕ → Cause → List ℕ → List ℕ → Option BookTab
 in_table row cause text inside None = means_open cause text
 in_table row cause text inside (Some t) = table_meaning t inside (table_area t row inside)
 
--- the same of a table's number
+-- what brackets behind the table of a number mean in a formula on a row; without a number a word is
+-- left open
 abbrev pub in_numbered : Book → ℕ → Cause → List ℕ → List ℕ → Option ℕ → MeaningText
 in_numbered book row cause text inside None = means_open cause text
 in_numbered book row cause text inside (Some n) =
@@ -198,7 +203,7 @@ place_functions =
 abbrev pub is_function_of : List (List ℕ) → List ℕ → Bool
 is_function_of functions w = list_any (λ f. is_same_name f (plain_function w)) functions
 
--- the answer is a reference that values alone tell
+-- the name of a function tells that its answer is a reference that values alone tell
 abbrev pub is_computed : List ℕ → Bool
 is_computed w = is_function_of computing_functions w
 
@@ -227,7 +232,7 @@ on_known (from_to first last) meant = meant first last
 on_known (unknown_sheet text) meant = means_open NoSheet text
 on_known (other_file text) meant = means_open External text
 
--- an area of sheets
+-- what a mention of cells on sheets means: an area of these sheets
 abbrev pub cells_on : SheetsText → Dimensions → MeaningText
 cells_on sheets area =
     on_known sheets (λ first last.
@@ -248,15 +253,15 @@ word_meaning book r place w =
     if is_parameter w then means_nothing
     else word_on book place w
     (in_numbered book r.cell.row NoName w [] (table_numbered book w))
-    (sheets_of book r.sheet place)
+    (sheets_of_place book r.sheet place)
 
 -- what is named in a place of this workbook
 abbrev pub named_meaning : Book → Reader → PlaceText → NamedText → MeaningText
 named_meaning book r place (cells a b) =
-    cells_on (sheets_of book r.sheet place) (area_between (corner_here r a) (corner_here r b))
+    cells_on (sheets_of_place book r.sheet place) (area_between (corner_here r a) (corner_here r b))
 named_meaning book r place lost_cells = means_open Gone (codes "#REF!")
 named_meaning book r place (name w) =
-    if is_span place then open_on (sheets_of book r.sheet place) NoName w
+    if is_span place then open_on (sheets_of_place book r.sheet place) NoName w
     else word_meaning book r place w
 named_meaning book r place (table w inside) =
     in_numbered book r.cell.row NoTable w inside (table_numbered book w)
@@ -264,7 +269,7 @@ named_meaning book r place (own_table inside) =
     in_numbered book r.cell.row NoTable (in_brackets [] inside) inside
     (position (stands_in r.cell) book.tables)
 
--- what a mention means
+-- what a mention of cells, a name or a table means, before texts of names are read
 abbrev pub mention_meaning : Book → Reader → PlaceText → NamedText → MeaningText
 mention_meaning book r (elsewhere text) named = means_open External text
 mention_meaning book r place named = named_meaning book r place named
@@ -272,8 +277,8 @@ mention_meaning book r place named = named_meaning book r place named
 -- what the name of a function means: mostly nothing that names cells
 abbrev pub function_meaning : Book → Reader → PlaceText → List ℕ → MeaningText
 function_meaning book r place w =
-    if is_computed w then open_on (sheets_of book r.sheet place) Computed w
-    else word_on book place w means_nothing (sheets_of book r.sheet place)
+    if is_computed w then open_on (sheets_of_place book r.sheet place) Computed w
+    else word_on book place w means_nothing (sheets_of_place book r.sheet place)
 
 -- ---- ranges
 
@@ -371,9 +376,9 @@ item_found find call before (calls p w) items = call p w
 item_found find call before i items = sign_found i
 
 -- how many of the items behind one belong to it
-abbrev pub items_within : ItemText → List ItemText → ℕ
-items_within (says p n) items = range_length items
-items_within _ items = 0
+abbrev pub items_belonging : ItemText → List ItemText → ℕ
+items_belonging (says p n) items = range_length items
+items_belonging _ items = 0
 
 -- the name of a function stands before an item
 abbrev pub behind_function : Bool → Before
@@ -398,7 +403,7 @@ found_along find call before skip [] = nothing_found
 found_along find call before (suc skip) (i ∷ items) = found_along find call AnyOther skip items
 found_along find call before zero (i ∷ items) =
     both_found (item_found find call before i items)
-    (found_along find call (before_next before i) (items_within i items) items)
+    (found_along find call (before_next before i) (items_belonging i items) items)
 
 -- ---- defined names
 
@@ -431,9 +436,9 @@ found_within (suc turns) book r opened text =
     found_along
     (λ p n. meaning_found (found_within turns book) book r opened (mention_meaning book r p n))
     (λ p w. meaning_found (found_within turns book) book r opened (function_meaning book r p w))
-    AnyOther 0 (items text)
+    AnyOther 0 (formula_items text)
 
--- what a mention names
+-- what is found of a mention, by what it means
 abbrev pub mention_found : ℕ → Book → Reader → List Bool → PlaceText → NamedText → Found
 mention_found turns book r opened place named =
     meaning_found (found_within turns book) book r opened (mention_meaning book r place named)

@@ -1,7 +1,7 @@
 -- What holds of all that formulas name: words of the laws.
 use Rattle.std.specs.Prelude.{ℕ, Bool, true, false, List}
 use Rattle.std.specs.List.{list_any}
-use Rattle.formula_tokens.specs.Items.{ItemText, says, calls, items}
+use Rattle.formula_tokens.specs.Items.{ItemText, says, calls, formula_items}
 use Rattle.book_names.specs.Book.{Book, BookName}
 use Rattle.xlsx_graph.specs.Naming.{MeaningText, means_name, mention_meaning, function_meaning}
 use Rattle.xlsx_graph.specs.declared.named.Standing.{Standing}
@@ -30,4 +30,4 @@ is_name_item book cell _ = false
 
 -- the formula in a cell says a defined name of the workbook
 abbrev pub says_name : Book → Standing → List ℕ → Bool
-says_name book cell text = list_any (is_name_item book cell) (items text)
+says_name book cell text = list_any (is_name_item book cell) (formula_items text)

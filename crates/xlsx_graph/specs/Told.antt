@@ -8,22 +8,21 @@ use Rattle.xlsx_graph.specs.declared.sheets.Sheets.{Sheets}
 use Rattle.xlsx_graph.specs.declared.sheets.Sheets.TheVariants as sheets
 use Rattle.xlsx_graph.specs.declared.word.Word.{Word}
 use Rattle.xlsx_graph.specs.declared.word.Word.TheVariants as word
-use Rattle.xlsx_graph.specs.Naming.{OpenText, in_brackets}
-use Rattle.xlsx_graph.specs.Naming.{SheetsText, from_to, unknown_sheet, other_file}
-use Rattle.xlsx_graph.specs.Naming.{MeaningText, means_nothing, means_area, means_open}
+use Rattle.xlsx_graph.specs.Naming.{OpenText, in_brackets, SheetsText, from_to, unknown_sheet}
+use Rattle.xlsx_graph.specs.Naming.{other_file, MeaningText, means_nothing, means_area, means_open}
 use Rattle.xlsx_graph.specs.Naming.{means_name}
 
 -- a byte is an apostrophe
 abbrev pub is_apostrophe : ℕ → Bool
 is_apostrophe b = b == 39
 
--- the text of a word
+-- the text of a word that is left open, as it is kept
 abbrev pub word_text : Word → List ℕ
 word_text (word.Name own) = name_text own
 word_text (word.InFile book sheet) = 91 ∷ book.now ++ (93 ∷ name_text sheet)
 word_text (word.Brackets table inside) = in_brackets table.now inside.now
 
--- an open word that is kept
+-- an open word that is kept, as definitions see it
 abbrev pub open_told : OpenWord → OpenText
 open_told open_word =
     record { cause = open_word.cause; text = string_bytes open_word.text }

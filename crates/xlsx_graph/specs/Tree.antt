@@ -23,7 +23,7 @@ fork_count order = length order - 1
 abbrev pub leaf_at : List ℕ → ℕ → List ℕ
 leaf_at order k = option_to_list (slice_get order (k - fork_count order))
 
--- the formulas under a node, where so many forks may stand one under the other
+-- the formulas under a node of the tree, where so many forks may stand one under the other
 unfoldable pub under_within : ℕ → List ℕ → ℕ → List ℕ
 under_within zero order k = []
 under_within (suc turns) order k =
@@ -31,18 +31,19 @@ under_within (suc turns) order k =
     then under_within turns order (2 * k + 1) ++ under_within turns order (2 * k + 2)
     else leaf_at order k
 
--- the formulas under a node
+-- the formulas under a node of the tree: those of its leaves
 unfoldable pub under : List ℕ → ℕ → List ℕ
 under order k = under_within (suc (2 * fork_count order)) order k
 
--- the leaves are the numbers of the formulas
+-- the leaves of the tree are the numbers of the formulas
 pub record AreNumbers (order : List ℕ) : Type 0 where
   pub below : list_all (λ m. nat_lt m (length order)) order ≡ true
   pub all : (m : ℕ) → m < length order → is_number_of order m ≡ true
 
 -- ---- vertices: formulas first, by their numbers, then the forks
 
--- the vertex of a node
+-- the vertex of a node: of a leaf that of its formula, and of a fork one behind those of all
+-- formulas
 abbrev pub vertex_of : List ℕ → ℕ → ℕ
 vertex_of order k =
     if nat_lt k (fork_count order) then length order + k
@@ -70,7 +71,7 @@ stands_for order v = if nat_lt v (length order) then v ∷ [] else under order (
 abbrev pub meets : BookArea → Placed → Bool
 meets a p = has_sheet a p.cell.sheet && do_meet a.area p.covers
 
--- the same of the formula of a number
+-- an area has a cell of those that the formula of a number covers
 abbrev pub meets_at : List Placed → BookArea → ℕ → Bool
 meets_at [] a n = false
 meets_at (p ∷ ps) a zero = meets a p
@@ -95,7 +96,7 @@ has_corners h p =
     && lie_between h.all.start.1 h.all.end.1 p.covers.start.1 p.covers.end.1)
     && lies_inside h.each p.covers)
 
--- the same of the formula of a number
+-- a hull has both corners of all that the formula of a number covers, and lies inside of it
 abbrev pub has_corners_at : List Placed → Hull → ℕ → Bool
 has_corners_at [] h n = false
 has_corners_at (p ∷ ps) h zero = has_corners h p
@@ -105,7 +106,7 @@ has_corners_at (p ∷ ps) h (suc n) = has_corners_at ps h n
 abbrev pub is_hull : List Placed → Hull → List ℕ → Bool
 is_hull placed h ns = list_all (has_corners_at placed h) ns
 
--- a hull that there is has them
+-- a hull that there is has both corners of all that these formulas cover, and lies inside of each
 abbrev pub IsHullOf : List Placed → Option Hull → List ℕ → Type 0
 IsHullOf placed None ns = Unit {0}
 IsHullOf placed (Some h) ns = is_hull placed h ns ≡ true

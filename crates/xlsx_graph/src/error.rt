@@ -4,7 +4,7 @@ use std::alloc::{AllocError, AllocFailed};
 /// Why what formulas name isn't told.
 #[derive(Clone, Copy, Debug)]
 pub enum NamingError {
-    /// More is named, or more bytes of defined names are to be read, than there is room for.
+    /// More is named, or more of defined names is to be read, than there is room for.
     TooLarge,
     OutOfMemory,
 }

@@ -1,13 +1,13 @@
 //! What formulas name, kept within limits.
-ghost use Rattle.std.specs.Prelude.{◌≡◌, ◌<◌, ◌≤◌, ◌+◌, ℕ, IfOk, IfErr, OnOk, length, false};
-ghost use Rattle.std.specs.Prelude.{◌++◌, OnErr, replicate, slice_index_or, map, take, drop, []};
+ghost use Rattle.std.specs.Prelude.{◌≡◌, ◌<◌, ◌≤◌, ◌+◌, ℕ, IfOk, IfErr, OnOk, length, false, ◌++◌};
+ghost use Rattle.std.specs.Prelude.{OnErr, replicate, slice_index_or, map, take, drop, []};
 ghost use Rattle.xlsx_graph.specs.Naming.{Found, area_found, word_found, read_more, nothing_found};
+ghost use Rattle.xlsx_graph.specs.Naming.{mention_meaning, function_meaning, unvalued, place_alone};
+ghost use Rattle.xlsx_graph.specs.Naming.{ranged, range_area, reading_weight};
 ghost use Rattle.formula_tokens.specs.Told.{place_told, named_told};
-ghost use Rattle.xlsx_graph.specs.Naming.{mention_meaning, function_meaning};
-ghost use Rattle.xlsx_graph.specs.Naming.{unvalued, place_alone, ranged, range_area};
 ghost use Rattle.xlsx_graph.specs.Kept.{Kept, Adds, IsBeyond, WhenTooLarge, none_open, Spends};
-ghost use Rattle.xlsx_graph.specs.Kept.{Extends, Gives};
-ghost use Rattle.xlsx_graph.specs.Kept.{Opens, IsMark, GivesBack, IsRanging};
+ghost use Rattle.xlsx_graph.specs.Kept.{KeepsInFront, Gives, MarksOpen, TellsKept, GivesBack};
+ghost use Rattle.xlsx_graph.specs.Kept.{IsRanging};
 ghost use Rattle.xlsx_graph.specs.Told.{open_told, word_text, meaning_told};
 
 use crate::error::NamingError;
@@ -20,6 +20,9 @@ use book_names::{BookNames, NameKey};
 use formula_tokens::{Name, Named, Place};
 use std::alloc::{AllocError, Global};
 use std::marker::Model;
+
+/// How much a text weighs that is read for a defined name, beside its bytes.
+const READING: u64 = 64;
 
 /// What formulas name, one formula behind the other: areas, and the words that are left open.
 #[derive(Debug, Drop)]
@@ -59,7 +62,7 @@ pub(crate) struct Mark {
 
 impl Findings {
     /// Nothing yet, and room for so many areas, each as often as it has sheets, and open words, and
-    /// for so many bytes of defined names that are read.
+    /// for texts of defined names that are read and weigh so much: each its bytes and 64 more.
     pub fn new(
         alloc: Global,
         book: &BookNames,
@@ -99,8 +102,8 @@ impl Findings {
         &self.found_words
     }
 
-    /// How many areas there are, how many open words, and how many more bytes of defined names may
-    /// be read.
+    /// How many areas there are, how many open words, and how much more may be read of defined
+    /// names.
     pub(crate) fn counts(&self) -> (usize, usize, u64)
         ensures areas { result.0 ≡ length self.now.areas }
         ensures words { result.1 ≡ length self.now.words }
@@ -122,24 +125,24 @@ impl Findings {
         Ok(())
     }
 
-    /// Takes room for so many bytes of a defined name's text.
+    /// Takes room for a defined name's text of so many bytes.
     pub(crate) fn spend_read(&mut self, bytes: usize) -> Result<(), NamingError>
         ensures ok { OnOk result (Adds self.old self.new (read_more bytes nothing_found)) }
-        ensures too_large { OnErr result (self.old.read_left < bytes) }
+        ensures too_large { OnErr result (self.old.read_left < reading_weight bytes) }
         ensures same { OnErr result (self.new ≡ self.old) }
     {
         let bytes = bytes as u64;
-        if self.read < bytes {
+        if self.read < READING || self.read - READING < bytes {
             return Err(NamingError::TooLarge);
         }
-        self.read -= bytes;
+        self.read -= READING + bytes;
         Ok(())
     }
 
     /// Appends an area.
     pub(crate) fn push_area(&mut self, area: BookArea) -> Result<(), NamingError>
         ensures gives { Gives result self.old self.new (area_found area) }
-        ensures front { OnErr result (Extends self.old self.new) }
+        ensures front { OnErr result (KeepsInFront self.old self.new) }
     {
         let behind_first = area.last.saturating_sub(area.first) as u64;
         if self.named <= behind_first {
@@ -154,7 +157,7 @@ impl Findings {
     pub(crate) fn push_word(&mut self, cause: Cause, word: Word<'_>) -> Result<(), NamingError>
         ensures gives { Gives result self.old self.new
             (word_found cause (word_text word.entry)) }
-        ensures front { OnErr result (Extends self.old self.new) }
+        ensures front { OnErr result (KeepsInFront self.old self.new) }
     {
         if self.named == 0 {
             return Err(NamingError::TooLarge);
@@ -177,7 +180,7 @@ impl Findings {
 
     /// Keeps whether the text of a defined name is being read.
     pub(crate) fn set_open(&mut self, name: usize, is_open: bool)
-        ensures { Opens self.old self.new name is_open }
+        ensures { MarksOpen self.old self.new name is_open }
     {
         if let Some(open) = self.open_names.get_mut(name) {
             *open = is_open;
@@ -218,7 +221,7 @@ impl Findings {
 
     /// How much was found up to here.
     pub(crate) fn mark(&self) -> Mark
-        ensures { IsMark result self.now }
+        ensures { TellsKept result self.now }
     {
         Mark {
             areas: self.found_areas.len(),
@@ -229,7 +232,7 @@ impl Findings {
 
     /// Asks for the place alone of what was found behind a mark.
     pub(crate) fn ask_place(&mut self, start: Mark)
-        ensures { (kept : Kept) (f : Found) → IsMark start kept → Adds kept self.old f →
+        ensures { (kept : Kept) (f : Found) → TellsKept start kept → Adds kept self.old f →
             Adds kept self.new (place_alone f) }
     {
         ask_place_behind(&mut self.found_areas, start.areas);
@@ -245,13 +248,13 @@ impl Findings {
     /// Makes a range of what was found between two marks, whose room was given back, and of what
     /// was found behind the second.
     pub(crate) fn join(&mut self, start: Mark, middle: Mark) -> Result<(), NamingError>
-        ensures ok { OnOk result ((kept : Kept) (a b : Found) → IsMark start kept →
+        ensures ok { OnOk result ((kept : Kept) (a b : Found) → TellsKept start kept →
             IsRanging kept middle self.old a b → Adds kept self.new (ranged a b)) }
         ensures too_large { IfErr result (λ e. WhenTooLarge e
-            ((kept : Kept) (a b : Found) → IsMark start kept →
+            ((kept : Kept) (a b : Found) → TellsKept start kept →
             IsRanging kept middle self.old a b → IsBeyond kept (ranged a b))) }
-        ensures front { OnErr result ((kept : Kept) (a b : Found) → IsMark start kept →
-            IsRanging kept middle self.old a b → Extends kept self.new) }
+        ensures front { OnErr result ((kept : Kept) (a b : Found) → TellsKept start kept →
+            IsRanging kept middle self.old a b → KeepsInFront kept self.new) }
         ensures opened { OnOk result (self.new.opened ≡ self.old.opened) }
     {
         match self.joined(start, middle) {
@@ -269,7 +272,7 @@ impl Findings {
 
     /// The area that a range is, if it is one.
     fn joined(&self, start: Mark, middle: Mark) -> Option<BookArea>
-        ensures { (kept : Kept) (a b : Found) → IsMark start kept →
+        ensures { (kept : Kept) (a b : Found) → TellsKept start kept →
             IsRanging kept middle self.now a b → result ≡ range_area a b }
     {
         if self.found_words.len() != start.words || middle.areas.saturating_sub(start.areas) != 1 {

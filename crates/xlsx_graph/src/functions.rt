@@ -2,8 +2,7 @@
 ghost use Rattle.std.specs.Prelude.{◌≡◌, drop};
 ghost use Rattle.std.specs.List.{list_any};
 ghost use Rattle.formula_tokens.specs.Tokens.{is_begun_by, is_same_name};
-ghost use Rattle.xlsx_graph.specs.Naming.{is_parameter, plain_function};
-ghost use Rattle.xlsx_graph.specs.Naming.{is_computed, asks_place};
+ghost use Rattle.xlsx_graph.specs.Naming.{is_parameter, plain_function, is_computed, asks_place};
 
 use formula_tokens::is_same_name;
 

@@ -2,7 +2,7 @@
 ghost use Rattle.std.specs.Prelude.{◌≡◌, ◌<◌, ◌≤◌, ◌++◌, [], List, length, map, string_bytes, OnOk};
 ghost use Rattle.std.specs.Prelude.{OnErr, Some};
 ghost use Rattle.std.specs.List.{flat_map, slice_get, slice_index_or};
-ghost use Rattle.escaped_text.specs.Escaped.{Extends, escaped};
+ghost use Rattle.escaped_text.specs.Escaped.{AddsBehind, escaped};
 ghost use Rattle.list_lines.specs.Fields.{next_field};
 ghost use Rattle.xlsx_graph.specs.Graph.{GraphFormula};
 ghost use Rattle.xlsx_graph.specs.GraphLines.{book_area_field, cause_text, cell_text, doubled};
@@ -22,7 +22,7 @@ use std::alloc::AllocError;
 fn push_doubled(out: &mut String, text: &str) -> Result<(), AllocError>
     ensures ok { OnOk result
         (string_bytes out.new ≡ string_bytes out.old ++ escaped (doubled text.now)) }
-    ensures err { OnErr result (Extends (string_bytes out.old) (string_bytes out.new)) }
+    ensures err { OnErr result (AddsBehind (string_bytes out.old) (string_bytes out.new)) }
 {
     let mut rest = text;
     'parts: while let Some((before, behind)) = split_first(rest) {
@@ -47,7 +47,7 @@ fn sheet_name(book: &BookNames, sheet: usize) -> &str
 fn push_sheet(out: &mut String, book: &BookNames, sheet: usize) -> Result<(), AllocError>
     ensures ok { OnOk result
         (string_bytes out.new ≡ string_bytes out.old ++ sheet_text book.now sheet) }
-    ensures err { OnErr result (Extends (string_bytes out.old) (string_bytes out.new)) }
+    ensures err { OnErr result (AddsBehind (string_bytes out.old) (string_bytes out.new)) }
 {
     out.push_str("'")?;
     push_doubled(out, sheet_name(book, sheet))?;
@@ -62,7 +62,7 @@ pub(crate) fn push_cell(
 ) -> Result<(), AllocError>
     ensures ok { OnOk result
         (string_bytes out.new ≡ string_bytes out.old ++ cell_text book.now cell) }
-    ensures err { OnErr result (Extends (string_bytes out.old) (string_bytes out.new)) }
+    ensures err { OnErr result (AddsBehind (string_bytes out.old) (string_bytes out.new)) }
 {
     push_sheet(out, book, cell.sheet)?;
     out.push_str("!")?;
@@ -73,7 +73,7 @@ pub(crate) fn push_cell(
 fn push_sheets(out: &mut String, book: &BookNames, area: BookArea) -> Result<(), AllocError>
     ensures ok { OnOk result
         (string_bytes out.new ≡ string_bytes out.old ++ sheets_text book.now area) }
-    ensures err { OnErr result (Extends (string_bytes out.old) (string_bytes out.new)) }
+    ensures err { OnErr result (AddsBehind (string_bytes out.old) (string_bytes out.new)) }
 {
     if area.first == area.last {
         return push_sheet(out, book, area.first);
@@ -87,7 +87,7 @@ fn push_sheets(out: &mut String, book: &BookNames, area: BookArea) -> Result<(),
 fn push_area(out: &mut String, book: &BookNames, area: BookArea) -> Result<(), AllocError>
     ensures ok { OnOk result
         (string_bytes out.new ≡ string_bytes out.old ++ book_area_field book.now area) }
-    ensures err { OnErr result (Extends (string_bytes out.old) (string_bytes out.new)) }
+    ensures err { OnErr result (AddsBehind (string_bytes out.old) (string_bytes out.new)) }
 {
     out.push_str(if area.is_valued { "" } else { "~" })?;
     push_sheets(out, book, area)?;
@@ -99,7 +99,7 @@ fn push_area(out: &mut String, book: &BookNames, area: BookArea) -> Result<(), A
 fn push_areas(out: &mut String, book: &BookNames, areas: &[BookArea]) -> Result<(), AllocError>
     ensures ok { OnOk result (string_bytes out.new ≡ string_bytes out.old
         ++ flat_map (λ a. next_field (book_area_field book.now a)) areas.now) }
-    ensures err { OnErr result (Extends (string_bytes out.old) (string_bytes out.new)) }
+    ensures err { OnErr result (AddsBehind (string_bytes out.old) (string_bytes out.new)) }
 {
     for area in areas {
         out.push_str("\t")?;
@@ -130,7 +130,7 @@ fn cause_text(cause: Cause) -> &'static str
 fn push_open(out: &mut String, word: &OpenWord) -> Result<(), AllocError>
     ensures ok { OnOk result
         (string_bytes out.new ≡ string_bytes out.old ++ open_field (open_told word.now)) }
-    ensures err { OnErr result (Extends (string_bytes out.old) (string_bytes out.new)) }
+    ensures err { OnErr result (AddsBehind (string_bytes out.old) (string_bytes out.new)) }
 {
     out.push_str("?")?;
     out.push_str(cause_text(word.cause))?;
@@ -142,7 +142,7 @@ fn push_open(out: &mut String, word: &OpenWord) -> Result<(), AllocError>
 fn push_words(out: &mut String, words: &[OpenWord]) -> Result<(), AllocError>
     ensures ok { OnOk result (string_bytes out.new ≡ string_bytes out.old
         ++ flat_map (λ o. next_field (open_field o)) (map open_told words.now)) }
-    ensures err { OnErr result (Extends (string_bytes out.old) (string_bytes out.new)) }
+    ensures err { OnErr result (AddsBehind (string_bytes out.old) (string_bytes out.new)) }
 {
     for word in words {
         out.push_str("\t")?;
@@ -161,7 +161,7 @@ fn push_formula(
     requires { number < length graph.now.formulas }
     ensures ok { OnOk result ((f : GraphFormula) → slice_get graph.now.formulas number ≡ Some f →
         string_bytes out.new ≡ string_bytes out.old ++ graph_line book.now f) }
-    ensures err { OnErr result (Extends (string_bytes out.old) (string_bytes out.new)) }
+    ensures err { OnErr result (AddsBehind (string_bytes out.old) (string_bytes out.new)) }
 {
     let (areas, words) = graph.named(number);
     push_cell(out, book, graph.cell(number))?;
@@ -178,7 +178,7 @@ fn push_formulas(
 ) -> Result<(), AllocError>
     ensures ok { OnOk result (string_bytes out.new
         ≡ string_bytes out.old ++ graph_lines book.now graph.now.formulas) }
-    ensures err { OnErr result (Extends (string_bytes out.old) (string_bytes out.new)) }
+    ensures err { OnErr result (AddsBehind (string_bytes out.old) (string_bytes out.new)) }
 {
     for number in 0..graph.len() {
         push_formula(out, book, graph, number)?;

@@ -4,11 +4,11 @@
 //! (texts of open words), `before` (what stands before an item), `range` (two areas around a
 //! colon), `reader` (how a text is read), `sheets` (the sheets of a place), `functions` (names of
 //! functions), `meaning` (what a mention means), `naming` (all that a text names), `naming_laws`
-//! (what holds of all that is named), `workbook_graph` (all formulas of a workbook), `leaves` (their
-//! order along a tree), `hulls` (what the forks of a tree cover), `tree`, `links` (what formulas
-//! need, by way of a tree), `graph_laws` (what holds of all graphs), `reference` (places as texts),
-//! `graph_lines`, `order_marks` (marks of formulas in an order), `order_lines` (what is printed),
-//! `equality`, `error`.
+//! (what holds of all that is named), `workbook_graph` (all formulas of a workbook), `leaves`
+//! (their order along a tree), `hulls` (what the forks of a tree cover), `tree`, `links` (what
+//! formulas need, by way of a tree), `graph_laws` (what holds of all graphs), `reference` (places
+//! as texts), `graph_lines`, `order_marks` (marks of formulas in an order), `order_lines` (what is
+//! printed), `equality`, `error`.
 //!
 //! A text is read once, from the left, and that of a defined name as often as it is named, one
 //! level of calls for each name within another. What is found is counted as it is appended, so a

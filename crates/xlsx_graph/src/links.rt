@@ -1,6 +1,5 @@
 //! Which formulas of a workbook need which, by links.
-ghost use Rattle.std.specs.Prelude.{◌≡◌, ◌∷◌, ◌++◌, ℕ, [], IfOk, List, OnOk, length, map};
-ghost use Rattle.std.specs.Prelude.{true};
+ghost use Rattle.std.specs.Prelude.{◌≡◌, ◌∷◌, ◌++◌, ℕ, [], IfOk, List, OnOk, length, map, true};
 ghost use Rattle.std.specs.List.{list_all};
 ghost use Rattle.calculation_order.specs.Links.{AreGrouped, AreLinked};
 ghost use Rattle.xlsx_graph.specs.Gathered.{formula_in, lies_in_areas};

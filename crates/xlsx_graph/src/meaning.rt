@@ -1,7 +1,7 @@
 //! What mentions mean.
-ghost use Rattle.std.specs.Prelude.{◌≡◌, ◌<◌, ℕ, List, IfOk, length, map, position};
-ghost use Rattle.std.specs.Prelude.{option_map, slice_get};
-ghost use Rattle.formula_shift.specs.Areas.{area_between};
+ghost use Rattle.std.specs.Prelude.{◌≡◌, ◌<◌, ℕ, List, IfOk, length, map, position, option_map};
+ghost use Rattle.std.specs.Prelude.{slice_get};
+ghost use Rattle.formula_shift.specs.Words.{area_between};
 ghost use Rattle.formula_tokens.specs.Told.{place_told, named_told};
 ghost use Rattle.book_names.specs.Book.{lowered};
 ghost use Rattle.book_names.specs.Told.{table_told};

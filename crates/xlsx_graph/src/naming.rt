@@ -1,16 +1,15 @@
 //! What texts name in a workbook.
 ghost use Rattle.std.specs.Prelude.{◌≡◌, ◌<◌, ◌∷◌, ◌&&◌, OnOk, OnErr, IfErr, MatchOption};
-ghost use Rattle.std.specs.Prelude.{MatchResult, length, drop};
-ghost use Rattle.std.specs.Prelude.{option_map, slice_get};
+ghost use Rattle.std.specs.Prelude.{MatchResult, length, drop, option_map, slice_get};
 ghost use Rattle.book_names.specs.Told.{name_told};
 ghost use Rattle.formula_tokens.specs.Items.{place_text, says, colon};
-ghost use Rattle.formula_tokens.specs.Told.{place_told, named_told, item_text, items_left};
+ghost use Rattle.formula_tokens.specs.Told.{place_told, named_told, item_text, formula_items_left};
 ghost use Rattle.xlsx_graph.specs.Naming.{found_within, named_in, meaning_found, mention_found};
-ghost use Rattle.xlsx_graph.specs.Naming.{function_found, range_found, item_found, items_within};
+ghost use Rattle.xlsx_graph.specs.Naming.{function_found, range_found, item_found, items_belonging};
 ghost use Rattle.xlsx_graph.specs.Naming.{closes_next, before_next, is_place_asked, IsInBook};
 ghost use Rattle.xlsx_graph.specs.Naming.{Found, sign_found, numbered_found, range_length};
 ghost use Rattle.xlsx_graph.specs.Naming.{ranged_on};
-ghost use Rattle.xlsx_graph.specs.Kept.{Kept, Adds, Extends, Gives, IsBeyond, IsMark};
+ghost use Rattle.xlsx_graph.specs.Kept.{Kept, Adds, KeepsInFront, Gives, IsBeyond, TellsKept};
 ghost use Rattle.xlsx_graph.specs.Kept.{WhenTooLarge, none_open};
 ghost use Rattle.xlsx_graph.specs.Told.{meaning_told, word_text};
 
@@ -27,7 +26,7 @@ use formula_tokens::{Item, Items, Name, Named, Place};
 
 /// Whether a bracket closes in front.
 fn closes_next(items: Items<'_>) -> bool
-    ensures { result ≡ closes_next (items_left items.entry) }
+    ensures { result ≡ closes_next (formula_items_left items.entry) }
 {
     let mut ahead = items;
     matches!(ahead.next(), Some(Item::Closes))
@@ -62,7 +61,7 @@ fn is_place_asked(before: Before) -> bool
 
 /// Whether the place alone is asked for of a mention, behind which these items stand.
 fn asks_alone(before: Before, items: Items<'_>) -> bool
-    ensures { result ≡ (is_place_asked before && closes_next (items_left items.entry)) }
+    ensures { result ≡ (is_place_asked before && closes_next (formula_items_left items.entry)) }
 {
     is_place_asked(before) && closes_next(items)
 }
@@ -70,9 +69,10 @@ fn asks_alone(before: Before, items: Items<'_>) -> bool
 /// Takes a colon and the mention behind it, if they stand in front.
 fn next_in_range<'a>(items: &mut Items<'a>) -> Option<(Place<'a>, Named<'a>)>
     ensures { MatchOption result
-        ((range_length (items_left items.old) ≡ 0) × (items_left items.new ≡ items_left items.old))
-        (λ mention. items_left items.old ≡ colon
-        ∷ says (place_told mention.0) (named_told mention.1) ∷ items_left items.new) }
+        ((range_length (formula_items_left items.old) ≡ 0) × (formula_items_left items.new
+        ≡ formula_items_left items.old))
+        (λ mention. formula_items_left items.old ≡ colon
+        ∷ says (place_told mention.0) (named_told mention.1) ∷ formula_items_left items.new) }
 {
     let mut ahead = *items;
     let Some(Item::Colon) = ahead.next() else {
@@ -89,7 +89,7 @@ fn next_in_range<'a>(items: &mut Items<'a>) -> Option<(Place<'a>, Named<'a>)>
 fn push_sign(out: &mut Findings, item: Item<'_>) -> Result<(), NamingError>
     ensures gives { Gives result out.old out.new
         (sign_found (item_text item.entry)) }
-    ensures front { OnErr result (Extends out.old out.new) }
+    ensures front { OnErr result (KeepsInFront out.old out.new) }
 {
     match item {
         Item::Colon => out.push_word(Cause::NoRange, Word::Name(Name::Plain(":"))),
@@ -132,7 +132,7 @@ fn push_name(
     requires { reader.sheet < length book.now.sheets }
     ensures gives { Gives result out.old out.new
         (numbered_found turns book.now reader out.old.opened number word.now) }
-    ensures front { OnErr result (Extends out.old out.new) }
+    ensures front { OnErr result (KeepsInFront out.old out.new) }
 {
     let Some(name) = defined_name(book, number) else {
         return out.push_word(Cause::NoName, Word::Name(Name::Plain(word)));
@@ -160,7 +160,7 @@ fn push_meaning(
     ensures gives { Gives result out.old out.new
         (meaning_found (found_within turns book.now) book.now reader out.old.opened
         (meaning_told meaning.entry)) }
-    ensures front { OnErr result (Extends out.old out.new) }
+    ensures front { OnErr result (KeepsInFront out.old out.new) }
 {
     match meaning {
         Meaning::Nothing => Ok(()),
@@ -191,7 +191,7 @@ fn push_mention(
     ensures gives { Gives result out.old out.new
         (mention_found turns book.now reader out.old.opened (place_told place.entry)
         (named_told named.entry)) }
-    ensures front { OnErr result (Extends out.old out.new) }
+    ensures front { OnErr result (KeepsInFront out.old out.new) }
 {
     let meaning = out.mention_meaning(book, reader, place, named)?;
     push_meaning(out, book, reader, turns, meaning)
@@ -211,7 +211,7 @@ fn push_function(
     ensures gives { Gives result out.old out.new
         (function_found turns book.now reader out.old.opened (place_told place.entry)
         function.now) }
-    ensures front { OnErr result (Extends out.old out.new) }
+    ensures front { OnErr result (KeepsInFront out.old out.new) }
 {
     let meaning = out.function_meaning(book, reader, place, function)?;
     push_meaning(out, book, reader, turns, meaning)
@@ -228,18 +228,18 @@ fn push_ends(
     items: &mut Items<'_>,
 ) -> Result<(), NamingError>
     requires { reader.sheet < length book.now.sheets }
-    ensures ok { OnOk result ((kept : Kept) (f : Found) → IsMark start kept →
+    ensures ok { OnOk result ((kept : Kept) (f : Found) → TellsKept start kept →
         Adds kept out.old f → Adds kept out.new
         (ranged_on (mention_found turns book.now reader out.old.opened) f
-        (items_left items.old))) }
+        (formula_items_left items.old))) }
     ensures too_large { IfErr result (λ e. WhenTooLarge e ((kept : Kept) (f : Found) →
-        IsMark start kept → Adds kept out.old f → IsBeyond kept
+        TellsKept start kept → Adds kept out.old f → IsBeyond kept
         (ranged_on (mention_found turns book.now reader out.old.opened) f
-        (items_left items.old)))) }
-    ensures front { OnErr result ((kept : Kept) (f : Found) → IsMark start kept →
-        Adds kept out.old f → Extends kept out.new) }
-    ensures items { OnOk result (items_left items.new
-        ≡ drop (range_length (items_left items.old)) (items_left items.old)) }
+        (formula_items_left items.old)))) }
+    ensures front { OnErr result ((kept : Kept) (f : Found) → TellsKept start kept →
+        Adds kept out.old f → KeepsInFront kept out.new) }
+    ensures items { OnOk result (formula_items_left items.new
+        ≡ drop (range_length (formula_items_left items.old)) (formula_items_left items.old)) }
 {
     'ends: while let Some((place, named)) = next_in_range(items) {
         let middle = out.mark();
@@ -265,10 +265,10 @@ fn push_range(
     ensures gives { Gives result out.old out.new
         (range_found (mention_found turns book.now reader out.old.opened) before
         (mention_found turns book.now reader out.old.opened (place_told mention.entry.0)
-        (named_told mention.entry.1)) (items_left items.old)) }
-    ensures front { OnErr result (Extends out.old out.new) }
-    ensures items { OnOk result (items_left items.new
-        ≡ drop (range_length (items_left items.old)) (items_left items.old)) }
+        (named_told mention.entry.1)) (formula_items_left items.old)) }
+    ensures front { OnErr result (KeepsInFront out.old out.new) }
+    ensures items { OnOk result (formula_items_left items.new
+        ≡ drop (range_length (formula_items_left items.old)) (formula_items_left items.old)) }
 {
     let start = out.mark();
     push_mention(out, book, reader, turns, mention.0, mention.1)?;
@@ -294,11 +294,11 @@ fn push_item(
     ensures gives { Gives result out.old out.new
         (item_found (mention_found turns book.now reader out.old.opened)
         (function_found turns book.now reader out.old.opened) before (item_text item.entry)
-        (items_left items.old)) }
-    ensures front { OnErr result (Extends out.old out.new) }
-    ensures items { OnOk result (items_left items.new
-        ≡ drop (items_within (item_text item.entry) (items_left items.old))
-        (items_left items.old)) }
+        (formula_items_left items.old)) }
+    ensures front { OnErr result (KeepsInFront out.old out.new) }
+    ensures items { OnOk result (formula_items_left items.new
+        ≡ drop (items_belonging (item_text item.entry) (formula_items_left items.old))
+        (formula_items_left items.old)) }
 {
     match item {
         Item::Says(place, named) => {
@@ -321,7 +321,7 @@ fn push_text(
     requires { reader.sheet < length book.now.sheets }
     ensures gives { Gives result out.old out.new
         (found_within turns book.now reader out.old.opened text.now) }
-    ensures front { OnErr result (Extends out.old out.new) }
+    ensures front { OnErr result (KeepsInFront out.old out.new) }
 {
     if turns == 0 {
         return out.push_word(Cause::Endless, Word::Name(Name::Plain(text)));
@@ -345,9 +345,9 @@ fn push_text(
 /// # Errors
 ///
 /// `TooLarge` exactly where there is less room than the formula takes: room for each area as often
-/// as it has sheets, for each open word, and for the bytes of the texts of defined names that are
-/// read. Otherwise only want of memory is refused. After a refusal what was there before still
-/// stands in front, more may stand behind it, and no defined name is open.
+/// as it has sheets, for each open word, and for each text of a defined name that is read, by its
+/// bytes and 64 more. Otherwise only want of memory is refused. After a refusal what was there
+/// before still stands in front, more may stand behind it, and no defined name is open.
 pub fn push_named(
     out: &mut Findings,
     book: &BookNames,
@@ -357,7 +357,7 @@ pub fn push_named(
     requires sheet { cell.sheet < length book.now.sheets }
     requires closed { out.old.opened ≡ none_open book.now }
     ensures gives { Gives result out.old out.new (named_in book.now cell formula.now) }
-    ensures front { OnErr result (Extends out.old out.new) }
+    ensures front { OnErr result (KeepsInFront out.old out.new) }
 {
     let reader = Reader {
         cell,

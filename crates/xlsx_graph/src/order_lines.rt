@@ -3,11 +3,11 @@ ghost use Rattle.std.specs.Prelude.{◌≡◌, ◌++◌, ◌<◌, [], ℕ, lengt
 ghost use Rattle.std.specs.Prelude.{OnErr, OnOk, false, if◌then◌else◌};
 ghost use Rattle.std.specs.List.{flat_map, slice_index_or};
 ghost use Rattle.calculation_order.specs.Edges.{firsts_of, is_number_of, numbers_below};
-ghost use Rattle.escaped_text.specs.Escaped.{Extends};
+ghost use Rattle.escaped_text.specs.Escaped.{AddsBehind};
 ghost use Rattle.list_lines.specs.Fields.{next_field};
 ghost use Rattle.xlsx_graph.specs.Graph.{needed};
 ghost use Rattle.xlsx_graph.specs.GraphLines.{cell_numbered, cycle_line, cycles_lines};
-ghost use Rattle.xlsx_graph.specs.GraphLines.{dependents_lines, left_line, numbered_line};
+ghost use Rattle.xlsx_graph.specs.GraphLines.{all_dependents_lines, left_line, numbered_line};
 ghost use Rattle.xlsx_graph.specs.GraphLines.{order_line, order_lines, order_lines_by};
 
 use crate::graph_lines::push_cell;
@@ -28,7 +28,7 @@ fn push_numbered(
 ) -> Result<(), AllocError>
     ensures ok { OnOk result (string_bytes out.new
         ≡ string_bytes out.old ++ cell_numbered book.now graph.now.formulas number) }
-    ensures err { OnErr result (Extends (string_bytes out.old) (string_bytes out.new)) }
+    ensures err { OnErr result (AddsBehind (string_bytes out.old) (string_bytes out.new)) }
 {
     if number >= graph.len() {
         return Ok(());
@@ -45,7 +45,7 @@ fn push_numbers(
 ) -> Result<(), AllocError>
     ensures ok { OnOk result (string_bytes out.new ≡ string_bytes out.old
         ++ flat_map (numbered_line book.now graph.now.formulas) numbers.now) }
-    ensures err { OnErr result (Extends (string_bytes out.old) (string_bytes out.new)) }
+    ensures err { OnErr result (AddsBehind (string_bytes out.old) (string_bytes out.new)) }
 {
     for number in numbers {
         push_numbered(out, book, graph, *number)?;
@@ -56,7 +56,7 @@ fn push_numbers(
 
 /// Appends a line for each formula that needs the value of a cell, itself or through others: its
 /// cell. A refusal leaves the text as it was.
-#[tactic(auto, using(escaped_text::proofs::Extending::cut_back), unfolding(crate::specs::GraphLines::dependents_lines))]
+#[tactic(auto, using(escaped_text::proofs::Extending::cut_back), unfolding(crate::specs::GraphLines::all_dependents_lines))]
 pub fn push_dependents_at(
     out: &mut String,
     book: &BookNames,
@@ -64,7 +64,7 @@ pub fn push_dependents_at(
     cell: Standing,
 ) -> Result<(), AllocError>
     ensures ok { OnOk result (string_bytes out.new
-        ≡ string_bytes out.old ++ dependents_lines book.now graph.now.formulas cell) }
+        ≡ string_bytes out.old ++ all_dependents_lines book.now graph.now.formulas cell) }
     ensures err { OnErr result (string_bytes out.new ≡ string_bytes out.old) }
 {
     let numbers = graph.dependents(*out.allocator(), cell)?;
@@ -83,7 +83,7 @@ fn push_further(
     ensures ok { OnOk result (string_bytes out.new ≡ string_bytes out.old
         ++ flat_map (λ n. next_field (cell_numbered book.now graph.now.formulas n))
         numbers.now) }
-    ensures err { OnErr result (Extends (string_bytes out.old) (string_bytes out.new)) }
+    ensures err { OnErr result (AddsBehind (string_bytes out.old) (string_bytes out.new)) }
 {
     for number in numbers {
         out.push_str("\t")?;
@@ -101,7 +101,7 @@ fn push_cycle(
 ) -> Result<(), AllocError>
     ensures ok { OnOk result (string_bytes out.new
         ≡ string_bytes out.old ++ cycle_line book.now graph.now.formulas numbers.now) }
-    ensures err { OnErr result (Extends (string_bytes out.old) (string_bytes out.new)) }
+    ensures err { OnErr result (AddsBehind (string_bytes out.old) (string_bytes out.new)) }
 {
     match numbers {
         [first, others @ ..] => {
@@ -123,7 +123,7 @@ fn push_lists(
     ensures ok { OnOk result (string_bytes out.new ≡ string_bytes out.old
         ++ flat_map (cycle_line book.now graph.now.formulas)
         (map (λ list. list.items) lists.now)) }
-    ensures err { OnErr result (Extends (string_bytes out.old) (string_bytes out.new)) }
+    ensures err { OnErr result (AddsBehind (string_bytes out.old) (string_bytes out.new)) }
 {
     for list in lists {
         push_cycle(out, book, graph, list)?;
@@ -159,7 +159,7 @@ fn push_order_line(
 ) -> Result<(), AllocError>
     ensures ok { OnOk result (string_bytes out.new
         ≡ string_bytes out.old ++ order_line book.now graph.now.formulas mark.now number) }
-    ensures err { OnErr result (Extends (string_bytes out.old) (string_bytes out.new)) }
+    ensures err { OnErr result (AddsBehind (string_bytes out.old) (string_bytes out.new)) }
 {
     push_numbered(out, book, graph, number)?;
     out.push_str(mark)?;
@@ -176,7 +176,7 @@ fn push_ordered(
 ) -> Result<(), AllocError>
     ensures ok { OnOk result (string_bytes out.new ≡ string_bytes out.old
         ++ flat_map (order_line book.now graph.now.formulas []) order.now) }
-    ensures err { OnErr result (Extends (string_bytes out.old) (string_bytes out.new)) }
+    ensures err { OnErr result (AddsBehind (string_bytes out.old) (string_bytes out.new)) }
 {
     for number in order {
         push_order_line(out, book, graph, "", *number)?;
@@ -198,7 +198,7 @@ fn push_if_left(
     ensures ok { OnOk result (string_bytes out.new ≡ string_bytes out.old
         ++ (if slice_index_or in_order.now number false then []
         else left_line book.now graph.now.formulas (needed graph.now.formulas) number)) }
-    ensures err { OnErr result (Extends (string_bytes out.old) (string_bytes out.new)) }
+    ensures err { OnErr result (AddsBehind (string_bytes out.old) (string_bytes out.new)) }
 {
     if in_order[number] {
         return Ok(());
@@ -221,7 +221,7 @@ fn push_left(
         ++ flat_map (left_line book.now graph.now.formulas (needed graph.now.formulas))
         (filter (λ n. not (slice_index_or in_order.now n false))
         (numbers_below (length graph.now.formulas)))) }
-    ensures err { OnErr result (Extends (string_bytes out.old) (string_bytes out.new)) }
+    ensures err { OnErr result (AddsBehind (string_bytes out.old) (string_bytes out.new)) }
 {
     for number in 0..graph.len() {
         push_if_left(out, book, graph, in_order, cycles, number)?;
@@ -245,7 +245,7 @@ fn push_both(
     requires cycles { cycles.now ≡ firsts_of (needed graph.now.formulas) }
     ensures ok { OnOk result (string_bytes out.new ≡ string_bytes out.old
         ++ order_lines_by book.now graph.now.formulas (needed graph.now.formulas) order.now) }
-    ensures err { OnErr result (Extends (string_bytes out.old) (string_bytes out.new)) }
+    ensures err { OnErr result (AddsBehind (string_bytes out.old) (string_bytes out.new)) }
 {
     push_ordered(out, book, graph, order)?;
     push_left(out, book, graph, in_order, cycles)
@@ -254,8 +254,8 @@ fn push_both(
 /// Appends a line for each formula: those that can be computed, in an order in which all that a
 /// formula needs stands before it, round by round and in each round by their numbers; then the
 /// others by their numbers, each marked `cycle` where it needs itself, at once or through others,
-/// and `behind` where it needs one that does. Each that may name more cells than are known is marked
-/// `open`. A refusal leaves the text as it was.
+/// and `behind` where it needs one that does. Each that may name more cells than are known is
+/// marked `open`. A refusal leaves the text as it was.
 ///
 /// The links of the formulas are made once, and it takes time by them and by the lines.
 #[tactic(auto, using(escaped_text::proofs::Extending::cut_back), unfolding(crate::specs::GraphLines::order_lines))]

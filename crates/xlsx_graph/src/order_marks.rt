@@ -3,7 +3,8 @@ ghost use Rattle.std.specs.Prelude.{◌≡◌, ◌<◌, ℕ, List, length, true,
 ghost use Rattle.std.specs.List.{list_any, slice_index_or};
 ghost use Rattle.calculation_order.specs.Edges.{firsts_of, is_number_of};
 ghost use Rattle.calculation_order.specs.OrderLaws.{are_within};
-ghost use Rattle.xlsx_graph.specs.GraphLines.{is_hiding, is_open, left_mark, may_name, open_mark};
+ghost use Rattle.xlsx_graph.specs.GraphLines.{is_hiding, is_open, left_mark, may_name};
+ghost use Rattle.xlsx_graph.specs.GraphLines.{mark_of_open};
 ghost use Rattle.xlsx_graph.specs.Told.{open_told};
 
 use crate::named::{Cause, OpenWord};
@@ -37,7 +38,7 @@ fn is_open(graph: &WorkbookGraph, number: usize) -> bool
 
 /// The mark of such a formula; nothing for others.
 pub(crate) fn open_mark(graph: &WorkbookGraph, number: usize) -> &'static str
-    ensures { result.now ≡ open_mark graph.now.formulas number }
+    ensures { result.now ≡ mark_of_open graph.now.formulas number }
 {
     if is_open(graph, number) { "\topen" } else { "" }
 }

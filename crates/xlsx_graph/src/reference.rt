@@ -1,9 +1,8 @@
 //! The A1 text of a position, wherever it is.
-ghost use Rattle.std.specs.Prelude.{◌≡◌, ◌+◌, ◌<◌, ◌≤◌, ◌∷◌, ◌++◌, [], ℕ, string_bytes};
-ghost use Rattle.std.specs.Prelude.{OnErr, OnOk};
-ghost use Rattle.cell_refs.specs.A1.{capitals_with_fuel, column_name};
-ghost use Rattle.cell_refs.specs.Reference.{reference, row_reference};
-ghost use Rattle.escaped_text.specs.Escaped.{Extends};
+ghost use Rattle.std.specs.Prelude.{◌≡◌, ◌+◌, ◌<◌, ◌≤◌, ◌∷◌, ◌++◌, [], ℕ, string_bytes, OnErr};
+ghost use Rattle.std.specs.Prelude.{OnOk};
+ghost use Rattle.cell_refs.specs.Words.{capitals_with_fuel, column_name, reference, row_reference};
+ghost use Rattle.escaped_text.specs.Escaped.{AddsBehind};
 ghost use Rattle.list_lines.specs.Fields.{area_field};
 
 use cell_refs::Dimensions;
@@ -27,7 +26,7 @@ fn push_capital(out: &mut String, place: u64) -> Result<(), AllocError>
 fn push_capitals(out: &mut String, number: u64) -> Result<(), AllocError>
     ensures ok { OnOk result ((turns : ℕ) → number ≤ turns →
         string_bytes out.new ≡ string_bytes out.old ++ capitals_with_fuel turns number) }
-    ensures err { OnErr result (Extends (string_bytes out.old) (string_bytes out.new)) }
+    ensures err { OnErr result (AddsBehind (string_bytes out.old) (string_bytes out.new)) }
 {
     if number == 0 {
         return Ok(());
@@ -39,7 +38,7 @@ fn push_capitals(out: &mut String, number: u64) -> Result<(), AllocError>
 /// Appends the name of a column, which is counted from 0.
 fn push_column(out: &mut String, column: u32) -> Result<(), AllocError>
     ensures ok { OnOk result (string_bytes out.new ≡ string_bytes out.old ++ column_name column) }
-    ensures err { OnErr result (Extends (string_bytes out.old) (string_bytes out.new)) }
+    ensures err { OnErr result (AddsBehind (string_bytes out.old) (string_bytes out.new)) }
 {
     push_capitals(out, u64::from(column) + 1)
 }
@@ -57,7 +56,7 @@ fn push_row(out: &mut String, row: u32) -> Result<(), AllocError>
 pub(crate) fn push_position(out: &mut String, row: u32, column: u32) -> Result<(), AllocError>
     ensures ok { OnOk result
         (string_bytes out.new ≡ string_bytes out.old ++ reference (row, column)) }
-    ensures err { OnErr result (Extends (string_bytes out.old) (string_bytes out.new)) }
+    ensures err { OnErr result (AddsBehind (string_bytes out.old) (string_bytes out.new)) }
 {
     push_column(out, column)?;
     push_row(out, row)
@@ -66,7 +65,7 @@ pub(crate) fn push_position(out: &mut String, row: u32, column: u32) -> Result<(
 /// Appends the texts of two corners, with a colon between them.
 pub(crate) fn push_corners(out: &mut String, area: Dimensions) -> Result<(), AllocError>
     ensures ok { OnOk result (string_bytes out.new ≡ string_bytes out.old ++ area_field area) }
-    ensures err { OnErr result (Extends (string_bytes out.old) (string_bytes out.new)) }
+    ensures err { OnErr result (AddsBehind (string_bytes out.old) (string_bytes out.new)) }
 {
     push_position(out, area.start.0, area.start.1)?;
     out.push_str(":")?;

@@ -2,7 +2,7 @@
 ghost use Rattle.std.specs.Prelude.{◌≡◌, IfOk};
 ghost use Rattle.book_names.specs.Book.{sheet_numbered};
 ghost use Rattle.formula_tokens.specs.Told.{name_text, place_told};
-ghost use Rattle.xlsx_graph.specs.Naming.{sheets_of, two_sheets};
+ghost use Rattle.xlsx_graph.specs.Naming.{sheets_of_place, two_sheets};
 ghost use Rattle.xlsx_graph.specs.Told.{sheets_told};
 
 use crate::word::Word;
@@ -60,7 +60,7 @@ pub(crate) fn sheets_of<'a>(
     key: &mut NameKey,
 ) -> Result<Sheets<'a>, AllocError>
     ensures { IfOk result (λ sheets. sheets_told sheets
-        ≡ sheets_of book.now sheet (place_told place.entry)) }
+        ≡ sheets_of_place book.now sheet (place_told place.entry)) }
 {
     match place {
         Place::Here | Place::InBook => Ok(Sheets::FromTo(sheet, sheet)),

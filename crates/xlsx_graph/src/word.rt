@@ -1,7 +1,6 @@
 //! The texts of words that are left open.
 ghost use Rattle.std.specs.Prelude.{◌≡◌, ◌≢◌, ℕ, List, ◌<◌, [], ◌∷◌, ◌++◌, OnOk, IfOk, IfSome};
-ghost use Rattle.std.specs.Prelude.{length};
-ghost use Rattle.std.specs.Prelude.{MatchOption, string_bytes};
+ghost use Rattle.std.specs.Prelude.{length, MatchOption, string_bytes};
 ghost use Rattle.std.specs.List.{position_or_len, before_first, after_first};
 ghost use Rattle.formula_tokens.specs.Items.{kept_bytes};
 ghost use Rattle.formula_tokens.specs.Told.{name_text};

@@ -1,11 +1,12 @@
 //! The formulas of a workbook, and what they name.
-ghost use Rattle.std.specs.Prelude.{◌≡◌, ◌+◌, ◌<◌, ◌≤◌, [], length, map, IfOk, OnErr, Some};
-ghost use Rattle.std.specs.Prelude.{false, ℕ};
+ghost use Rattle.std.specs.Prelude.{◌≡◌, ◌+◌, ◌<◌, ◌≤◌, [], length, map, IfOk, OnErr, Some, false};
+ghost use Rattle.std.specs.Prelude.{ℕ};
 ghost use Rattle.std.specs.List.{list_any, slice_get, slice_index_or};
 ghost use Rattle.calculation_order.specs.Edges.{cycles_of, firsts_of, order_of};
 ghost use Rattle.calculation_order.specs.Links.{AreGrouped, AreLinked};
-ghost use Rattle.xlsx_graph.specs.Gathered.{GathersOr, Stays, formula_of, nothing_gathered};
-ghost use Rattle.xlsx_graph.specs.Graph.{GraphFormula, asks_area, asks_at, dependents_at, needed};
+ghost use Rattle.xlsx_graph.specs.Gathered.{GathersOr, Stays, gathered_formula, nothing_gathered};
+ghost use Rattle.xlsx_graph.specs.Graph.{GraphFormula, asks_area, asks_for_cell, dependents_at};
+ghost use Rattle.xlsx_graph.specs.Graph.{needed};
 ghost use Rattle.xlsx_graph.specs.Told.{open_told};
 
 use crate::error::NamingError;
@@ -23,15 +24,15 @@ use std::marker::Model;
 /// that are left open.
 pub const MAX_NAMED: u64 = 16_777_216;
 
-/// How many bytes of the texts of defined names may be read for the formulas of a workbook, a text
-/// as often as it is read.
-pub const MAX_READ: u64 = 1_073_741_824;
+/// How much the texts of defined names may weigh that are read for the formulas of a workbook, each
+/// as often as it is read: its bytes and 64 more.
+pub const MAX_READ: u64 = 402_653_184;
 
 /// How many cells the formulas of a workbook may cover, a cell as often as it is covered.
 pub const MAX_COVERED: u64 = 1_073_741_824;
 
 /// A formula: its cell, the cells that have its values, where what it names begins and ends among
-/// all areas and among all open words, and how many bytes of defined names were read for it.
+/// all areas and among all open words, and how much was read of defined names for it.
 #[derive(Clone, Copy, Debug)]
 pub(crate) struct Placed {
     pub cell: Standing,
@@ -77,9 +78,9 @@ impl WorkbookGraph {
     /// # Errors
     ///
     /// `TooLarge` exactly where there is less room than the formula takes: for each area that it
-    /// names, as often as that has sheets, and each open word; for the bytes of the texts of
-    /// defined names that are read; and for the cells that it covers. Otherwise only want of memory
-    /// is refused. After a refusal the formulas stay, and there may be less room for more.
+    /// names, as often as that has sheets, and each open word; for each text of a defined name that
+    /// is read, by its bytes and 64 more; and for the cells that it covers. Otherwise only want of
+    /// memory is refused. After a refusal the formulas stay, and there may be less room for more.
     pub fn push(
         &mut self,
         book: &BookNames,
@@ -90,7 +91,7 @@ impl WorkbookGraph {
         requires sheet { cell.sheet < length book.now.sheets }
         requires names { self.old.names ≡ length book.now.names }
         ensures gives { GathersOr result self.old self.new
-            (formula_of book.now cell covers formula.now) }
+            (gathered_formula book.now cell covers formula.now) }
         ensures stays { OnErr result (Stays self.old self.new) }
     {
         let cells = covers.len();
@@ -183,7 +184,7 @@ impl WorkbookGraph {
     /// Whether the formula of a number asks for the value of a cell.
     fn asks_for(&self, number: usize, cell: Standing) -> bool
         requires { number < length self.now.formulas }
-        ensures { result ≡ asks_at cell self.now.formulas number }
+        ensures { result ≡ asks_for_cell cell self.now.formulas number }
     {
         any_asks(self.named(number).0, cell)
     }
@@ -191,7 +192,7 @@ impl WorkbookGraph {
     /// For each formula whether it asks for the value of a cell.
     fn asking(&self, alloc: Global, cell: Standing) -> Result<Vec<bool>, AllocError>
         ensures { IfOk result (λ asking. (n : ℕ) →
-            slice_index_or asking.items n false ≡ asks_at cell self.now.formulas n) }
+            slice_index_or asking.items n false ≡ asks_for_cell cell self.now.formulas n) }
     {
         let mut asking = Vec::with_capacity(alloc, self.len())?;
         for number in 0..self.len() {

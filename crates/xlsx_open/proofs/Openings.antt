@@ -1,46 +1,36 @@
 -- How the readings of a package's parts make an opening.
 use Rattle.std.proofs.Common.{◌≡◌, ◌+◌, ◌≤◌, ℕ, List, [], ◌∷◌, Bool, true, false, Option, Some}
 use Rattle.std.proofs.Common.{None, Result, Ok, Err, map, option_map, refl, sym, ◌∙◌, ap, subst}
-use Rattle.std.proofs.Common.{inl, inr}
-use Rattle.std.proofs.Common.{arith, codes}
+use Rattle.std.proofs.Common.{inl, inr, arith, codes}
 use Rattle.std.specs.Prelude.{option_and_then, unwrap_or, IsSomeAnd, MatchOption, OnOk}
-use Rattle.part_events.specs.Event.{Event}
-use Rattle.part_events.specs.Package.{Part, PackageState, SameParts, UsesPackage, LeavesPackage}
-use Rattle.part_events.specs.Package.{Uses, CountsUp, part_of, event_count}
+use Rattle.part_events.specs.Words.{Event, Part, PackageState, SameParts, UsesPackage}
+use Rattle.part_events.specs.Words.{LeavesPackage, Uses, CountsUp, part_of, event_count}
 use Rattle.part_events.proofs.Uses.{uses_then, leaves_then}
 use Rattle.xlsx_error.specs.declared.error.XlsxError.{XlsxError}
 use Rattle.xlsx_error.specs.declared.error.XlsxError.TheVariants.{Io}
 use Rattle.cell_styles.specs.declared.color.Color.{Color}
 use Rattle.xlsx_sections.proofs.Failing.{fails_by_weaker, same_parts}
-use Rattle.xlsx_sections.specs.Elements.{IsInsideRefused}
-use Rattle.xlsx_sections.specs.PartSection.{always, OptionalPartCause, OptionalPartFails}
-use Rattle.xlsx_sections.specs.PartSection.{PartFails, closed_section}
-use Rattle.xlsx_sections.specs.PartSection.{closed_section_of}
-use Rattle.xlsx_sections.specs.SectionEvents.{section_events_of}
+use Rattle.xlsx_sections.specs.Words.{IsInsideRefused, always, OptionalPartCause, OptionalPartFails}
+use Rattle.xlsx_sections.specs.Words.{PartFails, closed_section, closed_section_of}
+use Rattle.xlsx_sections.specs.Words.{section_events_of}
 use Rattle.xlsx_theme.specs.ThemePart.{theme_colors}
 use Rattle.xlsx_stylesheet.specs.StyleSheet.{cell_formats_in, end_in_styles}
-use Rattle.xlsx_workbook.specs.DefinedNames.{scopes_in}
-use Rattle.xlsx_workbook.specs.KeptContents.{pair_of, path_kept, sheet_of_entry}
-use Rattle.xlsx_relationships.specs.Paths.{folder_of}
-use Rattle.xlsx_workbook.specs.Paths.{workbook_part, theme_part}
-use Rattle.xlsx_workbook.specs.Paths.{styles_part}
-use Rattle.xlsx_relationships.specs.Relationships.{Related, IsPathRefused}
-use Rattle.xlsx_workbook.specs.Sheets.{PlacedSheet}
-use Rattle.xlsx_workbook.specs.Workbook.{IsContents, AreContentsRefused}
+use Rattle.xlsx_workbook.specs.Words.{scopes_in, pair_of, path_kept, sheet_of_entry, workbook_part}
+use Rattle.xlsx_workbook.specs.Words.{theme_part, styles_part, PlacedSheet, IsContents}
+use Rattle.xlsx_workbook.specs.Words.{AreContentsRefused}
+use Rattle.xlsx_relationships.specs.Words.{folder_of, Related, IsPathRefused}
 use Rattle.xlsx_workbook.specs.declared.name_scope.NameScope.{NameScope}
-use Rattle.xlsx_workbook.specs.declared.paths.KeptPath.{KeptPath}
+use Rattle.xlsx_workbook.specs.declared.paths.PartPath.{PartPath}
 use Rattle.xlsx_workbook.specs.declared.sheet.Metadata.{Metadata}
 use Rattle.xlsx_workbook.specs.declared.sheet.SheetEntry.{SheetEntry}
 use Rattle.xlsx_workbook.specs.declared.workbook.WorkbookContents.{WorkbookContents}
-use Rattle.xlsx_open.specs.Opening.{OpeningCause, RootCause, WorkbookCause, ContentsCause}
-use Rattle.xlsx_open.specs.Opening.{Opening, HoldsOpening, ListedSheet, listed_sheet, without_path}
-use Rattle.xlsx_open.specs.Opening.{HasPath, HasRelationships, HasWorkbook, HasNothing, IsOpening}
-use Rattle.xlsx_open.specs.Opening.{OpensAs, scopes_at}
-use Rattle.xlsx_open.specs.Opening.{OpeningFails, WorkbookOpens, WorkbookFails}
+use Rattle.xlsx_open.specs.Opening.{OpeningCause, RootCause, WorkbookCause, ContentsCause, Opening}
+use Rattle.xlsx_open.specs.Opening.{HoldsOpening, ListedSheet, listed_sheet, without_path, HasPath}
+use Rattle.xlsx_open.specs.Opening.{HasRelationships, HasWorkbook, HasNothing, IsOpening, OpensAs}
+use Rattle.xlsx_open.specs.Opening.{scopes_at, OpeningFails, WorkbookOpens, WorkbookFails}
 use Rattle.xlsx_open.specs.Opening.{OpensPackage, TakesBook, BookCause, BookOpens, BookFails}
 use Rattle.xlsx_open.specs.Opening.{epoch_or_1900, book_events}
-use Rattle.xlsx_open.specs.SharedParts.{SharedCause}
-use Rattle.xlsx_open.specs.SharedParts.{SharedSaid, shared_said, SharedFails}
+use Rattle.xlsx_open.specs.SharedParts.{SharedCause, SharedSaid, shared_said, SharedFails}
 use Rattle.xlsx_open.specs.declared.shared_parts.SharedParts.{SharedParts}
 
 -- the sheets of entries, and the paths of their parts
@@ -84,7 +74,7 @@ opening_of found shared = record {
 }
 
 pub holds_contents : (found : WorkbookContents) (metadata : Metadata)
-    (paths : List KeptPath) (shared own : SharedParts) (is_1904 : Bool)
+    (paths : List PartPath) (shared own : SharedParts) (is_1904 : Bool)
     → metadata.sheets.items
     ≡ map (λ (entry : SheetEntry). entry.sheet) found.entries.items → paths
     ≡ map (λ (entry : SheetEntry). entry.path) found.entries.items → metadata.names.items
@@ -150,7 +140,7 @@ root_fails old new error fails =
 -- the workbook's own part is refused behind its relationships
 pub contents_fail : (old mid new : PackageState) (path : List ℕ) (related : List ℕ
     → Option Related) (error : XlsxError) → SameParts old mid
-    → (old.is_told ≡ true → HasRelationships old.parts path related)
+    → (old.is_visible ≡ true → HasRelationships old.parts path related)
     → OptionalPartFails (codes "workbook") (always (codes "workbook"))
     (AreContentsRefused (folder_of path) related) (workbook_part path) mid new error
     → WorkbookFails path old new error
@@ -166,7 +156,7 @@ contents_fail old mid new path related error same has fails =
 -- the styles are refused behind the theme, by whose colors they name theirs
 pub styles_fail : (old mid new : PackageState) (path : List ℕ) (theme : List Color)
     (error : XlsxError) → SameParts old mid
-    → (old.is_told ≡ true → theme ≡ theme_colors old.parts (theme_part path))
+    → (old.is_visible ≡ true → theme ≡ theme_colors old.parts (theme_part path))
     → OptionalPartFails (codes "styleSheet") end_in_styles
     (IsInsideRefused (cell_formats_in theme)) (styles_part path) mid new error
     → SharedFails path old new error
@@ -181,7 +171,7 @@ styles_fail old mid new path theme error same is fails =
 
 -- what the package's relationships lead to is refused
 pub book_fails : (old mid new : PackageState) (path : List ℕ) (error : XlsxError)
-    → SameParts old mid → (old.is_told ≡ true → HasPath old.parts path)
+    → SameParts old mid → (old.is_visible ≡ true → HasPath old.parts path)
     → BookFails path mid new error → OpeningFails old new error
 book_fails old mid new path error same found fails =
     fails_by_weaker (OpeningCause old.parts) (BookCause mid.parts path) new error same
@@ -209,12 +199,12 @@ opens_as old mid path opening same found opens =
 
 pub opens_package : {A : Type 0} (result : Result A XlsxError) (old mid new : PackageState)
     (path : List ℕ) → UsesPackage (event_count old.parts (codes "_rels/.rels")) old mid
-    → (old.is_told ≡ true → HasPath old.parts path)
-    → (old.is_told ≡ true →
+    → (old.is_visible ≡ true → HasPath old.parts path)
+    → (old.is_visible ≡ true →
     CountsUp (section_events_of (codes "Relationships") old.parts (codes "_rels/.rels")) old.taken
     mid.taken)
     → Uses (book_events mid.parts path) Io result mid new
-    → (mid.is_told ≡ true → OnOk result (TakesBook mid.parts path mid.taken new.taken))
+    → (mid.is_visible ≡ true → OnOk result (TakesBook mid.parts path mid.taken new.taken))
     → OpensPackage Io result old new
 opens_package (Ok value) old mid new path first found ends second taken =
     let both : UsesPackage
@@ -233,7 +223,7 @@ opens_package (Ok value) old mid new path first found ends second taken =
       );
       to_end = λ told. let book : TakesBook old.parts path mid.taken new.taken =
           subst (λ (parts : List Part). TakesBook parts path mid.taken new.taken) first.parts.parts
-          (taken (first.parts.is_told ∙ told)) in
+          (taken (first.parts.is_visible ∙ told)) in
           let related = ends told in
           let beside = book.2 in
           (path, found told, (book.0, book.1, omega (arith, related, beside)));

@@ -3,28 +3,24 @@ use Rattle.std.proofs.Common.{◌≡◌, ℕ, List, [], true, Option, Some, None
 use Rattle.std.proofs.Common.{ap, subst, inl, inr, ◌⊎◌, codes}
 use mathlib.Core.Path.{fun_ext}
 use Rattle.std.specs.Prelude.{IsSomeAnd, MatchOption}
-use Rattle.part_events.specs.Event.{Event}
-use Rattle.part_events.specs.Package.{Part, PackageState, part_of}
+use Rattle.part_events.specs.Words.{Event, Part, PackageState, part_of}
 use Rattle.xlsx_error.specs.declared.error.XlsxError.{XlsxError}
 use Rattle.xlsx_error.specs.declared.error.XlsxError.TheVariants.{OutOfMemory, Io}
-use Rattle.xlsx_sections.specs.Failing.{SoundFails}
-use Rattle.xlsx_sections.specs.PartSection.{PartSection, inside_of, always}
-use Rattle.xlsx_sections.specs.PartSection.{closed_section_of}
-use Rattle.xlsx_sections.specs.Refusal.{Refusal}
+use Rattle.xlsx_sections.specs.Words.{SoundFails, PartSection, inside_of, always, closed_section_of}
+use Rattle.xlsx_sections.specs.Words.{Refusal}
 use Rattle.xlsx_sections.proofs.Sound.{is_sound_part, no_optional_cause, no_part_cause}
 use Rattle.xlsx_theme.specs.ThemePart.{theme_colors}
 use Rattle.xlsx_stylesheet.proofs.Sound.{no_styles_cause}
 use Rattle.xlsx_strings.proofs.Sound.{no_strings_cause}
-use Rattle.xlsx_relationships.specs.Paths.{folder_of}
-use Rattle.xlsx_workbook.specs.Paths.{workbook_part, relationships_part, strings_part}
-use Rattle.xlsx_workbook.specs.Paths.{theme_part, styles_part}
-use Rattle.xlsx_relationships.specs.Relationships.{Related, path_in, related_in, IsTargetRefused}
-use Rattle.xlsx_relationships.specs.Relationships.{IsPathRefused, AreRelationshipsRefused}
+use Rattle.xlsx_relationships.specs.Words.{folder_of, Related, path_in, related_in}
+use Rattle.xlsx_relationships.specs.Relationships.{IsTargetRefused, IsPathRefused}
+use Rattle.xlsx_relationships.specs.Relationships.{AreRelationshipsRefused}
+use Rattle.xlsx_workbook.specs.Words.{workbook_part, relationships_part, strings_part, theme_part}
+use Rattle.xlsx_workbook.specs.Words.{styles_part}
 use Rattle.xlsx_workbook.specs.Workbook.{AreContentsRefused}
 use Rattle.xlsx_open.specs.Opening.{Opening, HasPath, HasRelationships, HasWorkbook, HasNothing}
 use Rattle.xlsx_open.specs.Opening.{IsOpening, OpensAs, OpensSoundly, OpeningCause, ContentsCause}
-use Rattle.xlsx_open.specs.Opening.{WorkbookCause, BookCause, OpeningFails}
-use Rattle.xlsx_open.specs.Opening.{epoch_or_1900}
+use Rattle.xlsx_open.specs.Opening.{WorkbookCause, BookCause, OpeningFails, epoch_or_1900}
 use Rattle.xlsx_open.specs.SharedParts.{SharedSaid, HasShared, SharedCause}
 
 path_never : (path : List ℕ) (s : PartSection) → path_in (inside_of s) ≡ Ok (Some path)
@@ -144,7 +140,7 @@ no_cause parts opening error is (inr (path, found, cause)) =
     (same_path parts path is.path found is.found) cause)
 
 -- a package that opens is refused only for want of memory, or by a fault
-pub sound_fails : (old new : PackageState) (error : XlsxError) → old.is_told ≡ true
+pub sound_fails : (old new : PackageState) (error : XlsxError) → old.is_visible ≡ true
     → OpensSoundly old.parts → OpeningFails old new error → SoundFails old new error
 sound_fails old new OutOfMemory told sound fails = tt
 sound_fails old new Io told sound fails = fails

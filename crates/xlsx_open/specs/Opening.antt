@@ -2,33 +2,26 @@
 use Rattle.std.specs.Prelude.{◌≡◌, ◌⊎◌, ⊤, ℕ, ◌+◌, ◌≤◌, List, [], Bool, true, false, codes, Option}
 use Rattle.std.specs.Prelude.{Some, map, unwrap_or, option_map, Result, Ok, Err, IsSomeAnd}
 use Rattle.std.specs.Prelude.{MatchOption, MatchResult, string_bytes}
-use Rattle.part_events.specs.Event.{Event}
-use Rattle.part_events.specs.Package.{Part, PackageState, KeepsFaults, SameParts, part_of}
-use Rattle.part_events.specs.Package.{NeverFalls, CountsUp, event_count}
+use Rattle.part_events.specs.Words.{Event, Part, PackageState, KeepsFaults, SameParts, part_of}
+use Rattle.part_events.specs.Words.{NeverFalls, CountsUp, event_count}
 use Rattle.part_events.specs.declared.fault.XmlFault.TheVariants.{Break, Entity}
 use Rattle.xlsx_error.specs.declared.error.XlsxError.{XlsxError}
-use Rattle.xlsx_error.specs.declared.error.XlsxError.TheVariants.{OutOfMemory, Io, Xml}
-use Rattle.xlsx_error.specs.declared.error.XlsxError.TheVariants.{XmlAttr, XmlEof, FileNotFound}
+use Rattle.xlsx_error.specs.declared.error.XlsxError.TheVariants.{OutOfMemory, Io, Xml, XmlAttr}
+use Rattle.xlsx_error.specs.declared.error.XlsxError.TheVariants.{XmlEof, FileNotFound}
 use Rattle.xlsx_error.specs.declared.error.XlsxError.TheVariants.{RelationshipNotFound}
 use Rattle.xlsx_error.specs.declared.error.XlsxError.TheVariants.{Unrecognized}
-use Rattle.xlsx_sections.specs.Failing.{FailsBy}
-use Rattle.xlsx_sections.specs.PartSection.{always, closed_section_of, PartCause, OptionalPartCause}
-use Rattle.xlsx_sections.specs.Refusal.{Refusal}
-use Rattle.xlsx_sections.specs.SectionEvents.{section_events_of}
+use Rattle.xlsx_sections.specs.Words.{FailsBy, always, closed_section_of, PartCause}
+use Rattle.xlsx_sections.specs.Words.{OptionalPartCause, Refusal, section_events_of}
 use Rattle.xlsx_theme.specs.ThemePart.{TakesTheme}
 use Rattle.xlsx_stylesheet.specs.StylesErrors.{IsStylesEnd}
 use Rattle.xlsx_strings.specs.Strings.{IsStringsEnd}
-use Rattle.xlsx_workbook.specs.DefinedNames.{names_in, scopes_in}
-use Rattle.xlsx_workbook.specs.KeptContents.{pair_of, path_kept}
-use Rattle.xlsx_relationships.specs.Paths.{folder_of}
-use Rattle.xlsx_workbook.specs.Paths.{workbook_part, relationships_part}
-use Rattle.xlsx_workbook.specs.Paths.{theme_part}
-use Rattle.xlsx_relationships.specs.Relationships.{Related, path_in, related_in, IsPathRefused}
-use Rattle.xlsx_relationships.specs.Relationships.{AreRelationshipsRefused}
-use Rattle.xlsx_workbook.specs.Sheets.{PlacedSheet, sheets_in, epoch_in}
-use Rattle.xlsx_workbook.specs.Workbook.{AreContentsRefused}
+use Rattle.xlsx_workbook.specs.Words.{names_in, scopes_in, pair_of, path_kept, workbook_part}
+use Rattle.xlsx_workbook.specs.Words.{relationships_part, theme_part, PlacedSheet, sheets_in}
+use Rattle.xlsx_workbook.specs.Words.{epoch_in, AreContentsRefused}
+use Rattle.xlsx_relationships.specs.Words.{folder_of, Related, path_in, related_in, IsPathRefused}
+use Rattle.xlsx_relationships.specs.Words.{AreRelationshipsRefused}
 use Rattle.xlsx_workbook.specs.declared.name_scope.NameScope.{NameScope}
-use Rattle.xlsx_workbook.specs.declared.paths.KeptPath.{KeptPath}
+use Rattle.xlsx_workbook.specs.declared.paths.PartPath.{PartPath}
 use Rattle.xlsx_workbook.specs.declared.sheet.Sheet.{Sheet}
 use Rattle.xlsx_workbook.specs.declared.sheet.Metadata.{Metadata}
 use Rattle.xlsx_workbook.specs.declared.sheet.SheetType.{SheetType}
@@ -63,9 +56,10 @@ listed_sheet sheet = record {
   visible = sheet.visible;
 }
 
--- these lists and the first year are those of an opening
+-- lists of sheets and names, paths, what sheets share, and the first year of dates are those of an
+-- opening
 pub record HoldsOpening
-    (metadata : Metadata) (part_paths : List KeptPath) (parts : SharedParts)
+    (metadata : Metadata) (part_paths : List PartPath) (parts : SharedParts)
     (is_1904 : Bool) (opening : Opening) : Type 0 where
   pub sheets : map listed_sheet metadata.sheets.items ≡ map without_path opening.sheets
   pub paths : map path_kept part_paths ≡ map (λ (sheet : PlacedSheet). sheet.path) opening.sheets
@@ -93,9 +87,9 @@ abbrev pub HasScopes : List Part → List NameScope → Type 0
 HasScopes parts scopes =
     (path : List ℕ) × HasPath parts path × (scopes ≡ scopes_at parts (workbook_part path))
 
--- these are the scopes where the package tells its content
+-- scopes are those of a workbook's defined names, if the package tells its content
 abbrev pub TellsScopes : PackageState → List NameScope → Type 0
-TellsScopes old scopes = old.is_told ≡ true → HasScopes old.parts scopes
+TellsScopes old scopes = old.is_visible ≡ true → HasScopes old.parts scopes
 
 -- the workbook's relationships, each by its Id
 abbrev pub HasRelationships : List Part → List ℕ → (List ℕ → Option Related) → Type 0
@@ -108,7 +102,8 @@ abbrev pub epoch_or_1900 : Result (Option Bool) Refusal → Result Bool Refusal
 epoch_or_1900 (Ok epoch) = Ok (unwrap_or epoch false)
 epoch_or_1900 (Err refusal) = Err refusal
 
--- what the workbook's section says
+-- an opening has what the workbook's section says: its sheets, its defined names and its first year
+-- of dates
 pub record IsOpening
     (folder : List ℕ) (related : List ℕ
     → Option Related) (inside : List Event) (opening : Opening) : Type 0 where
@@ -122,7 +117,7 @@ pub record HasNothing (opening : Opening) : Type 0 where
   pub names : opening.names ≡ []
   pub epoch : opening.is_1904 ≡ false
 
--- what the workbook's own part says
+-- an opening has what the workbook's own part says
 abbrev pub HasWorkbook :
     List Part → List ℕ → (List ℕ → Option Related) → Opening → Type 0
 HasWorkbook parts path related opening =
@@ -168,11 +163,13 @@ WorkbookCause parts path error =
     ⊎ ((related : List ℕ → Option Related)
     × HasRelationships parts path related × ContentsCause parts path related error)
 
--- or by what its sheets share
+-- why a workbook can't be opened: by what its sheets share, by its relationships, or by its own
+-- part
 abbrev pub BookCause : List Part → List ℕ → XlsxError → Type 0
 BookCause parts path error = SharedCause parts path error ⊎ WorkbookCause parts path error
 
--- or by the package's relationships
+-- why opening is refused: by the package's relationships, by what the workbook's sheets share, by
+-- its relationships, or by its own part
 abbrev pub OpeningCause : List Part → XlsxError → Type 0
 OpeningCause parts error =
     RootCause parts error ⊎ ((path : List ℕ) × HasPath parts path × BookCause parts path error)
@@ -193,16 +190,17 @@ IsOpeningError (Unrecognized typ val) =
     (typ.now ≡ codes "sheet:state") ⊎ (typ.now ≡ codes "sheet:type")
 IsOpeningError _ = ⊥
 
--- when opening is refused
+-- when the opening of a workbook is refused
 abbrev pub OpeningFails : PackageState → PackageState → XlsxError → Type 0
 OpeningFails old new error = FailsBy (OpeningCause old.parts) old new error
 
--- how many events the parts have that lead to a workbook at this path, and its own
+-- how many events the relationships of the workbook at a path and its own part have
 abbrev pub workbook_events : List Part → List ℕ → ℕ
 workbook_events parts path =
     event_count parts (relationships_part path) + event_count parts (workbook_part path)
 
--- and what its sheets share
+-- how many events the parts of the workbook at a path have: its relationships, its own part, and
+-- what its sheets share
 abbrev pub book_events : List Part → List ℕ → ℕ
 book_events parts path = shared_events parts path + workbook_events parts path
 
@@ -215,24 +213,27 @@ TakesOpening parts before after =
     ⊎ ((path : List ℕ) × HasPath parts path
     × (after ≤ before + (event_count parts (codes "_rels/.rels") + book_events parts path)))
 
--- how many of them stand up to the ends of their sections
+-- how many events of a workbook's relationships and of its own part stand up to the ends of their
+-- sections
 abbrev pub workbook_sections : List Part → List ℕ → ℕ
 workbook_sections parts path =
     section_events_of (codes "Relationships") parts (relationships_part path)
     + section_events_of (codes "workbook") parts (workbook_part path)
 
--- and with what its sheets share, where so many events of the theme's part count
+-- how many events of a workbook's parts stand up to the ends of their sections, with what its
+-- sheets share, where so many events of the theme's part count
 abbrev pub book_sections : ℕ → List Part → List ℕ → ℕ
 book_sections theme parts path = shared_sections theme parts path + workbook_sections parts path
 
--- these events were taken of a workbook's parts, and no others
+-- so many events more were taken of the parts of the workbook at a path, each section read to its
+-- end and no further
 abbrev pub TakesBook : List Part → List ℕ → ℕ → ℕ → Type 0
 TakesBook parts path before after =
     (theme : ℕ) × TakesTheme parts (theme_part path) theme
     × CountsUp (book_sections theme parts path) before after
 
--- these were taken in an opening that isn't refused: each section was read to its end and no
--- further
+-- so many events more were taken in an opening that isn't refused: each section was read to its end
+-- and no further
 abbrev pub TakesSections : List Part → ℕ → ℕ → Type 0
 TakesSections parts before after =
     (path : List ℕ) × HasPath parts path
@@ -245,15 +246,15 @@ pub record OpensFrom (old new : PackageState) : Type 0 where
   pub parts : SameParts old new
   pub faults : new.faults ≡ old.faults
   pub forward : NeverFalls old.taken new.taken
-  pub taken : old.is_told ≡ true → TakesOpening old.parts old.taken new.taken
-  pub to_end : old.is_told ≡ true → TakesSections old.parts old.taken new.taken
+  pub taken : old.is_visible ≡ true → TakesOpening old.parts old.taken new.taken
+  pub to_end : old.is_visible ≡ true → TakesSections old.parts old.taken new.taken
 
 -- an opening that fails: what it leaves of the package, by its fault
 pub record FailsToOpen {E : Type 0} (fault : E) (old new : PackageState) (error : E) : Type 0 where
   pub parts : SameParts old new
   pub faults : KeepsFaults fault old new error
   pub forward : NeverFalls old.taken new.taken
-  pub taken : old.is_told ≡ true → TakesOpening old.parts old.taken new.taken
+  pub taken : old.is_visible ≡ true → TakesOpening old.parts old.taken new.taken
 
 -- what an opening leaves of the package, whether it succeeds or fails
 abbrev pub OpensPackage : {A E : Type 0} → E → Result A E → PackageState → PackageState → Type 0

@@ -1,17 +1,15 @@
 -- What the sheets of a workbook share: its strings, its theme and its styles.
 use Rattle.std.specs.Prelude.{◌≡◌, ◌⊎◌, ℕ, ◌+◌, List, map, Bool, codes, string_bytes}
-use Rattle.part_events.specs.Package.{Part, PackageState, CountsUp, part_of, event_count}
+use Rattle.part_events.specs.Words.{Part, PackageState, CountsUp, part_of, event_count}
 use Rattle.xlsx_error.specs.declared.error.XlsxError.{XlsxError}
 use Rattle.cell_data.specs.declared.format.CellFormat.{CellFormat}
-use Rattle.xlsx_sections.specs.Elements.{IsInsideRefused}
-use Rattle.xlsx_sections.specs.Failing.{FailsBy}
-use Rattle.xlsx_sections.specs.PartSection.{OptionalPartCause}
-use Rattle.xlsx_sections.specs.SectionEvents.{section_events_of}
+use Rattle.xlsx_sections.specs.Words.{IsInsideRefused, FailsBy, OptionalPartCause}
+use Rattle.xlsx_sections.specs.Words.{section_events_of}
 use Rattle.xlsx_formats.specs.Formattings.{StyleSaid, style_said}
 use Rattle.xlsx_theme.specs.ThemePart.{theme_colors, is_theme_default, TakesTheme}
 use Rattle.xlsx_stylesheet.specs.StyleSheet.{cell_formats_in, end_in_styles, HasStyles}
 use Rattle.xlsx_strings.specs.Strings.{strings_in, end_in_strings, HasStrings}
-use Rattle.xlsx_workbook.specs.Paths.{strings_part, theme_part, styles_part}
+use Rattle.xlsx_workbook.specs.Words.{strings_part, theme_part, styles_part}
 use Rattle.xlsx_open.specs.declared.shared_parts.SharedParts.{SharedParts}
 
 -- the shared strings, whether the default theme stands, and what the cell formats make of numbers,
@@ -31,8 +29,8 @@ shared_said shared = record {
   styles = map style_said shared.style_sheet.styles.items;
 }
 
--- The parts beside the workbook at this path say this. Each may be absent. The styles name colors
--- by the theme.
+-- The parts beside the workbook at this path say what its sheets share. Each may be absent. The
+-- styles name colors by the theme.
 pub record HasShared (parts : List Part) (path : List ℕ) (shared : SharedSaid) : Type 0 where
   pub strings : HasStrings parts (strings_part path) shared.strings
   pub theme : shared.theme_defaulted ≡ is_theme_default parts (theme_part path)
@@ -57,23 +55,25 @@ StylesCause parts path error =
 abbrev pub SharedCause : List Part → List ℕ → XlsxError → Type 0
 SharedCause parts path error = StringsCause parts path error ⊎ StylesCause parts path error
 
--- when its reading is refused
+-- when the reading of what a workbook's sheets share is refused
 abbrev pub SharedFails : List ℕ → PackageState → PackageState → XlsxError → Type 0
 SharedFails path old new error = FailsBy (SharedCause old.parts path) old new error
 
--- how many events its parts have
+-- how many events the parts have that a workbook's sheets share
 abbrev pub shared_events : List Part → List ℕ → ℕ
 shared_events parts path =
     event_count parts (strings_part path)
     + (event_count parts (theme_part path) + event_count parts (styles_part path))
 
--- how many of them stand up to the ends of their sections, where so many of the theme's count
+-- how many events of what a workbook's sheets share stand up to the ends of their sections, where
+-- so many events of the theme's part count
 abbrev pub shared_sections : ℕ → List Part → List ℕ → ℕ
 shared_sections theme parts path =
     section_events_of (codes "sst") parts (strings_part path)
     + (theme + section_events_of (codes "styleSheet") parts (styles_part path))
 
--- these events were taken, and no others
+-- so many events more were taken of what a workbook's sheets share, each section read to its end
+-- and no further
 abbrev pub TakesShared : List Part → List ℕ → ℕ → ℕ → Type 0
 TakesShared parts path before after =
     (theme : ℕ) × TakesTheme parts (theme_part path) theme

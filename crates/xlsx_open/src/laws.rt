@@ -1,7 +1,7 @@
 //! Laws of opening.
 
 ghost use Rattle.std.specs.Prelude.{List};
-ghost use Rattle.part_events.specs.Package.{Part};
+ghost use Rattle.part_events.specs.Words.{Part};
 ghost use Rattle.xlsx_error.specs.declared.error.XlsxError.{XlsxError};
 ghost use Rattle.xlsx_open.specs.Opening.{Opening, OpensAs, OpeningCause};
 

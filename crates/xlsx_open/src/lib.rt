@@ -15,4 +15,4 @@ mod shared_parts;
 pub use laws::openings_have_no_cause_of_a_refusal;
 pub use opening::{Opened, open};
 pub use shared_parts::SharedParts;
-pub use xlsx_workbook::{KeptPath, Metadata, NameScope, Sheet, SheetType, SheetVisible};
+pub use xlsx_workbook::{Metadata, NameScope, PartPath, Sheet, SheetType, SheetVisible};

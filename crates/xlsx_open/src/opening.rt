@@ -1,15 +1,15 @@
 ghost use Rattle.std.specs.Prelude.{◌≡◌, [], map, true, false, unwrap_or, string_bytes, IfOk, OnOk};
 ghost use Rattle.std.specs.Prelude.{IfErr};
 ghost use Rattle.std.specs.Arc.{arc_str_bytes};
-ghost use Rattle.part_events.specs.Package.{Uses, CountsUp};
+ghost use Rattle.part_events.specs.Words.{Uses, CountsUp};
 ghost use Rattle.xlsx_error.specs.declared.error.XlsxError.TheVariants.{Io};
-ghost use Rattle.xlsx_workbook.specs.Paths.{workbook_part, relationships_part};
+ghost use Rattle.xlsx_workbook.specs.Words.{workbook_part, relationships_part};
 ghost use Rattle.xlsx_open.specs.Opening.{Opening, HoldsOpening, OpensAs, IsOpeningError};
 ghost use Rattle.xlsx_open.specs.Opening.{OpensPackage, WorkbookOpens, WorkbookFails, BookOpens};
 ghost use Rattle.xlsx_open.specs.Opening.{BookFails, OpeningFails, workbook_events, book_events};
 ghost use Rattle.xlsx_open.specs.Opening.{workbook_sections, TakesBook, LiesIn, scopes_at};
 ghost use Rattle.xlsx_open.specs.Opening.{HasScopes};
-ghost use Rattle.xlsx_relationships.specs.Paths.{folder_of};
+ghost use Rattle.xlsx_relationships.specs.Words.{folder_of};
 ghost use Rattle.xlsx_open.specs.SharedParts.{shared_said};
 
 use crate::shared_parts::{SharedParts, read_shared};
@@ -19,7 +19,7 @@ use std::sync::ArcStr;
 use xlsx_error::XlsxError;
 use xlsx_relationships::{folder_of, joined, read_path, read_relationships};
 use xlsx_workbook::{
-    KeptPath, Metadata, NameScope, SheetPlaces, WorkbookContents, file_of, read_contents,
+    Metadata, NameScope, PartPath, SheetPlaces, WorkbookContents, file_of, read_contents,
 };
 
 fn workbook_part(alloc: Global, path: &str) -> Result<String, AllocError>
@@ -44,7 +44,7 @@ pub struct Opened {
     /// The scope of each defined name, in the order of the names.
     pub scopes: Vec<NameScope>,
     /// The path of the part of each sheet, in the order of the sheets.
-    pub paths: Vec<KeptPath>,
+    pub paths: Vec<PartPath>,
     /// The folder of the workbook's part, with the slash at its end.
     pub folder: ArcStr,
     /// The shared strings, the theme and the styles.
@@ -117,13 +117,13 @@ fn open_workbook<P: Package>(
         xml.new.source }
     ensures to_end { let old = xml.old.source in
         let count = workbook_sections old.parts path.now in
-        old.is_told ≡ true → OnOk result (CountsUp count old.taken xml.new.source.taken) }
-    ensures opened { xml.old.source.is_told ≡ true → IfOk result (λ o. (opening : Opening)
+        old.is_visible ≡ true → OnOk result (CountsUp count old.taken xml.new.source.taken) }
+    ensures opened { xml.old.source.is_visible ≡ true → IfOk result (λ o. (opening : Opening)
         × HoldsOpening o.metadata o.paths.items o.shared o.is_1904 opening
         × (opening.shared ≡ shared_said shared)
         × WorkbookOpens xml.old.source.parts path.now opening) }
     ensures scopes { let old = xml.old.source in
-        old.is_told ≡ true → IfOk result (λ o.
+        old.is_visible ≡ true → IfOk result (λ o.
         o.scopes.items ≡ scopes_at old.parts (workbook_part path.now)) }
     ensures folder { IfOk result (λ o. arc_str_bytes o.folder ≡ folder_of path.now) }
     ensures err { IfErr result (WorkbookFails path.now xml.old.source xml.new.source) }
@@ -149,13 +149,13 @@ fn open_at<P: Package>(xml: &mut XlReader<P>, path: &str) -> Result<Opened, Xlsx
     ensures uses { Uses (book_events xml.old.source.parts path.now) Io result xml.old.source
         xml.new.source }
     ensures to_end { let old = xml.old.source in
-        old.is_told ≡ true →
+        old.is_visible ≡ true →
         OnOk result (TakesBook old.parts path.now old.taken xml.new.source.taken) }
-    ensures opened { xml.old.source.is_told ≡ true → IfOk result (λ o. (opening : Opening)
+    ensures opened { xml.old.source.is_visible ≡ true → IfOk result (λ o. (opening : Opening)
         × HoldsOpening o.metadata o.paths.items o.shared o.is_1904 opening
         × BookOpens xml.old.source.parts path.now opening) }
     ensures scopes { let old = xml.old.source in
-        old.is_told ≡ true → IfOk result (λ o.
+        old.is_visible ≡ true → IfOk result (λ o.
         o.scopes.items ≡ scopes_at old.parts (workbook_part path.now)) }
     ensures folder { IfOk result (λ o. arc_str_bytes o.folder ≡ folder_of path.now) }
     ensures err { IfErr result (BookFails path.now xml.old.source xml.new.source) }
@@ -181,12 +181,12 @@ fn open_at<P: Package>(xml: &mut XlReader<P>, path: &str) -> Result<Opened, Xlsx
 /// can't be read gives the refusal, which is `Xml`, `XmlAttr` or `XmlEof`.
 pub fn open<P: Package>(xml: &mut XlReader<P>) -> Result<Opened, XlsxError>
     ensures uses { OpensPackage Io result xml.old.source xml.new.source }
-    ensures opens { xml.old.source.is_told ≡ true → IfOk result (λ o. (opening : Opening)
+    ensures opens { xml.old.source.is_visible ≡ true → IfOk result (λ o. (opening : Opening)
         × HoldsOpening o.metadata o.paths.items o.shared o.is_1904 opening
         × OpensAs xml.old.source.parts opening) }
-    ensures folder { xml.old.source.is_told ≡ true →
+    ensures folder { xml.old.source.is_visible ≡ true →
         IfOk result (λ o. LiesIn xml.old.source.parts (arc_str_bytes o.folder)) }
-    ensures scopes { xml.old.source.is_told ≡ true →
+    ensures scopes { xml.old.source.is_visible ≡ true →
         IfOk result (λ o. HasScopes xml.old.source.parts o.scopes.items) }
     ensures err { IfErr result (OpeningFails xml.old.source xml.new.source) }
     ensures kind { IfErr result IsOpeningError }

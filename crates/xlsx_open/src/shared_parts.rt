@@ -1,15 +1,13 @@
 ghost use Rattle.std.specs.Prelude.{◌≡◌, ℕ, codes, map, string_bytes, true, IfOk, OnOk, IfErr};
-ghost use Rattle.part_events.specs.Package.{Uses, CountsUp, event_count};
+ghost use Rattle.part_events.specs.Words.{Uses, CountsUp, event_count};
 ghost use Rattle.xlsx_error.specs.declared.error.XlsxError.TheVariants.{Io};
-ghost use Rattle.xlsx_sections.specs.Elements.{IsInsideRefused};
-ghost use Rattle.xlsx_sections.specs.Failing.{SoundFails};
-ghost use Rattle.xlsx_sections.specs.PartSection.{OptionalPartFails};
-ghost use Rattle.xlsx_sections.specs.SectionEvents.{ReadsToEnd};
+ghost use Rattle.xlsx_sections.specs.Words.{IsInsideRefused, SoundFails, OptionalPartFails};
+ghost use Rattle.xlsx_sections.specs.Words.{ReadsToEnd};
 ghost use Rattle.xlsx_formats.specs.Formattings.{style_said};
 ghost use Rattle.xlsx_theme.specs.ThemePart.{HasTheme, TakesTheme};
 ghost use Rattle.xlsx_stylesheet.specs.StyleSheet.{cell_formats_in, end_in_styles, HasStyles};
 ghost use Rattle.xlsx_strings.specs.Strings.{strings_in, end_in_strings, HasStrings};
-ghost use Rattle.xlsx_workbook.specs.Paths.{strings_part, theme_part, styles_part};
+ghost use Rattle.xlsx_workbook.specs.Words.{strings_part, theme_part, styles_part};
 ghost use Rattle.xlsx_open.specs.Opening.{IsOpeningError};
 ghost use Rattle.xlsx_open.specs.SharedParts.{shared_said, HasShared, SharedFails, shared_events};
 ghost use Rattle.xlsx_open.specs.SharedParts.{TakesShared};
@@ -47,7 +45,7 @@ fn read_strings<P: Package>(xml: &mut XlReader<P>, path: &str) -> Result<Vec<Str
         xml.old.source xml.new.source }
     ensures to_end { ReadsToEnd (codes "sst") (strings_part path.now) result
         xml.old.source xml.new.source }
-    ensures strings { xml.old.source.is_told ≡ true → IfOk result (λ strings.
+    ensures strings { xml.old.source.is_visible ≡ true → IfOk result (λ strings.
         HasStrings xml.old.source.parts (strings_part path.now) (map string_bytes strings.items)) }
     ensures err { IfErr result
         (OptionalPartFails (codes "sst") end_in_strings (IsInsideRefused strings_in)
@@ -64,10 +62,10 @@ fn read_colors<P: Package>(xml: &mut XlReader<P>, path: &str) -> Result<ThemeCol
     ensures uses { Uses (event_count xml.old.source.parts (theme_part path.now)) Io result
         xml.old.source xml.new.source }
     ensures to_end { let old = xml.old.source in
-        old.is_told ≡ true → OnOk result ((count : ℕ)
+        old.is_visible ≡ true → OnOk result ((count : ℕ)
         × TakesTheme old.parts (theme_part path.now) count
         × CountsUp count old.taken xml.new.source.taken) }
-    ensures theme { xml.old.source.is_told ≡ true →
+    ensures theme { xml.old.source.is_visible ≡ true →
         IfOk result (HasTheme xml.old.source.parts (theme_part path.now)) }
     ensures err { IfErr result (SoundFails xml.old.source xml.new.source) }
 {
@@ -86,7 +84,7 @@ fn read_style_sheet<P: Package>(
         xml.old.source xml.new.source }
     ensures to_end { ReadsToEnd (codes "styleSheet") (styles_part path.now) result
         xml.old.source xml.new.source }
-    ensures styles { xml.old.source.is_told ≡ true → IfOk result (λ sheet.
+    ensures styles { xml.old.source.is_visible ≡ true → IfOk result (λ sheet.
         HasStyles theme_colors.now xml.old.source.parts (styles_part path.now) sheet.formats.items
         (map style_said sheet.styles.items)) }
     ensures err { let refused = IsInsideRefused (cell_formats_in theme_colors.now) in
@@ -116,9 +114,9 @@ pub fn read_shared<P: Package>(xml: &mut XlReader<P>, path: &str) -> Result<Shar
     ensures uses { Uses (shared_events xml.old.source.parts path.now) Io result xml.old.source
         xml.new.source }
     ensures to_end { let old = xml.old.source in
-        old.is_told ≡ true →
+        old.is_visible ≡ true →
         OnOk result (TakesShared old.parts path.now old.taken xml.new.source.taken) }
-    ensures shared { xml.old.source.is_told ≡ true → IfOk result (λ shared.
+    ensures shared { xml.old.source.is_visible ≡ true → IfOk result (λ shared.
         HasShared xml.old.source.parts path.now (shared_said shared)) }
     ensures err { IfErr result (SharedFails path.now xml.old.source xml.new.source) }
     ensures kind { IfErr result IsOpeningError }

@@ -1,25 +1,19 @@
 -- What the first element of a name says, and when it is refused.
-use Rattle.std.proofs.Common.{◌≡◌, ℕ, List, [], ◌∷◌, Bool, true, Option, Some, None, Result}
-use Rattle.std.proofs.Common.{refl, ap, ◌∙◌, sym, length, suc, false}
+use Rattle.std.proofs.Common.{◌≡◌, ℕ, List, [], ◌∷◌, Bool, true, Option, Some, None, Result, refl}
+use Rattle.std.proofs.Common.{ap, ◌∙◌, sym, length, suc, false}
 use Rattle.std.specs.Prelude.{option_map, if◌then◌else◌}
 use Rattle.std.specs.Option.{option_map_or}
-use Rattle.part_events.specs.Event.{Tag, Event, start, end, leaf}
-use Rattle.part_events.specs.Nesting.{whole}
-use Rattle.part_events.specs.Package.{PackageState, SameParts}
-use Rattle.part_events.specs.Reading.{Reading, events_of}
-use Rattle.part_events.specs.Section.{behind_start, is_named}
+use Rattle.part_events.specs.Words.{Tag, Event, start, end, leaf, whole, PackageState, SameParts}
+use Rattle.part_events.specs.Words.{Reading, events_of, behind_start, is_named}
 use Rattle.part_events.specs.declared.fault.XmlFault.TheVariants.{Break}
 use Rattle.xlsx_error.specs.declared.error.XlsxError.{XlsxError}
 use Rattle.xlsx_error.specs.declared.error.XlsxError.TheVariants.{Xml}
-use Rattle.xlsx_sections.specs.Failing.{FailsBy}
-use Rattle.xlsx_sections.specs.PartSection.{PartSection, section_in, section_from}
-use Rattle.xlsx_sections.specs.PartSection.{last_of, always, StartCause, SectionCause}
-use Rattle.xlsx_sections.specs.Refusal.{Refusal}
-use Rattle.xlsx_sections.specs.SectionEvents.{section_events}
+use Rattle.xlsx_sections.specs.Words.{FailsBy, PartSection, section_in, section_from, last_of}
+use Rattle.xlsx_sections.specs.Words.{always, StartCause, SectionCause, Refusal, section_events}
 use Rattle.xlsx_sections.proofs.Failing.{fails_by_weaker, same_parts}
 use Rattle.xlsx_parts.specs.FirstElement.{StartAhead, PartElement, first_start, element_with}
-use Rattle.xlsx_parts.specs.FirstElement.{element_from, element_in}
-use Rattle.xlsx_parts.specs.FirstElement.{IsElementRefused, FirstElementCause}
+use Rattle.xlsx_parts.specs.FirstElement.{element_from, element_in, IsElementRefused}
+use Rattle.xlsx_parts.specs.FirstElement.{FirstElementCause}
 use Rattle.xlsx_parts.specs.WholePart.{IsBroken, FindSectionFails}
 
 behind_first : (wanted : Tag → Bool) (events : List Event)
@@ -96,7 +90,7 @@ find_element_refused name ended meaning old new error fails =
 pub element_refused : {A : Type 0} {tag : Tag} {s : PartSection} (name ended : List ℕ)
     (meaning : Tag → List Event → Result A Refusal) (old : Reading) (mid new : PackageState)
     (error : XlsxError) → SameParts old.source mid
-    → (old.source.is_told ≡ true → element_in name (events_of old) ≡ Some (element_with tag s))
+    → (old.source.is_visible ≡ true → element_in name (events_of old) ≡ Some (element_with tag s))
     → FailsBy (SectionCause (always ended) (IsElementRefused meaning tag) s) mid new error
     → FailsBy (FirstElementCause name ended meaning (events_of old)) old.source new error
 element_refused {tag = tag} {s = s} name ended meaning old mid new error same found fails =

@@ -1,14 +1,12 @@
 -- The first element of a name, by its start and by what stands behind that.
-use Rattle.std.proofs.Common.{◌≡◌, ℕ, List, [], ◌∷◌, Bool, true, false, Some, None, refl}
-use Rattle.std.proofs.Common.{sym, ◌∙◌, ap, length}
+use Rattle.std.proofs.Common.{◌≡◌, ℕ, List, [], ◌∷◌, Bool, true, false, Some, None, refl, sym, ◌∙◌}
+use Rattle.std.proofs.Common.{ap, length}
 use Rattle.std.specs.Prelude.{option_map, if◌then◌else◌}
-use Rattle.part_events.specs.Event.{Tag, Event, start, end, leaf}
-use Rattle.part_events.specs.Nesting.{whole}
-use Rattle.part_events.specs.Section.{PlacedTag, starts_by, behind_start, is_named}
-use Rattle.xlsx_sections.specs.PartSection.{PartSection, section_from, section_in}
-use Rattle.xlsx_sections.specs.Refusal.{placed_at}
-use Rattle.xlsx_parts.specs.FirstElement.{StartAhead, first_start, element_with}
-use Rattle.xlsx_parts.specs.FirstElement.{element_from, element_in}
+use Rattle.part_events.specs.Words.{Tag, Event, start, end, leaf, whole, PlacedTag, starts_by}
+use Rattle.part_events.specs.Words.{behind_start, is_named}
+use Rattle.xlsx_sections.specs.Words.{PartSection, section_from, section_in, placed_at}
+use Rattle.xlsx_parts.specs.FirstElement.{StartAhead, first_start, element_with, element_from}
+use Rattle.xlsx_parts.specs.FirstElement.{element_in}
 
 abbrev start_ahead : Tag → List Event → StartAhead
 start_ahead tag ahead = record { tag = tag; ahead = ahead }

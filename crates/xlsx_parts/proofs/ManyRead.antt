@@ -1,12 +1,12 @@
 -- How calls for each of many lead to one that asks all of them.
-use Rattle.std.proofs.Common.{◌≡◌, ◌+◌, ◌≤◌, ℕ, List, [], ◌∷◌, ◌++◌, Some, Ok, Err}
-use Rattle.std.proofs.Common.{refl, sym, ◌∙◌, ap, append_assoc, append-nil, arith, inl, inr}
+use Rattle.std.proofs.Common.{◌≡◌, ◌+◌, ◌≤◌, ℕ, List, [], ◌∷◌, ◌++◌, Some, Ok, Err, refl, sym, ◌∙◌}
+use Rattle.std.proofs.Common.{ap, append_assoc, append-nil, arith, inl, inr}
 use Rattle.std.proofs.lemmas.List.Sums.{sum_by-cons}
 use Rattle.std.specs.List.{sum_by}
-use Rattle.part_events.specs.Package.{PackageState, CountsUp}
+use Rattle.part_events.specs.Words.{PackageState, CountsUp}
 use Rattle.part_events.proofs.Uses.{same_further}
 use Rattle.xlsx_error.specs.declared.error.XlsxError.{XlsxError}
-use Rattle.xlsx_sections.specs.Asking.{Ask, Answers}
+use Rattle.xlsx_sections.specs.Words.{Ask, Answers}
 use Rattle.xlsx_sections.proofs.Failing.{fails_by_weaker, same_parts}
 use Rattle.xlsx_parts.specs.ManyAsked.{Appends, Leads, each}
 use Rattle.xlsx_parts.proofs.ManySaid.{said_of_one, said_of_none, said_before}
@@ -60,14 +60,14 @@ leads_on {X = X} {whole = whole} {before = before} {now = now} {next = next} {fi
       most = λ told.
           sum_further (λ (own : X). (ask own).most first.parts) x xs first.taken here.taken
           new.taken (whole.most first.parts) (leads.most told)
-          (rw leads.same.parts at (step.uses.taken (leads.same.is_told ∙ told)));
+          (rw leads.same.parts at (step.uses.taken (leads.same.is_visible ∙ told)));
       exact = λ told.
           counts_further (λ (own : X). (ask own).exact first.parts) x xs first.taken here.taken
           new.taken (whole.exact first.parts) (leads.exact told)
-          (rw leads.same.parts at (step.to_end (leads.same.is_told ∙ told)));
+          (rw leads.same.parts at (step.to_end (leads.same.is_visible ∙ told)));
       said = λ told.
           let so_far = leads.said told in
-          let own = step.said (leads.same.is_told ∙ told) in (
+          let own = step.said (leads.same.is_visible ∙ told) in (
             so_far.0 ++ own.0,
             kept_behind before now next so_far.0 own.0 so_far.1 own.2,
             said_of_one (λ (each : X). (ask each).said first.parts) so_far.0 own.0 x xs
@@ -94,7 +94,7 @@ leads_refused {X = X} {whole = whole} {first = first} {here = here} {new = new} 
             let count : X → ℕ = λ (own : X). (ask own).most first.parts in
             let both = sum_by-cons count x xs in
             let so_far = leads.most told in
-            let own = rw leads.same.parts at (step.uses.taken (leads.same.is_told ∙ told)) in
+            let own = rw leads.same.parts at (step.uses.taken (leads.same.is_visible ∙ told)) in
             omega (arith, both, so_far, own);
       };
       to_end = λ told. tt;

@@ -1,19 +1,13 @@
 -- What a section says that a part may lack, and when it is refused.
-use Rattle.std.proofs.Common.{◌≡◌, ℕ, List, [], ◌∷◌, Bool, true, Option, Some, None, Result, Ok}
-use Rattle.std.proofs.Common.{ap}
+use Rattle.std.proofs.Common.{◌≡◌, ℕ, List, [], ◌∷◌, Bool, true, Option, Some, None, Result, Ok, ap}
 use Rattle.std.proofs.Common.{length, ◌∙◌, eq-eqb}
 use Rattle.std.specs.Prelude.{option_map, option_and_then, if◌then◌else◌}
-use Rattle.part_events.specs.Event.{Event}
-use Rattle.part_events.specs.Nesting.{whole}
-use Rattle.part_events.specs.Package.{PackageState, SameParts}
-use Rattle.part_events.specs.Reading.{Reading, events_of}
-use Rattle.part_events.specs.Section.{behind_start, is_named, content}
+use Rattle.part_events.specs.Words.{Event, whole, PackageState, SameParts, Reading, events_of}
+use Rattle.part_events.specs.Words.{behind_start, is_named, content}
 use Rattle.xlsx_error.specs.declared.error.XlsxError.{XlsxError}
-use Rattle.xlsx_sections.specs.Failing.{FailsBy}
-use Rattle.xlsx_sections.specs.PartSection.{PartSection, Ending, Refusing, SectionCause}
-use Rattle.xlsx_sections.specs.PartSection.{section_left, section_from, section_in}
-use Rattle.xlsx_sections.specs.PartSection.{if_closed, inside_of, has_end}
-use Rattle.xlsx_sections.specs.Refusal.{Refusal}
+use Rattle.xlsx_sections.specs.Words.{FailsBy, PartSection, Ending, Refusing, SectionCause}
+use Rattle.xlsx_sections.specs.Words.{section_left, section_from, section_in, if_closed, inside_of}
+use Rattle.xlsx_sections.specs.Words.{has_end, Refusal}
 use Rattle.xlsx_sections.proofs.Failing.{fails_by_weaker}
 use Rattle.xlsx_parts.specs.PartSaid.{ok_or_none, section_said, section_said_or, is_whole}
 use Rattle.xlsx_parts.specs.PartSaid.{lacking_or, whole_said}
@@ -65,7 +59,7 @@ whole_there {events = events} meaning same is =
 -- a section is refused behind its start, and so is the part that may lack it
 pub section_lacking_refused : (name : List ℕ) (old mid : Reading) (ending : Ending)
     (refused : Refusing) (new : PackageState) (error : XlsxError) → SameParts old.source mid.source
-    → (old.source.is_told ≡ true
+    → (old.source.is_visible ≡ true
     → section_in name (events_of old) ≡ Some (section_left (length mid.names) mid))
     → FailsBy (SectionCause ending refused (section_left (length mid.names) mid)) mid.source new
     error

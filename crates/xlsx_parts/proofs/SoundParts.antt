@@ -1,18 +1,14 @@
 -- A part that says something has no cause to be refused.
-use Rattle.std.proofs.Common.{◌≡◌, ℕ, List, true, false, Option, Some, None, Result, Ok, Err}
-use Rattle.std.proofs.Common.{refl, arith, length, eqb-true, [], ◌∷◌}
+use Rattle.std.proofs.Common.{◌≡◌, ℕ, List, true, false, Option, Some, None, Result, Ok, Err, refl}
+use Rattle.std.proofs.Common.{arith, length, eqb-true, [], ◌∷◌}
 use Rattle.std.specs.Prelude.{option_map, option_and_then, MatchOption, if◌then◌else◌}
-use Rattle.part_events.specs.Event.{Tag, Event}
-use Rattle.part_events.specs.Nesting.{whole}
-use Rattle.part_events.specs.Section.{behind_start, is_closed, content, is_named}
+use Rattle.part_events.specs.Words.{Tag, Event, whole, behind_start, is_closed, content, is_named}
 use Rattle.part_events.specs.declared.fault.XmlFault.TheVariants.{Break}
 use Rattle.xlsx_error.specs.declared.error.XlsxError.{XlsxError}
 use Rattle.xlsx_error.specs.declared.error.XlsxError.TheVariants.{Xml}
-use Rattle.xlsx_sections.specs.Elements.{IsInsideRefused}
-use Rattle.xlsx_sections.specs.PartSection.{Ending, SectionCause, section_from, if_closed}
-use Rattle.xlsx_sections.specs.PartSection.{OptionalPartCause, StartCause, has_end, inside_of}
-use Rattle.xlsx_sections.specs.PartSection.{always}
-use Rattle.xlsx_sections.specs.Refusal.{Refusal}
+use Rattle.xlsx_sections.specs.Words.{IsInsideRefused, Ending, SectionCause, section_from}
+use Rattle.xlsx_sections.specs.Words.{if_closed, OptionalPartCause, StartCause, has_end, inside_of}
+use Rattle.xlsx_sections.specs.Words.{always, Refusal}
 use Rattle.xlsx_sections.proofs.Refused.{never_refused}
 use Rattle.xlsx_sections.proofs.Sound.{no_section_cause}
 use Rattle.xlsx_parts.specs.FirstElement.{PartElement, element_in, said_of_element, first_said}

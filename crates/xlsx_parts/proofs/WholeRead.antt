@@ -1,25 +1,20 @@
 -- How a part is read whole.
-use Rattle.std.proofs.Common.{◌≡◌, ℕ, zero, suc, List, [], ◌∷◌, ◌++◌, length, reverse}
-use Rattle.std.proofs.Common.{true, false, Option, Some, None, refl, ◌∙◌, ap, arith}
-use Rattle.std.proofs.Common.{subst, append-nil, Result, Err}
+use Rattle.std.proofs.Common.{◌≡◌, ℕ, zero, suc, List, [], ◌∷◌, ◌++◌, length, reverse, true, false}
+use Rattle.std.proofs.Common.{Option, Some, None, refl, ◌∙◌, ap, arith, subst, append-nil, Result}
+use Rattle.std.proofs.Common.{Err}
 use Rattle.std.specs.Prelude.{slice_get, if◌then◌else◌, not}
 use Rattle.std.specs.Option.{option_map_or}
 use Rattle.std.specs.Str.{bytes_eq}
 use Rattle.std.proofs.lemmas.List.{length-reverse}
-use Rattle.part_events.specs.Event.{Tag, Event, start, end, leaf, is_flaw}
-use Rattle.part_events.specs.Nesting.{open_name, closes, whole_rest, whole}
-use Rattle.part_events.specs.Package.{PackageState}
-use Rattle.part_events.specs.Reading.{Reading, IsReading, ReadsOn, IsAtEnd, events_of}
-use Rattle.part_events.specs.Section.{content, is_closed}
-use Rattle.part_events.specs.Walk.{section_ahead, is_closed_ahead, inside}
+use Rattle.part_events.specs.Words.{Tag, Event, start, end, leaf, is_flaw, open_name, closes}
+use Rattle.part_events.specs.Words.{whole_rest, whole, PackageState, Reading, IsReading, ReadsOn}
+use Rattle.part_events.specs.Words.{IsAtEnd, events_of, content, is_closed, section_ahead}
+use Rattle.part_events.specs.Words.{is_closed_ahead, inside}
 use Rattle.part_events.specs.declared.fault.XmlFault.TheVariants.{Break, Unclosed}
 use Rattle.part_events.proofs.Onward.{whole_at_end}
 use Rattle.xlsx_error.specs.declared.error.XlsxError.{XlsxError}
 use Rattle.xlsx_error.specs.declared.error.XlsxError.TheVariants.{OutOfMemory, Io, Xml, XmlEof}
-use Rattle.xlsx_sections.specs.PartSection.{Ending, section_left}
-use Rattle.xlsx_sections.specs.PartSection.{last_of}
-use Rattle.xlsx_sections.specs.Elements.{IsInsideRefused}
-use Rattle.xlsx_sections.specs.Refusal.{Refusal}
+use Rattle.xlsx_sections.specs.Words.{Ending, section_left, last_of, IsInsideRefused, Refusal}
 use Rattle.xlsx_sections.proofs.Failing.{fails_by_weaker, same_parts}
 use Rattle.xlsx_sections.proofs.Refused.{refused_weaker}
 use Rattle.xlsx_sections.proofs.SectionsRead.{nothing_past, ahead_at_first}
@@ -91,7 +86,7 @@ pub record BeginsPart (r : Reading) : Type 0 where
   pub last : last_of (section_left 0 r) ≡ length (whole (events_of r))
   pub unclosed : is_closed_ahead 0 r ≡ false
 
-pub begins_part : (r : Reading) → IsReading r → r.at ≡ 0 → r.source.is_told ≡ true → BeginsPart r
+pub begins_part : (r : Reading) → IsReading r → r.at ≡ 0 → r.source.is_visible ≡ true → BeginsPart r
 begins_part r is first told =
     let past = nothing_past r is first told in
     let tracked = is.tracked told in
@@ -108,10 +103,10 @@ begins_part r is first told =
 
 -- the end of a part
 pub part_ended : {first old new : Reading} → ReadsOn first old → ReadsOn old new → IsAtEnd new
-    → first.source.is_told ≡ true → EndsPart first new
+    → first.source.is_visible ≡ true → EndsPart first new
 part_ended {first = first} {old = old} {new = new} before reads ended told =
-    let still = before.moves.parts.is_told ∙ told in
-    let last = reads.moves.parts.is_told ∙ still in
+    let still = before.moves.parts.is_visible ∙ told in
+    let last = reads.moves.parts.is_visible ∙ still in
     let events : events_of new ≡ events_of first =
     reads.stays.part still ∙ before.stays.part told in
     let tracked = reads.stays.reading.tracked last in
@@ -131,7 +126,7 @@ part_ended {first = first} {old = old} {new = new} before reads ended told =
 
 -- where a section isn't told by the end of its part, it is refused as a part is that is read whole
 pub whole_refused : {A : Type 0} (meaning : List Event → Result A Refusal) (first : Reading)
-    (last : PackageState) (error : XlsxError) → (first.source.is_told ≡ true → BeginsPart first)
+    (last : PackageState) (error : XlsxError) → (first.source.is_visible ≡ true → BeginsPart first)
     → ((ending : Ending) → FailsFrom ending (IsInsideRefused meaning) 0 first last error)
     → WholePartFails (IsMeaningRefused meaning) first last error
 whole_refused meaning first last Io begins fails = fails (λ _. None)

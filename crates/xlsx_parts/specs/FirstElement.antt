@@ -1,14 +1,11 @@
 -- The first element of a name in a part, which says something by its own start, too.
 use Rattle.std.specs.Prelude.{◌≡◌, ℕ, List, [], ◌∷◌, length, if◌then◌else◌, Bool, Option, Some}
 use Rattle.std.specs.Prelude.{None, MatchOption, option_map, option_and_then, Result, Err}
-use Rattle.part_events.specs.Event.{Tag, Event, start, end, leaf, IsStartAnd}
-use Rattle.part_events.specs.Nesting.{whole}
-use Rattle.part_events.specs.Reading.{Reading, events_of}
-use Rattle.part_events.specs.Section.{is_named}
+use Rattle.part_events.specs.Words.{Tag, Event, start, end, leaf, IsStartAnd, whole, Reading}
+use Rattle.part_events.specs.Words.{events_of, is_named}
 use Rattle.xlsx_error.specs.declared.error.XlsxError.{XlsxError}
-use Rattle.xlsx_sections.specs.PartSection.{PartSection, Refusing, section_from, section_left}
-use Rattle.xlsx_sections.specs.PartSection.{inside_of, has_end, always, StartCause, SectionCause}
-use Rattle.xlsx_sections.specs.Refusal.{Refusal}
+use Rattle.xlsx_sections.specs.Words.{PartSection, Refusing, section_from, section_left, inside_of}
+use Rattle.xlsx_sections.specs.Words.{has_end, always, StartCause, SectionCause, Refusal}
 use Rattle.xlsx_parts.specs.PartSaid.{ok_or_none}
 use Rattle.xlsx_parts.specs.WholePart.{EndsPart}
 

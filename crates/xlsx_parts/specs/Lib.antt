@@ -4,3 +4,4 @@ pub mod PartElements
 pub mod PartSaid
 pub mod SheetPaths
 pub mod WholePart
+pub mod Words

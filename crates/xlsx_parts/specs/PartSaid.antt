@@ -1,11 +1,8 @@
 -- What the parts of a package say, each by its first section of a name, or whole.
 use Rattle.std.specs.Prelude.{ℕ, ◌==◌, List, [], ◌∷◌, ◌++◌, length, Bool, if◌then◌else◌, Option}
 use Rattle.std.specs.Prelude.{Some, None, option_map, option_and_then, Result, Ok, Err}
-use Rattle.part_events.specs.Event.{Event}
-use Rattle.part_events.specs.Nesting.{whole}
-use Rattle.part_events.specs.Package.{Part, part_of}
-use Rattle.xlsx_sections.specs.PartSection.{PartSection, closed_section, section_in}
-use Rattle.xlsx_sections.specs.Refusal.{Refusal}
+use Rattle.part_events.specs.Words.{Event, whole, Part, part_of}
+use Rattle.xlsx_sections.specs.Words.{PartSection, closed_section, section_in, Refusal}
 
 -- an answer, or none where it is refused
 abbrev pub ok_or_none : {A : Type 0} → Result A Refusal → Option A
@@ -19,7 +16,7 @@ section_said name meaning events =
     option_and_then (λ (inside : List Event). ok_or_none (meaning inside))
     (closed_section name events)
 
--- what the part at a path says by it
+-- what the first section of a name says in the part at a path, if the part is there
 abbrev pub part_said :
     {A : Type 0} → List ℕ → (List Event → Result A Refusal) → List Part → List ℕ → Option A
 part_said name meaning parts path =
@@ -30,7 +27,7 @@ abbrev pub unless_absent : {A : Type 0} → A → Option (List Event) → Option
 unless_absent absent None said = Some absent
 unless_absent absent (Some events) said = said
 
--- the nesting doesn't break
+-- the nesting of a part's events doesn't break
 abbrev pub is_whole : List Event → Bool
 is_whole events = length (whole events) == length events
 
@@ -48,7 +45,7 @@ abbrev pub lacking_or :
 lacking_or lacking events None said = if_whole events (Some lacking)
 lacking_or lacking events (Some section) said = said
 
--- what the section of a name says; a part without it says the other
+-- what the section of a name says, or `lacking` where the part has none
 abbrev pub section_said_or :
     {A : Type 0} → A → List ℕ → (List Event → Result A Refusal) → List Event → Option A
 section_said_or lacking name meaning events =

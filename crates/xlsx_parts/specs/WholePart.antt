@@ -1,20 +1,15 @@
 -- How a part is read whole, and why it can't be.
 use Rattle.std.specs.Prelude.{◌≡◌, ◌⊎◌, ⊤, ℕ, ◌+◌, List, [], ◌∷◌, length, Bool, true, false, Option}
 use Rattle.std.specs.Prelude.{Some, None, MatchOption, Result, Err}
-use Rattle.part_events.specs.Event.{Tag, Event}
-use Rattle.part_events.specs.Nesting.{whole}
-use Rattle.part_events.specs.Package.{PackageState, SameParts, part_of, event_count}
-use Rattle.part_events.specs.Reading.{Reading, IsReading, BreaksAt, events_of}
-use Rattle.part_events.specs.Section.{starts_by}
-use Rattle.part_events.specs.Walk.{section_ahead}
+use Rattle.part_events.specs.Words.{Tag, Event, whole, PackageState, SameParts, part_of}
+use Rattle.part_events.specs.Words.{event_count, Reading, IsReading, BreaksAt, events_of, starts_by}
+use Rattle.part_events.specs.Words.{section_ahead}
 use Rattle.part_events.specs.declared.fault.XmlFault.TheVariants.{Break}
 use Rattle.xlsx_error.specs.declared.error.XlsxError.{XlsxError}
 use Rattle.xlsx_error.specs.declared.error.XlsxError.TheVariants.{OutOfMemory, Io, Xml}
-use Rattle.xlsx_sections.specs.Failing.{FailsBy}
-use Rattle.xlsx_sections.specs.PartSection.{Ending, Refusing, SectionCause, StandsAtStart}
-use Rattle.xlsx_sections.specs.PartSection.{StandsAtEvent, section_in, section_left}
-use Rattle.xlsx_sections.specs.Refusal.{Refusal, RefusedAs}
-use Rattle.xlsx_sections.specs.Steps.{StepsToStart, IsEventInside}
+use Rattle.xlsx_sections.specs.Words.{FailsBy, Ending, Refusing, SectionCause, StandsAtStart}
+use Rattle.xlsx_sections.specs.Words.{StandsAtEvent, section_in, section_left, Refusal, RefusedAs}
+use Rattle.xlsx_sections.specs.Words.{StepsToStart, IsEventInside}
 
 -- the part at this path was opened, and nothing was taken of it
 pub record OpensPart (path : List ℕ) (old : PackageState) (new : Reading) : Type 0 where
@@ -24,9 +19,9 @@ pub record OpensPart (path : List ℕ) (old : PackageState) (new : Reading) : Ty
   pub faults : new.source.faults ≡ old.faults
   pub begins : new.source.taken ≡ old.taken
   pub taken :
-      old.is_told ≡ true →
+      old.is_visible ≡ true →
       new.source.taken + length new.source.rest ≡ old.taken + event_count old.parts path
-  pub part : old.is_told ≡ true → part_of old.parts path ≡ Some (events_of new)
+  pub part : old.is_visible ≡ true → part_of old.parts path ≡ Some (events_of new)
 
 -- the nesting of these events breaks
 abbrev pub IsBroken : List Event → XlsxError → Type 0
@@ -58,7 +53,7 @@ abbrev pub IfThere :
 IfThere cause None error = ⊥
 IfThere cause (Some events) error = cause events error
 
--- one of these has its cause
+-- one of many has its cause
 abbrev pub SomeCause :
     {X : Type 0} → (X → XlsxError → Type 0) → List X → XlsxError → Type 0
 SomeCause cause [] error = ⊥
@@ -72,13 +67,13 @@ FindsSection name false old new =
     (section_in name (events_of old) ≡ None) × (whole (events_of old) ≡ events_of old)
     × (new.at ≡ length (events_of old))
 
--- it can't be looked for, since the nesting breaks before
+-- the first section of a name can't be looked for, since the nesting breaks before
 abbrev pub FindSectionFails : List ℕ → Reading → Reading → XlsxError → Type 0
 FindSectionFails name old new error =
     FailsBy (λ own. (section_in name (events_of old) ≡ None) × IsBroken (events_of old) own)
     old.source new.source error
 
--- where a step over a whole part comes to
+-- where a step over a whole part comes to: the next wanted start, if there is one
 abbrev pub StandsInPart : (Tag → Bool) → Option ℕ → Reading → Reading → Type 0
 StandsInPart wanted None old new = Unit {0}
 StandsInPart wanted (Some place) old new = StandsAtStart wanted 0 (Some place) old new
@@ -91,11 +86,11 @@ EndsPart first new =
 -- the next wanted start, or the part's end, before which none is left
 abbrev pub StepsInPart : (Tag → Bool) → Option ℕ → Reading → Reading → Reading → Type 0
 StepsInPart wanted None first old new =
-    first.source.is_told ≡ true →
+    first.source.is_visible ≡ true →
     EndsPart first new × (starts_by wanted (section_ahead 0 old) ≡ [])
 StepsInPart wanted (Some place) first old new = StepsToStart wanted 0 (Some place) first old new
 
--- and the same of the next event
+-- where a step over a whole part comes to: the next event, if there is one
 abbrev pub StandsAtPartEvent : Option ℕ → Reading → Reading → Type 0
 StandsAtPartEvent None old new = Unit {0}
 StandsAtPartEvent (Some place) old new = StandsAtEvent 0 (Some place) old new
@@ -103,7 +98,7 @@ StandsAtPartEvent (Some place) old new = StandsAtEvent 0 (Some place) old new
 -- a step takes the event at this place, or the end of the part
 abbrev pub StepsToPartEvent : Option ℕ → Reading → Reading → Reading → Type 0
 StepsToPartEvent None first old new =
-    first.source.is_told ≡ true → EndsPart first new × (section_ahead 0 old ≡ [])
+    first.source.is_visible ≡ true → EndsPart first new × (section_ahead 0 old ≡ [])
 StepsToPartEvent (Some place) first old new =
     IsEventInside 0 new.source.current place first old new
 
@@ -123,7 +118,7 @@ IsOpenError Io = ⊤
 IsOpenError OutOfMemory = ⊤
 IsOpenError _ = ⊥
 
--- the refusals that such a step can have, whatever the package tells
+-- the refusals that a step over a whole part can have, whatever the package tells
 abbrev pub IsBreakError : XlsxError → Type 0
 IsBreakError Io = ⊤
 IsBreakError OutOfMemory = ⊤

@@ -1,6 +1,5 @@
 ghost use Rattle.std.specs.Prelude.{◌≡◌, [], ◌∷◌, true, IfOk, IfErr};
-ghost use Rattle.part_events.specs.Reading.{IsReading, ReadsPart};
-ghost use Rattle.part_events.specs.Section.{is_named};
+ghost use Rattle.part_events.specs.Words.{IsReading, ReadsPart, is_named};
 ghost use Rattle.xlsx_error.specs.declared.error.XlsxError.TheVariants.{Io};
 ghost use Rattle.xlsx_parts.specs.FirstElement.{FindsFirst};
 ghost use Rattle.xlsx_parts.specs.WholePart.{FindSectionFails, StandsInPart, IsBreakError};
@@ -20,7 +19,7 @@ pub fn find_element<P: Package>(xml: &mut XlReader<P>, name: &str) -> Result<Opt
     ensures reads { ReadsPart Io result xml.old xml.new }
     ensures stands { IfOk result
         (λ found. StandsInPart (is_named (name.now ∷ [])) found xml.old xml.new) }
-    ensures found { xml.old.source.is_told ≡ true →
+    ensures found { xml.old.source.is_visible ≡ true →
         IfOk result (λ found. FindsFirst name.now found xml.old xml.new) }
     ensures err { IfErr result (FindSectionFails name.now xml.old xml.new) }
     ensures kind { IfErr result IsBreakError }

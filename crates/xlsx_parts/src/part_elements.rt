@@ -1,8 +1,7 @@
 ghost use Rattle.std.specs.Prelude.{[], ◌∷◌, IfOk, IfErr};
-ghost use Rattle.part_events.specs.Reading.{Reading, IsReading, ReadsPart};
-ghost use Rattle.part_events.specs.Section.{is_named};
+ghost use Rattle.part_events.specs.Words.{Reading, IsReading, ReadsPart, is_named};
 ghost use Rattle.xlsx_error.specs.declared.error.XlsxError.TheVariants.{Io};
-ghost use Rattle.xlsx_sections.specs.Elements.{KeepsElements};
+ghost use Rattle.xlsx_sections.specs.Words.{KeepsElements};
 ghost use Rattle.xlsx_parts.specs.WholePart.{StandsInPart, StepFails, IsBreakError};
 ghost use Rattle.xlsx_parts.specs.PartElements.{StepsToPartElement};
 

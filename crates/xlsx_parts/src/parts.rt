@@ -1,15 +1,12 @@
 ghost use Rattle.std.specs.Prelude.{◌≡◌, [], ◌∷◌, true, false, IfOk, IfErr};
-ghost use Rattle.part_events.specs.Package.{LeavesPackage};
-ghost use Rattle.part_events.specs.Reading.{Reading, IsReading, IsAtElement, ReadsPart};
-ghost use Rattle.part_events.specs.Section.{is_named};
+ghost use Rattle.part_events.specs.Words.{LeavesPackage, Reading, IsReading, IsAtElement};
+ghost use Rattle.part_events.specs.Words.{ReadsPart, is_named};
 ghost use Rattle.xlsx_error.specs.declared.error.XlsxError.TheVariants.{Io};
-ghost use Rattle.xlsx_sections.specs.Elements.{KeepsStarts};
-ghost use Rattle.xlsx_sections.specs.Failing.{SoundFails};
-ghost use Rattle.xlsx_sections.specs.PartSection.{HasNoPart, KeepsSection};
+ghost use Rattle.xlsx_sections.specs.Words.{KeepsStarts, SoundFails, HasNoPart, KeepsSection};
 ghost use Rattle.xlsx_parts.specs.WholePart.{OpensPart, FindsSection, FindSectionFails};
-ghost use Rattle.xlsx_parts.specs.WholePart.{StandsInPart};
-ghost use Rattle.xlsx_parts.specs.WholePart.{StepsInPart, StandsAtPartEvent, StepsToPartEvent};
-ghost use Rattle.xlsx_parts.specs.WholePart.{StepFails, IsOpenError, IsBreakError};
+ghost use Rattle.xlsx_parts.specs.WholePart.{StandsInPart, StepsInPart, StandsAtPartEvent};
+ghost use Rattle.xlsx_parts.specs.WholePart.{StepsToPartEvent, StepFails, IsOpenError};
+ghost use Rattle.xlsx_parts.specs.WholePart.{IsBreakError};
 
 use part_events::{Package, Step, XlReader};
 use xlsx_error::XlsxError;
@@ -39,7 +36,7 @@ pub fn find_section<P: Package>(xml: &mut XlReader<P>, name: &str) -> Result<boo
     requires first { xml.old.at ≡ 0 }
     ensures reads { ReadsPart Io result xml.old xml.new }
     ensures element { IfOk result (λ found. found ≡ true → IsAtElement xml.new) }
-    ensures found { xml.old.source.is_told ≡ true →
+    ensures found { xml.old.source.is_visible ≡ true →
         IfOk result (λ found. FindsSection name.now found xml.old xml.new) }
     ensures err { IfErr result (FindSectionFails name.now xml.old xml.new) }
     ensures kind { IfErr result IsBreakError }

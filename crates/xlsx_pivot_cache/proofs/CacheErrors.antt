@@ -4,13 +4,10 @@ use Rattle.part_events.specs.declared.fault.XmlFault.TheVariants.{Break, Entity}
 use Rattle.xlsx_error.specs.declared.error.XlsxError.{XlsxError}
 use Rattle.xlsx_error.specs.declared.error.XlsxError.TheVariants.{OutOfMemory, Io, Xml, XmlEof}
 use Rattle.xlsx_error.specs.declared.error.XlsxError.TheVariants.{XmlAttr, Unexpected}
-use Rattle.xlsx_sections.specs.Elements.{IsEndError}
-use Rattle.xlsx_sections.specs.Names.{IsNameError}
-use Rattle.xlsx_sections.specs.PartSection.{IsStepError}
-use Rattle.xlsx_sections.specs.Refusal.{IsDecodeError}
-use Rattle.xlsx_parts.specs.WholePart.{IsBreakError}
-use Rattle.xlsx_pivot_cache.specs.CacheErrors.{IsItemError, IsFieldsError}
-use Rattle.xlsx_pivot_cache.specs.CacheErrors.{IsFaultError, IsRecordValueError, IsRowError}
+use Rattle.xlsx_sections.specs.Words.{IsEndError, IsNameError, IsStepError, IsDecodeError}
+use Rattle.xlsx_parts.specs.Words.{IsBreakError}
+use Rattle.xlsx_pivot_cache.specs.CacheErrors.{IsItemError, IsFieldsError, IsFaultError}
+use Rattle.xlsx_pivot_cache.specs.CacheErrors.{IsRecordValueError, IsRowError}
 
 pub fields_step : (error : XlsxError) → IsStepError (codes "cacheField") error
     → IsFieldsError error

@@ -1,9 +1,8 @@
 -- How a cache is read on, and when it is refused.
 use Rattle.std.proofs.Common.{List, ℕ, inr}
-use Rattle.part_events.specs.Package.{PackageState}
-use Rattle.part_events.specs.Reading.{events_of}
+use Rattle.part_events.specs.Words.{PackageState, events_of}
 use Rattle.xlsx_error.specs.declared.error.XlsxError.{XlsxError}
-use Rattle.xlsx_sections.specs.Failing.{FailsBy}
+use Rattle.xlsx_sections.specs.Words.{FailsBy}
 use Rattle.xlsx_sections.proofs.Failing.{fails_by_weaker}
 use Rattle.xlsx_pivot_cache.specs.CacheRecords.{RowsCause, CacheCause}
 use Rattle.xlsx_pivot_cache.specs.PivotRows.{PivotRows, IsOfCache}

@@ -1,36 +1,28 @@
 -- How the fields of a part are read element by element.
-use Rattle.std.proofs.Common.{◌≡◌, ℕ, List, [], ◌∷◌, ◌++◌, length, true, false, Option, Some}
-use Rattle.std.proofs.Common.{None, Result, Ok, Err, refl, sym, ap, ◌∙◌, subst, append-nil}
+use Rattle.std.proofs.Common.{◌≡◌, ℕ, List, [], ◌∷◌, ◌++◌, length, true, false, Option, Some, None}
+use Rattle.std.proofs.Common.{Result, Ok, Err, refl, sym, ap, ◌∙◌, subst, append-nil}
 use Rattle.std.proofs.Common.{option_to_list, codes}
 use Rattle.std.specs.Prelude.{is_none, if◌then◌else◌}
-use Rattle.part_events.specs.Event.{Tag, Event}
-use Rattle.part_events.specs.Nesting.{whole}
-use Rattle.part_events.specs.Package.{PackageState}
-use Rattle.part_events.specs.Reading.{Reading, PassesElement, ahead, events_of}
-use Rattle.part_events.specs.Section.{Element, content, outermost, unclosed}
-use Rattle.part_events.specs.Walk.{section_ahead, element_at}
+use Rattle.part_events.specs.Words.{Tag, Event, whole, PackageState, Reading, PassesElement, ahead}
+use Rattle.part_events.specs.Words.{events_of, Element, content, outermost, unclosed, section_ahead}
+use Rattle.part_events.specs.Words.{element_at}
 use Rattle.part_events.specs.declared.fault.XmlFault.TheVariants.{Break, Unclosed}
 use Rattle.xlsx_error.specs.declared.error.XlsxError.{XlsxError}
 use Rattle.xlsx_error.specs.declared.error.XlsxError.TheVariants.{OutOfMemory, Io, Xml, XmlEof}
-use Rattle.xlsx_sections.specs.Answers.{some_answers, and_others_if, prepended}
-use Rattle.xlsx_sections.specs.ElementLists.{element_said}
-use Rattle.xlsx_sections.specs.Elements.{IsInsideRefused, end_among, end_outside}
-use Rattle.xlsx_sections.specs.Failing.{FailsBy}
-use Rattle.xlsx_sections.specs.PartSection.{always, section_left, inside_of, last_of}
-use Rattle.xlsx_sections.specs.Refusal.{Refusal, in_element}
+use Rattle.xlsx_sections.specs.Words.{some_answers, and_others_if, prepended, element_said}
+use Rattle.xlsx_sections.specs.Words.{IsInsideRefused, end_among, end_outside, FailsBy, always}
+use Rattle.xlsx_sections.specs.Words.{section_left, inside_of, last_of, Refusal, in_element}
 use Rattle.xlsx_sections.proofs.ElementsRead.{IsElementFound}
 use Rattle.xlsx_sections.proofs.ElementsSaid.{KeepsElementsSaid, elements_further, elements_refused}
 use Rattle.xlsx_sections.proofs.Failing.{fails_by_weaker, same_parts}
 use Rattle.xlsx_sections.proofs.Kept.{prepended-and_others}
 use Rattle.xlsx_sections.proofs.Refused.{refused_weaker}
 use Rattle.xlsx_sections.proofs.StartsSaid.{FailsFrom}
-use Rattle.xlsx_parts.specs.PartSaid.{whole_said}
-use Rattle.xlsx_parts.specs.WholePart.{EndsPart, IsBroken, IsMeaningRefused, StepFails}
+use Rattle.xlsx_parts.specs.Words.{whole_said, EndsPart, IsBroken, IsMeaningRefused, StepFails}
 use Rattle.xlsx_parts.proofs.SaidRead.{whole_there}
 use Rattle.xlsx_parts.proofs.WholeRead.{BeginsPart}
 use Rattle.xlsx_pivot_cache.specs.CacheFields.{FieldSaid, field_said, is_field, fields_in}
-use Rattle.xlsx_pivot_cache.specs.CacheFields.{fields_said}
-use Rattle.xlsx_pivot_cache.specs.CacheFields.{FieldsCause}
+use Rattle.xlsx_pivot_cache.specs.CacheFields.{fields_said, FieldsCause}
 
 -- what elements say of fields, behind what those before them said
 abbrev pub fields_behind : List FieldSaid → List Element → Result (List FieldSaid) Refusal
@@ -51,7 +43,7 @@ some_kept kept (Some own) answer others is =
 pub fields_further : {kept : List FieldSaid} {place : ℕ} {tag : Tag} {first old new after : Reading}
     (own : Option FieldSaid) → KeepsFields kept first old
     → IsElementFound is_field 0 tag place first old new → PassesElement new after
-    → (new.source.is_told ≡ true → field_said tag (content 0 (ahead new)) ≡ Ok own)
+    → (new.source.is_visible ≡ true → field_said tag (content 0 (ahead new)) ≡ Ok own)
     → KeepsFields (kept ++ option_to_list own) first after
 fields_further {kept = kept} {tag = tag} {new = new} own list found passes says =
     let here = element_at 0 tag new in
@@ -81,7 +73,7 @@ ends_inside text (Some element) is =
 
 -- the fields can't be taken, and so the part can't
 fields_fail : (first : Reading) (last : PackageState) (error : XlsxError)
-    → (first.source.is_told ≡ true → BeginsPart first)
+    → (first.source.is_visible ≡ true → BeginsPart first)
     → ((name : List ℕ) → FailsFrom (end_among is_field name in_field)
     (IsInsideRefused fields_in) 0 first last error)
     → FailsBy (FieldsCause (events_of first)) first.source last error
@@ -109,7 +101,7 @@ fields_fail first last error begins fails = λ told.
 
 -- one of them is refused
 pub fields_refused : {kept : List FieldSaid} {place : ℕ} {tag : Tag} {first old new : Reading}
-    (last : PackageState) (error : XlsxError) → (first.source.is_told ≡ true → BeginsPart first)
+    (last : PackageState) (error : XlsxError) → (first.source.is_visible ≡ true → BeginsPart first)
     → KeepsFields kept first old → IsElementFound is_field 0 tag place first old new
     → FailsFrom (always (codes "cacheField")) (IsInsideRefused (field_said tag))
     (length new.names) new last error
@@ -136,8 +128,8 @@ fields_stopped first new error fails =
 
 -- none is left
 pub fields_ended : {kept : List FieldSaid} {first now : Reading} (new : Reading)
-    → (first.source.is_told ≡ true → BeginsPart first) → KeepsFields kept first now
-    → first.source.is_told ≡ true → EndsPart first new
+    → (first.source.is_visible ≡ true → BeginsPart first) → KeepsFields kept first now
+    → first.source.is_visible ≡ true → EndsPart first new
     → outermost is_field (section_ahead 0 now) ≡ [] → unclosed is_field (section_ahead 0 now) ≡ None
     → fields_said (events_of first) ≡ Some kept
 fields_ended {kept = kept} {first = first} {now = now} new begins list told ended none closed =

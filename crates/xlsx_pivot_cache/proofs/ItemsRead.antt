@@ -1,15 +1,13 @@
 -- How the items of a field are read event by event.
-use Rattle.std.proofs.Common.{◌≡◌, ℕ, ◌-◌, List, [], ◌∷◌, length, refl, sym}
-use Rattle.std.proofs.Common.{ap, ◌∙◌, Option, Result, Err, arith}
-use Rattle.part_events.specs.Event.{Tag, Event, start, end, leaf}
-use Rattle.part_events.specs.Reading.{names_behind, IsEnclosed}
-use Rattle.cell_data.specs.CellValue.{CellValue}
+use Rattle.std.proofs.Common.{◌≡◌, ℕ, ◌-◌, List, [], ◌∷◌, length, refl, sym, ap, ◌∙◌, Option}
+use Rattle.std.proofs.Common.{Result, Err, arith}
+use Rattle.part_events.specs.Words.{Tag, Event, start, end, leaf, names_behind, IsEnclosed}
+use Rattle.cell_data.specs.Words.{CellValue}
 use Rattle.xlsx_error.specs.declared.error.XlsxError.{XlsxError}
-use Rattle.xlsx_sections.specs.Answers.{prepended, and_others_if}
-use Rattle.xlsx_sections.specs.Refusal.{Refusal, ElementFails}
+use Rattle.xlsx_sections.specs.Words.{prepended, and_others_if, Refusal, ElementFails}
 use Rattle.xlsx_sections.proofs.Refused.{refused_at_weaker}
 use Rattle.xlsx_pivot_cache.specs.CacheFields.{some_item, item_said, field_named}
-use Rattle.xlsx_pivot_cache.specs.FieldEvents.{items_behind, items_from_place, depth_before}
+use Rattle.xlsx_pivot_cache.specs.FieldEvents.{cache_items_behind, items_from_place, depth_before}
 use Rattle.xlsx_pivot_cache.specs.declared.contents.ItemsPlace.{ItemsPlace}
 use Rattle.xlsx_pivot_cache.specs.declared.contents.ItemsPlace.TheVariants.{Within}
 
@@ -37,7 +35,7 @@ value_fails at behind own error fails =
 -- a child of `sharedItems` comes next
 pub child_first : (base depth : ℕ) (tag : Tag) (events : List Event) → depth - base ≡ 0
     → items_from_place (Within base) depth (start tag ∷ events)
-    ≡ and_others_if (item_said tag) (items_behind 1 events)
+    ≡ and_others_if (item_said tag) (cache_items_behind 1 events)
 child_first base depth tag events none = rw none refl
 
 -- and is refused
@@ -47,7 +45,8 @@ pub child_fails : (base depth at behind : ℕ) (tag : Tag) (events : List Event)
 child_fails base depth at behind tag events error none fails =
     fails_as at behind (item_said tag) (items_from_place (Within base) depth (start tag ∷ events))
     error (λ refusal is. child_first base depth tag events none
-    ∙ ap (λ (own : Result (Option CellValue) Refusal). and_others_if own (items_behind 1 events))
+    ∙ ap (λ (own : Result (Option CellValue) Refusal).
+    and_others_if own (cache_items_behind 1 events))
     is) fails
 
 opened_before : (event : Event) (names : List (List ℕ)) → IsEnclosed event names

@@ -1,32 +1,23 @@
 -- What a cursor has left goes on with its steps.
-use Rattle.std.proofs.Common.{◌≡◌, List, [], ◌∷◌, length, Bool, true, false, Option, Some}
-use Rattle.std.proofs.Common.{None, Result, refl, ap, subst, arith}
+use Rattle.std.proofs.Common.{◌≡◌, List, [], ◌∷◌, length, Bool, true, false, Option, Some, None}
+use Rattle.std.proofs.Common.{Result, refl, ap, subst, arith}
 use Rattle.std.specs.Prelude.{option_map, option_and_then, if◌then◌else◌}
-use Rattle.part_events.specs.Event.{Tag, Event, start, end, leaf, IsStartAnd}
-use Rattle.part_events.specs.Nesting.{whole}
-use Rattle.part_events.specs.Reading.{Reading, IsReading, events_of}
-use Rattle.part_events.specs.Section.{content, is_closed, behind_start, is_named}
+use Rattle.part_events.specs.Words.{Tag, Event, start, end, leaf, IsStartAnd, whole, Reading}
+use Rattle.part_events.specs.Words.{IsReading, events_of, content, is_closed, behind_start}
+use Rattle.part_events.specs.Words.{is_named}
 use Rattle.part_events.specs.declared.fault.XmlFault.TheVariants.{Break}
 use Rattle.xlsx_error.specs.declared.error.XlsxError.{XlsxError}
 use Rattle.xlsx_error.specs.declared.error.XlsxError.TheVariants.{Xml}
-use Rattle.xlsx_sections.specs.Failing.{FailsBy}
-use Rattle.xlsx_sections.specs.PartSection.{PartSection, section_in, section_from, section_left}
-use Rattle.xlsx_sections.specs.PartSection.{inside_of, has_end, if_closed}
-use Rattle.xlsx_sections.specs.PartSection.{StartCause}
-use Rattle.xlsx_sections.specs.Refusal.{Refusal}
+use Rattle.xlsx_sections.specs.Words.{FailsBy, PartSection, section_in, section_from, section_left}
+use Rattle.xlsx_sections.specs.Words.{inside_of, has_end, if_closed, StartCause, Refusal}
 use Rattle.xlsx_sections.proofs.Failing.{fails_by_weaker, same_parts}
 use Rattle.xlsx_sections.proofs.SectionsRead.{start_there}
-use Rattle.xlsx_parts.specs.PartSaid.{ok_or_none, section_said}
-use Rattle.xlsx_parts.specs.FirstElement.{StartAhead, first_start, element_in, element_from}
-use Rattle.xlsx_parts.specs.FirstElement.{element_with}
-use Rattle.xlsx_parts.specs.WholePart.{FindSectionFails, IsBroken}
+use Rattle.xlsx_parts.specs.Words.{ok_or_none, section_said, StartAhead, first_start, element_in}
+use Rattle.xlsx_parts.specs.Words.{element_from, element_with, FindSectionFails, IsBroken}
 use Rattle.xlsx_parts.proofs.ElementsFound.{section_of_element}
 use Rattle.xlsx_pivot_cache.specs.CacheFields.{FieldSaid}
-use Rattle.xlsx_pivot_cache.specs.CacheRecords.{records_name, rows_in, names_first}
-use Rattle.xlsx_pivot_cache.specs.CacheRecords.{RowsCause}
-use Rattle.xlsx_pivot_cache.specs.PivotRows.{IsInRecords}
-use Rattle.xlsx_pivot_cache.specs.PivotRows.{RowCauseAt}
-use Rattle.xlsx_pivot_cache.specs.PivotRows.{records_left}
+use Rattle.xlsx_pivot_cache.specs.CacheRecords.{records_name, rows_in, names_first, RowsCause}
+use Rattle.xlsx_pivot_cache.specs.PivotRows.{IsInRecords, RowCauseAt, records_left}
 use Rattle.xlsx_pivot_cache.specs.declared.pivot_cursor.RecordsPlace.TheVariants.{Before}
 
 -- what a section says, where its end is there
@@ -66,7 +57,7 @@ names_taken fields old new there =
 
 -- the reader stands in the records, behind whose start nothing was taken
 pub in_records : (fields : List FieldSaid) (new : Reading) → IsReading new
-    → (new.source.is_told ≡ true
+    → (new.source.is_visible ≡ true
     → section_in records_name (events_of new) ≡ Some (section_left (length new.names) new))
     → IsInRecords fields (length new.names) new
 in_records fields new is there = record {

@@ -1,25 +1,20 @@
 -- How the records of a cache are read.
-use Rattle.std.proofs.Common.{◌≡◌, ◌∙◌, ◌-◌, ℕ, suc, List, [], ◌∷◌, ◌++◌, length, Bool, true}
-use Rattle.std.proofs.Common.{false, Option, Some, None, Result, Ok, Err, refl, sym, ap}
-use Rattle.std.proofs.Common.{append-nil, arith}
+use Rattle.std.proofs.Common.{◌≡◌, ◌∙◌, ◌-◌, ℕ, suc, List, [], ◌∷◌, ◌++◌, length, Bool, true, false}
+use Rattle.std.proofs.Common.{Option, Some, None, Result, Ok, Err, refl, sym, ap, append-nil, arith}
 use Rattle.std.proofs.Common.{option_to_list}
 use Rattle.std.proofs.lemmas.List.{length-append}
 use Rattle.std.specs.Prelude.{slice_get, if◌then◌else◌}
-use Rattle.part_events.specs.Event.{Tag, Event}
-use Rattle.part_events.specs.Reading.{Reading, PassesElement, ahead}
-use Rattle.part_events.specs.Section.{Element, content, is_closed, is_any, outermost, unclosed}
-use Rattle.part_events.specs.Walk.{inside, section_ahead, section_behind, element_at}
+use Rattle.part_events.specs.Words.{Tag, Event, Reading, PassesElement, ahead, Element, content}
+use Rattle.part_events.specs.Words.{is_closed, is_any, outermost, unclosed, inside, section_ahead}
+use Rattle.part_events.specs.Words.{section_behind, element_at}
 use Rattle.part_events.proofs.Matches.{open_still}
-use Rattle.cell_data.specs.CellValue.{CellValue}
+use Rattle.cell_data.specs.Words.{CellValue}
 use Rattle.xlsx_error.specs.declared.error.XlsxError.{XlsxError}
-use Rattle.xlsx_sections.specs.Answers.{prepended, all_answers, and_others}
-use Rattle.xlsx_sections.specs.ElementLists.{element_said}
-use Rattle.xlsx_sections.specs.Elements.{IsInsideRefused, end_among, end_outside}
-use Rattle.xlsx_sections.specs.Elements.{named_end, IfCutOff}
-use Rattle.xlsx_sections.specs.Failing.{FailsBy}
-use Rattle.xlsx_sections.specs.PartSection.{PartSection, Refusing, Never, SectionFails, always}
-use Rattle.xlsx_sections.specs.PartSection.{SectionCause, section_left, inside_of, has_end}
-use Rattle.xlsx_sections.specs.Refusal.{Refusal, ElementFails, in_element}
+use Rattle.xlsx_sections.specs.Words.{prepended, all_answers, and_others, element_said}
+use Rattle.xlsx_sections.specs.Words.{IsInsideRefused, end_among, end_outside, named_end, IfCutOff}
+use Rattle.xlsx_sections.specs.Words.{FailsBy, PartSection, Refusing, Never, SectionFails, always}
+use Rattle.xlsx_sections.specs.Words.{SectionCause, section_left, inside_of, has_end, Refusal}
+use Rattle.xlsx_sections.specs.Words.{ElementFails, in_element}
 use Rattle.xlsx_sections.proofs.CutOff.{cut_weaker, cut_open, fails_cut_off, none_open}
 use Rattle.xlsx_sections.proofs.ElementsRead.{IsElementFound, element_passed, element_refused}
 use Rattle.xlsx_sections.proofs.ElementsRead.{own_inside, own_end}
@@ -133,7 +128,7 @@ value_unended {base = base} {first = first} fields last error found fails =
 pub record_taken : {base place : ℕ} {tag : Tag} {old new after : Reading}
     (fields : List FieldSaid) (row : List CellValue)
     → IsElementFound is_record base tag place old old new → PassesElement new after
-    → (new.source.is_told ≡ true → row_in fields (content 0 (ahead new)) ≡ Ok row)
+    → (new.source.is_visible ≡ true → row_in fields (content 0 (ahead new)) ≡ Ok row)
     → TakesRecord fields base row old after
 record_taken {base = base} {tag = tag} {new = new} fields row found passes says =
     let passed = element_passed found passes in
@@ -142,7 +137,7 @@ record_taken {base = base} {tag = tag} {new = new} fields row found passes says 
       first = λ told. record {
         here = element_at base tag new;
         next = passed.elements told;
-        says = says (found.read.reads.moves.parts.is_told ∙ told);
+        says = says (found.read.reads.moves.parts.is_visible ∙ told);
         ends = passed.keeps.unclosed told;
       };
     }
@@ -169,22 +164,22 @@ rows_refused fields s refusal is =
 pub next_stopped : (fields : List FieldSaid) (base : ℕ) (old new : Reading) (error : XlsxError)
     → SectionFails (end_among is_record records_name (λ (element : Element). Some records_name))
     Never base old new error
-    → IfCutOff (old.source.is_told ≡ true → records_ahead base old ≡ []) error
+    → IfCutOff (old.source.is_visible ≡ true → records_ahead base old ≡ []) error
     → FailsBy (NextRecordCause fields base old) old.source new.source error
 next_stopped fields base old new error fails cut =
     fails_cut_off
     (SectionCause (always records_name) (IsNextRefused fields) (section_left base old))
     (LacksRecord base old) old.source new.source error
     (step_refused is_record base old (IsNextRefused fields) new error fails)
-    (cut_weaker (old.source.is_told ≡ true → records_ahead base old ≡ [])
-    (old.source.is_told ≡ true → LacksRecord base old) error
+    (cut_weaker (old.source.is_visible ≡ true → records_ahead base old ≡ [])
+    (old.source.is_visible ≡ true → LacksRecord base old) error
     (λ none told.
     none told
     ∙ sym (ap option_to_list (none_open is_record (section_ahead base old) (none told)))) cut)
 
 -- the record that was found is left open, and no other one is left
 found_open : {base place : ℕ} {tag : Tag} {old new : Reading}
-    → IsElementFound is_record base tag place old old new → old.source.is_told ≡ true
+    → IsElementFound is_record base tag place old old new → old.source.is_visible ≡ true
     → has_end (section_left (length new.names) new) ≡ false → LacksRecord base old
 found_open {base = base} {tag = tag} {old = old} {new = new} found told ends =
     let here = element_at base tag new in
@@ -218,8 +213,9 @@ record_refused {base = base} {tag = tag} {old = old} {new = new} fields last err
       next = (found.next told).elements;
       refuses = ap (in_element here) (sym (ap (row_in fields) (own_inside new)) ∙ is);
     }) fails))
-    (cut_weaker (new.source.is_told ≡ true → has_end (section_left (length new.names) new) ≡ false)
-    (old.source.is_told ≡ true → LacksRecord base old) error
-    (λ ends told. found_open found told (ends (found.read.reads.moves.parts.is_told ∙ told)))
+    (cut_weaker (new.source.is_visible ≡ true → has_end (section_left (length new.names) new)
+    ≡ false)
+    (old.source.is_visible ≡ true → LacksRecord base old) error
+    (λ ends told. found_open found told (ends (found.read.reads.moves.parts.is_visible ∙ told)))
     (cut_open (length new.names) new last (always records_name) (IsInsideRefused (row_in fields))
     error fails))

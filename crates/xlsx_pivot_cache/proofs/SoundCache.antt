@@ -1,23 +1,18 @@
 -- A cache whose rows are said has no cause to be refused.
-use Rattle.std.proofs.Common.{◌≡◌, ℕ, List, [], ◌∷◌, Bool, true, false, Option, Some, None}
-use Rattle.std.proofs.Common.{inl, inr, refl, subst}
+use Rattle.std.proofs.Common.{◌≡◌, ℕ, List, [], ◌∷◌, Bool, true, false, Option, Some, None, inl}
+use Rattle.std.proofs.Common.{inr, refl, subst}
 use Rattle.std.specs.Prelude.{is_none, MatchOption, if◌then◌else◌}
-use Rattle.part_events.specs.Event.{Event}
-use Rattle.part_events.specs.Nesting.{whole}
-use Rattle.part_events.specs.Package.{Part, part_of}
-use Rattle.part_events.specs.Section.{unclosed}
+use Rattle.part_events.specs.Words.{Event, whole, Part, part_of, unclosed}
 use Rattle.part_events.specs.declared.fault.XmlFault.TheVariants.{Break}
-use Rattle.cell_data.specs.CellValue.{CellValue}
+use Rattle.cell_data.specs.Words.{CellValue}
 use Rattle.xlsx_error.specs.declared.error.XlsxError.{XlsxError}
 use Rattle.xlsx_error.specs.declared.error.XlsxError.TheVariants.{Xml, XmlEof, FileNotFound}
-use Rattle.xlsx_sections.specs.PartSection.{LacksPart, always}
-use Rattle.xlsx_parts.specs.PartSaid.{whole_said, section_said}
-use Rattle.xlsx_parts.specs.WholePart.{IfThere}
+use Rattle.xlsx_sections.specs.Words.{LacksPart, always}
+use Rattle.xlsx_parts.specs.Words.{whole_said, section_said, IfThere}
 use Rattle.xlsx_parts.proofs.SaidFrom.{mapped_from, and_then_from}
 use Rattle.xlsx_parts.proofs.SoundParts.{no_said_cause, no_whole_cause}
 use Rattle.xlsx_pivot_cache.specs.CacheFields.{FieldSaid, is_field, fields_in, fields_said}
-use Rattle.xlsx_pivot_cache.specs.CacheFields.{fields_at}
-use Rattle.xlsx_pivot_cache.specs.CacheFields.{FieldsCause, FieldsAtCause}
+use Rattle.xlsx_pivot_cache.specs.CacheFields.{fields_at, FieldsCause, FieldsAtCause}
 use Rattle.xlsx_pivot_cache.specs.CacheRecords.{rows_in, names_row, rows_at, cache_rows}
 use Rattle.xlsx_pivot_cache.specs.CacheRecords.{records_name, RowsCause, CacheCause}
 

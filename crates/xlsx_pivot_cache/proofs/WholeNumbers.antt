@@ -1,7 +1,7 @@
 -- What whole numbers texts write.
 use Rattle.std.proofs.Common.{◌≡◌, ◌≢◌, ℕ, ◌+◌, ◌^◌, List, [], ◌∷◌, refl, ap, ne_eqb}
 use Rattle.std.specs.Prelude.{pos, neg_ℤ, option_map}
-use Rattle.xlsx_sections.specs.NumberText.{number_below}
+use Rattle.xlsx_sections.specs.Words.{number_below}
 use Rattle.xlsx_pivot_cache.specs.CacheItems.{whole_number}
 
 -- one with a minus

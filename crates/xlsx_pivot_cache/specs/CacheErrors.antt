@@ -3,18 +3,18 @@ use Rattle.std.specs.Prelude.{◌≡◌, ⊤, codes, IsSomeAnd}
 use Rattle.part_events.specs.declared.fault.XmlFault.TheVariants.{Break, Entity}
 use Rattle.xlsx_error.specs.declared.error.XlsxError.{XlsxError}
 use Rattle.xlsx_error.specs.declared.error.XlsxError.TheVariants.{OutOfMemory, Io, Xml, XmlAttr}
-use Rattle.xlsx_error.specs.declared.error.XlsxError.TheVariants.{XmlEof, FileNotFound}
-use Rattle.xlsx_error.specs.declared.error.XlsxError.TheVariants.{Unexpected}
-use Rattle.xlsx_sections.specs.Refusal.{told_by, unexpected}
+use Rattle.xlsx_error.specs.declared.error.XlsxError.TheVariants.{XmlEof, FileNotFound, Unexpected}
+use Rattle.xlsx_sections.specs.Words.{told_by, unexpected}
 use Rattle.xlsx_pivot_cache.specs.CacheRecords.{IsRecordRefusal}
 
--- those of an item
+-- the refusals that an item of a field can have
 abbrev pub IsItemError : XlsxError → Type 0
 IsItemError OutOfMemory = ⊤
 IsItemError (XmlAttr fault) = ⊤
 IsItemError _ = ⊥
 
--- those of the fields in a part that is there, whatever the package tells
+-- the refusals that the fields of a cache can have in a part that is there, whatever the package
+-- tells
 abbrev pub IsFieldsError : XlsxError → Type 0
 IsFieldsError OutOfMemory = ⊤
 IsFieldsError Io = ⊤
@@ -24,23 +24,23 @@ IsFieldsError (XmlAttr fault) = ⊤
 IsFieldsError (XmlEof element) = element.now ≡ codes "cacheField"
 IsFieldsError _ = ⊥
 
--- and those of the fields in a part that may be absent
+-- the refusals that the fields of a cache can have in a part that may be absent
 abbrev pub IsCacheFieldsError : XlsxError → Type 0
 IsCacheFieldsError (FileNotFound path) = ⊤
 IsCacheFieldsError error = IsFieldsError error
 
--- those of a record that refers to no item
+-- the refusals of a record that refers to no item
 abbrev pub IsFaultError : XlsxError → Type 0
 IsFaultError (Unexpected text) = IsSomeAnd (told_by text.now unexpected) IsRecordRefusal
 IsFaultError _ = ⊥
 
--- those of a value of a record
+-- the refusals that a value of a record can have
 abbrev pub IsRecordValueError : XlsxError → Type 0
 IsRecordValueError OutOfMemory = ⊤
 IsRecordValueError (XmlAttr fault) = ⊤
 IsRecordValueError error = IsFaultError error
 
--- those of a record, whatever the package tells
+-- the refusals that a record can have, whatever the package tells
 abbrev pub IsRowError : XlsxError → Type 0
 IsRowError Io = ⊤
 IsRowError (Xml (Break at why)) = ⊤

@@ -1,25 +1,18 @@
 -- The fields of a pivot table's cache (ECMA-376 part 1, sections 18.10.1.3 and 18.10.1.90).
-use Rattle.std.specs.Prelude.{◌≡◌, ◌⊎◌, ℕ, List, [], ◌∷◌, length, map, Bool, false}
-use Rattle.std.specs.Prelude.{if◌then◌else◌, codes, string_bytes, Option, Some, None, is_some}
-use Rattle.std.specs.Prelude.{is_none, option_and_then, Result, Ok, Err}
-use Rattle.attr_text.specs.Attributes.{lookup}
+use Rattle.std.specs.Prelude.{◌≡◌, ◌⊎◌, ℕ, List, [], ◌∷◌, length, map, Bool, false, if◌then◌else◌}
+use Rattle.std.specs.Prelude.{codes, string_bytes, Option, Some, None, is_some, is_none}
+use Rattle.std.specs.Prelude.{option_and_then, Result, Ok, Err}
+use Rattle.attr_text.specs.Words.{lookup}
 use Rattle.attr_text.specs.declared.fault.AttrFault.{AttrFault}
-use Rattle.part_events.specs.Event.{Tag, Event}
-use Rattle.part_events.specs.Nesting.{whole}
-use Rattle.part_events.specs.Package.{Part, part_of}
-use Rattle.part_events.specs.Reading.{BreaksAt}
-use Rattle.part_events.specs.Section.{Element, outermost, children, content, behind_start, is_named}
-use Rattle.part_events.specs.Section.{unclosed}
+use Rattle.part_events.specs.Words.{Tag, Event, whole, Part, part_of, BreaksAt, Element, outermost}
+use Rattle.part_events.specs.Words.{children, content, behind_start, is_named, unclosed}
 use Rattle.part_events.specs.declared.fault.XmlFault.TheVariants.{Break}
-use Rattle.cell_data.specs.CellValue.{CellValue, value_of_data}
+use Rattle.cell_data.specs.Words.{CellValue, value_of_data}
 use Rattle.xlsx_error.specs.declared.error.XlsxError.{XlsxError}
 use Rattle.xlsx_error.specs.declared.error.XlsxError.TheVariants.{Xml, XmlEof}
-use Rattle.xlsx_sections.specs.Answers.{some_answers, with_two}
-use Rattle.xlsx_sections.specs.ElementLists.{element_said}
-use Rattle.xlsx_sections.specs.PartSection.{LacksPart}
-use Rattle.xlsx_sections.specs.Refusal.{Refusal, RefusedAs, plain, lookup_fault, decoded_at}
-use Rattle.xlsx_parts.specs.PartSaid.{whole_said}
-use Rattle.xlsx_parts.specs.WholePart.{IfThere, IsMeaningRefused}
+use Rattle.xlsx_sections.specs.Words.{some_answers, with_two, element_said, LacksPart, Refusal}
+use Rattle.xlsx_sections.specs.Words.{RefusedAs, plain, lookup_fault, decoded_at}
+use Rattle.xlsx_parts.specs.Words.{whole_said, IfThere, IsMeaningRefused}
 use Rattle.xlsx_pivot_cache.specs.CacheItems.{item_kind, item_of_start}
 use Rattle.xlsx_pivot_cache.specs.declared.field.CacheField.{CacheField}
 use Rattle.xlsx_pivot_cache.specs.declared.item.ItemKind.{ItemKind}
@@ -43,7 +36,7 @@ abbrev pub item_if : Option ItemKind → Tag → Result (Option CellValue) Refus
 item_if None tag = Ok None
 item_if (Some kind) tag = some_item (item_of_start kind tag)
 
--- an element that is no item says nothing
+-- the item that a start says; an element that is no item says nothing
 abbrev pub item_said : Tag → Result (Option CellValue) Refusal
 item_said tag = item_if (item_kind tag) tag
 
@@ -51,11 +44,11 @@ item_said tag = item_if (item_kind tag) tag
 abbrev pub item_among : Element → Result (Option CellValue) Refusal
 item_among element = item_said element.tag
 
--- a start begins the shared items of a field
+-- a start of the element `sharedItems`, the shared items of a field
 abbrev pub is_shared : Tag → Bool
 is_shared tag = is_named (codes "sharedItems" ∷ []) tag
 
--- a start begins the items of a group
+-- a start of the element `groupItems`, the items of a group
 abbrev pub is_group : Tag → Bool
 is_group tag = is_named (codes "groupItems" ∷ []) tag
 
@@ -78,7 +71,7 @@ abbrev pub unless_grouped :
 unless_grouped name groups (Ok items) = Ok (if groups then None else Some (field_with name items))
 unless_grouped name groups (Err refusal) = Err refusal
 
--- the name is decoded, whatever else the element says
+-- a field, once its name is decoded, which it is whatever else the element says
 abbrev pub field_named :
     Option (List ℕ) → List Event → Result (List ℕ) Refusal → Result (Option FieldSaid) Refusal
 field_named formula inside (Err refusal) = Err refusal
@@ -107,7 +100,7 @@ field_keys = codes "name" ∷ codes "formula" ∷ []
 abbrev pub field_said : Tag → List Event → Result (Option FieldSaid) Refusal
 field_said tag inside = field_by inside (lookup field_keys tag.attributes)
 
--- a start is a field of a cache
+-- a start of the element `cacheField`, a field of a cache
 abbrev pub is_field : Tag → Bool
 is_field tag = is_named (codes "cacheField" ∷ []) tag
 
@@ -120,11 +113,11 @@ abbrev pub fields_said : List Event → Option (List FieldSaid)
 fields_said events =
     if is_none (unclosed is_field (whole events)) then whole_said fields_in events else None
 
--- a field that was read
+-- a field that was read, apart from where its texts lie in memory
 abbrev pub field_kept : CacheField → FieldSaid
 field_kept field = field_with (string_bytes field.name) (map value_of_data field.items.items)
 
--- the fields that are kept
+-- the fields of a cache as they are kept, apart from where their texts lie in memory
 abbrev pub fields_kept : List CacheField → List FieldSaid
 fields_kept fields = map field_kept fields
 
@@ -142,7 +135,7 @@ FieldsCause events error =
 abbrev pub fields_at : List Part → List ℕ → Option (List FieldSaid)
 fields_at parts path = option_and_then fields_said (part_of parts path)
 
--- why they can't be taken: the part is absent or refused
+-- why the fields of a cache can't be taken: the part at a path is absent or refused
 abbrev pub FieldsAtCause : List Part → List ℕ → XlsxError → Type 0
 FieldsAtCause parts path error =
     LacksPart parts path error ⊎ IfThere FieldsCause (part_of parts path) error

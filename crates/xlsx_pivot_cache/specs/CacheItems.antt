@@ -2,16 +2,14 @@
 use Rattle.std.specs.Prelude.{ℕ, ◌+◌, ◌^◌, ◌==◌, ℤ, pos, neg_ℤ, List, [], ◌∷◌, true, false}
 use Rattle.std.specs.Prelude.{if◌then◌else◌, codes, Option, Some, None, option_map, Result, Ok, Err}
 use Rattle.std.specs.List.{list_any}
-use Rattle.attr_text.specs.Attributes.{value_of, local_name_of}
+use Rattle.attr_text.specs.Words.{value_of, local_name_of}
 use Rattle.attr_text.specs.declared.fault.AttrFault.{AttrFault}
-use Rattle.part_events.specs.Event.{Tag}
+use Rattle.part_events.specs.Words.{Tag}
 use Rattle.cell_data.specs.CellValue as value
-use Rattle.cell_data.specs.CellValue.{CellValue}
+use Rattle.cell_data.specs.Words.{CellValue}
 use Rattle.cell_data.specs.declared.value.CellErrorType.TheVariants.{Ref, GettingData}
-use Rattle.decimals.specs.Decimals.{decimal_of}
-use Rattle.xlsx_sections.specs.Names.{named}
-use Rattle.xlsx_sections.specs.NumberText.{number_below}
-use Rattle.xlsx_sections.specs.Refusal.{Refusal, plain, lookup_fault}
+use Rattle.decimals.specs.Words.{decimal_of}
+use Rattle.xlsx_sections.specs.Words.{named, number_below, Refusal, plain, lookup_fault}
 use Rattle.xlsx_pivot_cache.specs.declared.item.ItemKind.{ItemKind}
 use Rattle.xlsx_pivot_cache.specs.declared.item.ItemKind.TheVariants as kind
 
@@ -60,7 +58,7 @@ item_number text =
     if list_any (λ byte. byte == 46) text then decimal_value (decimal_of text)
     else whole_value (whole_number text)
 
--- the truth value of a text, or a value that is not read
+-- the boolean of a text, or a value that is not read
 abbrev pub item_truth : List ℕ → CellValue
 item_truth text =
     named (
@@ -81,16 +79,16 @@ value_as kind.Failure text = value.failure Ref
 value_as kind.Truth text = item_truth text
 value_as kind.Date text = value.iso_time text
 
--- without a text an item is empty
+-- the value of an item of a kind by its text, empty without one
 abbrev pub item_with : ItemKind → Option (List ℕ) → CellValue
 item_with kind None = value.nothing
 item_with kind (Some text) = value_as kind text
 
 -- the item of a kind, by what was looked up at its start
-abbrev pub item_by : ItemKind → Result (Option (List ℕ)) AttrFault → Result CellValue Refusal
-item_by kind (Ok text) = Ok (item_with kind text)
-item_by kind (Err fault) = Err (plain (lookup_fault fault))
+abbrev pub cache_item_by : ItemKind → Result (Option (List ℕ)) AttrFault → Result CellValue Refusal
+cache_item_by kind (Ok text) = Ok (item_with kind text)
+cache_item_by kind (Err fault) = Err (plain (lookup_fault fault))
 
 -- the item of a start, by its text as it is written
 abbrev pub item_of_start : ItemKind → Tag → Result CellValue Refusal
-item_of_start kind tag = item_by kind (value_of (codes "v") tag.attributes)
+item_of_start kind tag = cache_item_by kind (value_of (codes "v") tag.attributes)

@@ -2,7 +2,7 @@
 use Rattle.std.specs.Prelude.{◌≡◌, ⊤, ℕ, suc, List, true}
 use Rattle.std.specs.Borrow.{GName}
 use Rattle.std.specs.Iterator.{Count, at_most}
-use Rattle.part_events.specs.Package.{PackageState}
+use Rattle.part_events.specs.Words.{PackageState}
 use Rattle.xlsx_error.specs.declared.error.XlsxError.{XlsxError}
 use Rattle.xlsx_error.specs.declared.error.XlsxError.TheVariants.{OutOfMemory, Io}
 use Rattle.xlsx_pivot_cache.specs.CacheRecords.{OpenRowsCause}
@@ -37,4 +37,4 @@ abbrev pub OpenCacheFails : List ℕ → List ℕ → PackageState → XlsxError
 OpenCacheFails definitions records old Io = ⊤
 OpenCacheFails definitions records old OutOfMemory = ⊤
 OpenCacheFails definitions records old error =
-    old.is_told ≡ true → OpenRowsCause old.parts definitions records error
+    old.is_visible ≡ true → OpenRowsCause old.parts definitions records error

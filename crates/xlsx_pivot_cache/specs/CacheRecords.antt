@@ -1,29 +1,23 @@
 -- The records of a pivot table's cache (ECMA-376 part 1, sections 18.10.1.69 and 18.10.1.96).
-use Rattle.std.specs.Prelude.{◌⊎◌, ⊤, ℕ, suc, List, [], ◌∷◌, map, Bool, codes}
-use Rattle.std.specs.Prelude.{if◌then◌else◌, slice_get, Option, Some, None, MatchOption}
-use Rattle.std.specs.Prelude.{option_map, option_and_then, Result, Ok, Err}
-use Rattle.attr_text.specs.Attributes.{value_of}
+use Rattle.std.specs.Prelude.{◌⊎◌, ⊤, ℕ, suc, List, [], ◌∷◌, map, Bool, codes, if◌then◌else◌}
+use Rattle.std.specs.Prelude.{slice_get, Option, Some, None, MatchOption, option_map}
+use Rattle.std.specs.Prelude.{option_and_then, Result, Ok, Err}
+use Rattle.attr_text.specs.Words.{value_of}
 use Rattle.attr_text.specs.declared.fault.AttrFault.{AttrFault}
-use Rattle.part_events.specs.Event.{Tag, Event}
-use Rattle.part_events.specs.Package.{Part, part_of}
-use Rattle.part_events.specs.Section.{Element, children, is_named}
+use Rattle.part_events.specs.Words.{Tag, Event, Part, part_of, Element, children, is_named}
 use Rattle.cell_data.specs.CellValue as value
-use Rattle.cell_data.specs.CellValue.{CellValue, value_of_data}
+use Rattle.cell_data.specs.Words.{CellValue, value_of_data}
 use Rattle.cell_data.specs.declared.value.Data.{Data}
 use Rattle.xlsx_error.specs.declared.error.XlsxError.{XlsxError}
-use Rattle.xlsx_sections.specs.Answers.{with_first}
-use Rattle.xlsx_sections.specs.ElementLists.{list_said}
-use Rattle.xlsx_sections.specs.Elements.{IsInsideRefused}
-use Rattle.xlsx_sections.specs.NumberText.{number_text}
-use Rattle.xlsx_sections.specs.PartSection.{FirstSectionCause, LacksPart, always}
-use Rattle.xlsx_sections.specs.Refusal.{Refusal, PlainRefusal, plain, lookup_fault}
-use Rattle.xlsx_sections.specs.Refusal.{wrong_item_number, lacks_field, lacks_item}
-use Rattle.xlsx_parts.specs.PartSaid.{part_said}
-use Rattle.xlsx_parts.specs.WholePart.{IfThere}
+use Rattle.xlsx_sections.specs.Words.{with_first, list_said, IsInsideRefused, number_text}
+use Rattle.xlsx_sections.specs.Words.{FirstSectionCause, LacksPart, always, Refusal, PlainRefusal}
+use Rattle.xlsx_sections.specs.Words.{plain, lookup_fault, wrong_item_number, lacks_field}
+use Rattle.xlsx_sections.specs.Words.{lacks_item}
+use Rattle.xlsx_parts.specs.Words.{part_said, IfThere}
 use Rattle.xlsx_pivot_cache.specs.CacheFields.{FieldSaid, item_said, some_item, fields_at}
 use Rattle.xlsx_pivot_cache.specs.CacheFields.{FieldsAtCause}
 
--- a start refers to a shared item
+-- a start of the element `x`, which refers to a shared item
 abbrev pub is_reference : Tag → Bool
 is_reference tag = is_named (codes "x" ∷ []) tag
 
@@ -38,7 +32,7 @@ item_at field None = Err (plain wrong_item_number)
 item_at None (Some number) = Err (plain lacks_field)
 item_at (Some field) (Some number) = item_or_lacks (slice_get field.items number)
 
--- without a number there is no item
+-- the item to which an `x` refers by what was looked up; without a number there is none
 abbrev pub referred_by :
     Option FieldSaid → Result (Option (List ℕ)) AttrFault → Result CellValue Refusal
 referred_by field (Ok None) = Ok value.nothing
@@ -55,7 +49,7 @@ abbrev pub value_said : Option FieldSaid → Tag → Result (Option CellValue) R
 value_said field tag =
     if is_reference tag then some_item (referred_item field tag) else item_said tag
 
--- what says nothing takes no place
+-- the values of a record, one in front of the others; what says nothing takes no place
 abbrev pub record_with :
     Result (Option CellValue) Refusal → Result (List CellValue) Refusal →
     Result (List CellValue) Refusal → Result (List CellValue) Refusal
@@ -74,11 +68,11 @@ values_from fields place (element ∷ elements) =
 abbrev pub row_in : List FieldSaid → List Event → Result (List CellValue) Refusal
 row_in fields inside = values_from fields 0 (children inside)
 
--- the row that a record says
+-- the row that a record says, by what stands in its element
 abbrev pub row_said : List FieldSaid → Tag → List Event → Result (List CellValue) Refusal
 row_said fields tag inside = row_in fields inside
 
--- a start is a record
+-- a start of the element `r`, a record
 abbrev pub is_record : Tag → Bool
 is_record tag = is_named (codes "r" ∷ []) tag
 
@@ -128,7 +122,7 @@ CacheCause parts definitions records error =
     ⊎ MatchOption (fields_at parts definitions) ⊥
     (λ fields. IfThere (RowsCause fields) (part_of parts records) error)
 
--- a row that was read
+-- a row that was read, by the values of its cells
 abbrev pub row_kept : List Data → List CellValue
 row_kept row = map value_of_data row
 

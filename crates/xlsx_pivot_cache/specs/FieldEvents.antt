@@ -1,23 +1,21 @@
 -- How the items of a field are taken event by event.
 use Rattle.std.specs.Prelude.{ℕ, suc, ◌-◌, ◌<◌, ◌≤◌, List, [], Result, Ok}
-use Rattle.part_events.specs.Event.{Event, start, end, leaf}
-use Rattle.part_events.specs.Section.{content, outermost_from, is_any}
-use Rattle.cell_data.specs.CellValue.{CellValue}
-use Rattle.xlsx_sections.specs.Answers.{some_answers}
-use Rattle.xlsx_sections.specs.Refusal.{Refusal}
+use Rattle.part_events.specs.Words.{Event, start, end, leaf, content, outermost_from, is_any}
+use Rattle.cell_data.specs.Words.{CellValue}
+use Rattle.xlsx_sections.specs.Words.{some_answers, Refusal}
 use Rattle.xlsx_pivot_cache.specs.CacheFields.{item_among, items_in}
 use Rattle.xlsx_pivot_cache.specs.declared.contents.ItemsPlace.{ItemsPlace}
 use Rattle.xlsx_pivot_cache.specs.declared.contents.ItemsPlace.TheVariants.{Before, Within, Behind}
 
 -- the items that are left where so many elements are open in `sharedItems`
-abbrev pub items_behind : ℕ → List Event → Result (List CellValue) Refusal
-items_behind within events =
+abbrev pub cache_items_behind : ℕ → List Event → Result (List CellValue) Refusal
+cache_items_behind within events =
     some_answers item_among (outermost_from is_any within (content within events))
 
 -- the items that these events give from a place on, where so many elements are open
 abbrev pub items_from_place : ItemsPlace → ℕ → List Event → Result (List CellValue) Refusal
 items_from_place Before depth events = items_in events
-items_from_place (Within base) depth events = items_behind (depth - base) events
+items_from_place (Within base) depth events = cache_items_behind (depth - base) events
 items_from_place Behind depth events = Ok []
 
 -- an element that the place stands in is open

@@ -6,3 +6,4 @@ pub mod CacheRecords
 pub mod FieldEvents
 pub mod PivotRows
 pub mod ReferenceFaults
+pub mod Words

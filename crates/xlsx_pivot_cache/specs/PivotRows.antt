@@ -4,27 +4,23 @@ use Rattle.std.specs.Prelude.{None, option_map, option_to_list, if◌then◌else
 use Rattle.std.specs.Prelude.{MatchResult, IfOk, IfErr, OnOk, OnErr, IfSome, IfNone}
 use Rattle.std.specs.declared.alloc.Global.{Global}
 use Rattle.std.specs.declared.vec.Vec.{Vec}
-use Rattle.part_events.specs.Package.{PackageState, SameParts, CountsUp, part_of, event_count}
-use Rattle.part_events.specs.Reading.{Reading, IsReading, MovesForward, SamePart}
-use Rattle.part_events.specs.Reading.{LeavesPart, events_of}
-use Rattle.part_events.specs.Section.{Element, outermost, unclosed}
-use Rattle.part_events.specs.Walk.{section_ahead, is_closed_ahead}
-use Rattle.cell_data.specs.CellValue.{CellValue}
+use Rattle.part_events.specs.Words.{PackageState, SameParts, CountsUp, part_of, event_count}
+use Rattle.part_events.specs.Words.{Reading, IsReading, MovesForward, SamePart, LeavesPart}
+use Rattle.part_events.specs.Words.{events_of, Element, outermost, unclosed, section_ahead}
+use Rattle.part_events.specs.Words.{is_closed_ahead}
+use Rattle.cell_data.specs.Words.{CellValue}
 use Rattle.cell_data.specs.declared.value.Data.{Data}
 use Rattle.xlsx_error.specs.declared.error.XlsxError.{XlsxError}
 use Rattle.xlsx_error.specs.declared.error.XlsxError.TheVariants.{Io}
-use Rattle.xlsx_sections.specs.ElementLists.{element_said}
-use Rattle.xlsx_sections.specs.Elements.{KeepsElements, ReachesEnd, IfCutOff}
-use Rattle.xlsx_sections.specs.Failing.{FailsBy}
-use Rattle.xlsx_sections.specs.PartSection.{PartSection, SectionCause, StartCause, always}
-use Rattle.xlsx_sections.specs.PartSection.{section_in, section_left, inside_of, has_end, last_of}
-use Rattle.xlsx_sections.specs.Refusal.{Refusal}
-use Rattle.xlsx_parts.specs.PartSaid.{ok_or_none, section_said}
+use Rattle.xlsx_sections.specs.Words.{element_said, KeepsElements, ReachesEnd, IfCutOff, FailsBy}
+use Rattle.xlsx_sections.specs.Words.{PartSection, SectionCause, StartCause, always, section_in}
+use Rattle.xlsx_sections.specs.Words.{section_left, inside_of, has_end, last_of, Refusal}
+use Rattle.xlsx_parts.specs.Words.{ok_or_none, section_said}
 use Rattle.xlsx_pivot_cache.specs.CacheErrors.{IsRowError}
 use Rattle.xlsx_pivot_cache.specs.CacheFields.{FieldSaid, fields_kept, fields_at}
-use Rattle.xlsx_pivot_cache.specs.CacheRecords.{row_in, row_said, rows_in, is_record}
-use Rattle.xlsx_pivot_cache.specs.CacheRecords.{records_name, names_row, names_first, cache_rows}
-use Rattle.xlsx_pivot_cache.specs.CacheRecords.{row_kept, RowsCause}
+use Rattle.xlsx_pivot_cache.specs.CacheRecords.{row_in, row_said, rows_in, is_record, records_name}
+use Rattle.xlsx_pivot_cache.specs.CacheRecords.{names_row, names_first, cache_rows, row_kept}
+use Rattle.xlsx_pivot_cache.specs.CacheRecords.{RowsCause}
 use Rattle.xlsx_pivot_cache.specs.declared.pivot_cursor.PivotCursor.{PivotCursor}
 use Rattle.xlsx_pivot_cache.specs.declared.pivot_cursor.RecordsPlace.{RecordsPlace}
 use Rattle.xlsx_pivot_cache.specs.declared.pivot_cursor.RecordsPlace.TheVariants.{Before, Within}
@@ -57,8 +53,8 @@ left_from Before fields r =
 left_from (Within base) fields r = records_left fields base r
 left_from Done fields r = Some []
 
--- The rows that are left. Behind the end of the records and behind a refusal there are none; they
--- can't be said where one of them is refused.
+-- The rows that an iterator over a cache has left. Behind the end of the records and behind a
+-- refusal there are none; they can't be said where one of them is refused.
 abbrev pub cache_rows_left : PivotRows → Option (List (List CellValue))
 cache_rows_left rows = left_from rows.place rows.fields rows.reading
 
@@ -77,7 +73,7 @@ pub record IsLeftOf (fields : List FieldSaid) (base : ℕ) (r : Reading) (s : Pa
 pub record IsInRecords (fields : List FieldSaid) (base : ℕ) (r : Reading) : Type 0 where
   pub reading : IsReading r
   pub within : base ≤ length r.names
-  pub left : r.source.is_told ≡ true → (s : PartSection) × IsLeftOf fields base r s
+  pub left : r.source.is_visible ≡ true → (s : PartSection) × IsLeftOf fields base r s
 
 -- a reading stands where the place in the records says
 abbrev pub RowsStand : RecordsPlace → List FieldSaid → Reading → Type 0
@@ -85,20 +81,20 @@ RowsStand Before fields r = IsReading r × (r.at ≡ 0)
 RowsStand (Within base) fields r = IsInRecords fields base r
 RowsStand Done fields r = Unit {0}
 
--- it may be asked for the next row
+-- an iterator over the rows of a cache may be asked for the next one
 abbrev pub IsAtRecords : PivotRows → Type 0
 IsAtRecords rows = RowsStand rows.place rows.fields rows.reading
 
--- it is in the records, at a depth of which this holds
+-- reading stands in the records, whose element is at a depth of which this holds
 abbrev pub HoldsWithin : (ℕ → Type 0) → RecordsPlace → Type 0
 HoldsWithin holds (Within base) = holds base
 HoldsWithin holds _ = ⊥
 
--- it is behind the end of the records, or behind a refusal
+-- an iterator over the rows of a cache is behind the end of the records, or behind a refusal
 abbrev pub IsDone : PivotRows → Type 0
 IsDone rows = rows.place ≡ Done
 
--- the same part was read on, or nothing was read
+-- a reading goes on in its part without a fault of the package, or nothing was read
 pub record KeepsPart (old new : Reading) : Type 0 where
   pub moves : MovesForward old new
   pub faults : new.source.faults ≡ old.source.faults
@@ -110,14 +106,14 @@ ReadsRow None old new = KeepsPart old new
 ReadsRow (Some result) old new =
     MatchResult result (λ _. KeepsPart old new) (LeavesPart Io old new)
 
--- the next row was taken of those that were left
+-- the next row of a cache was taken of those that were left
 abbrev pub TakesRow : List CellValue → PivotRows → PivotRows → Type 0
 TakesRow row old new =
-    old.reading.source.is_told ≡ true →
+    old.reading.source.is_visible ≡ true →
     cache_rows_left old
     ≡ option_map (λ (rows : List (List CellValue)). row ∷ rows) (cache_rows_left new)
 
--- the package gives fewer events then
+-- the package gives fewer events than before
 abbrev pub IsFewer : Reading → Reading → Type 0
 IsFewer old new = new.source.left < old.source.left
 
@@ -125,7 +121,7 @@ IsFewer old new = new.source.left < old.source.left
 abbrev pub records_ahead : ℕ → Reading → List Element
 records_ahead base r = outermost is_record (section_ahead base r)
 
--- the one in which what is left ends
+-- the record in which what is left of the section ends, if no end closes it
 abbrev pub open_record : ℕ → Reading → Option Element
 open_record base r = unclosed is_record (section_ahead base r)
 
@@ -141,9 +137,9 @@ pub record IsFirstTaken
 pub record TakesRecord
     (fields : List FieldSaid) (base : ℕ) (row : List CellValue) (old new : Reading) : Type 0 where
   pub keeps : KeepsElements is_record base old new
-  pub first : old.source.is_told ≡ true → IsFirstTaken fields base row old new
+  pub first : old.source.is_visible ≡ true → IsFirstTaken fields base row old new
 
--- none is left, and the end of the records was taken
+-- no record is left, and the end of the records was taken
 pub record EndsRecords (base : ℕ) (old new : Reading) : Type 0 where
   pub none : records_ahead base old ≡ []
   pub reaches : ReachesEnd base old new
@@ -152,7 +148,7 @@ pub record EndsRecords (base : ℕ) (old new : Reading) : Type 0 where
 pub record EntersRecords (base : ℕ) (old new : Reading) : Type 0 where
   pub depth : base ≡ length new.names
   pub there :
-      old.source.is_told ≡ true →
+      old.source.is_visible ≡ true →
       section_in records_name (events_of old) ≡ Some (section_left base new)
 
 -- where a row leaves the reader: the names behind the start of the records, and each other row
@@ -163,7 +159,7 @@ TakesRowAt Before row old new =
     × HoldsWithin (λ base. EntersRecords base old.reading new.reading) new.place
 TakesRowAt (Within base) row old new =
     (new.place ≡ Within base)
-    × (old.reading.source.is_told ≡ true →
+    × (old.reading.source.is_visible ≡ true →
     IsFirstTaken old.fields base row old.reading new.reading)
 TakesRowAt Done row old new = ⊥
 
@@ -172,15 +168,15 @@ abbrev pub GivesRowOf : List CellValue → PivotRows → PivotRows → Type 0
 GivesRowOf row old new = TakesRowAt old.place row old new
 
 -- no row was given: the end of the records was taken, or nothing is read any more
-abbrev pub EndsAt : RecordsPlace → PivotRows → PivotRows → Type 0
-EndsAt Before old new = ⊥
-EndsAt (Within base) old new =
-    old.reading.source.is_told ≡ true → EndsRecords base old.reading new.reading
-EndsAt Done old new = Unit {0}
+abbrev pub RowsEnd : RecordsPlace → PivotRows → PivotRows → Type 0
+RowsEnd Before old new = ⊥
+RowsEnd (Within base) old new =
+    old.reading.source.is_visible ≡ true → EndsRecords base old.reading new.reading
+RowsEnd Done old new = Unit {0}
 
 -- a call gives no row, and the rows are at their end
 abbrev pub GivesNone : PivotRows → PivotRows → Type 0
-GivesNone old new = EndsAt old.place old new
+GivesNone old new = RowsEnd old.place old new
 
 -- the first record of a section is refused
 pub record IsNextRefused (fields : List FieldSaid) (s : PartSection) (refusal : Refusal) : Type 0
@@ -208,7 +204,7 @@ RowCauseAt Before fields r error =
 RowCauseAt (Within base) fields r error = NextRecordCause fields base r error
 RowCauseAt Done fields r error = ⊥
 
--- when it isn't
+-- when the next row of a cache isn't read
 abbrev pub NextRowFails : PivotRows → PackageState → XlsxError → Type 0
 NextRowFails old new error =
     FailsBy (RowCauseAt old.place old.fields old.reading) old.reading.source new error
@@ -221,7 +217,7 @@ pub record GivesRow (answer : Option (Result (Vec Data Global) XlsxError)) (old 
   pub row : IfSome answer (λ next. IfOk next (λ row. TakesRow (row_kept row.items) old new))
   pub given : IfSome answer (λ next. IfOk next (λ row. GivesRowOf (row_kept row.items) old new))
   pub step : IfSome answer (λ next. OnOk next (IsFewer old.reading new.reading))
-  pub none : old.reading.source.is_told ≡ true → IfNone answer (cache_rows_left old ≡ Some [])
+  pub none : old.reading.source.is_visible ≡ true → IfNone answer (cache_rows_left old ≡ Some [])
   pub none_left : IfNone answer (GivesNone old new)
   pub ended : IfNone answer (IsDone new)
   pub done : IfSome answer (λ next. OnErr next (IsDone new))
@@ -234,10 +230,10 @@ pub record GivesRow (answer : Option (Result (Vec Data Global) XlsxError)) (old 
   pub kind : IfSome answer (λ next. IfErr next IsRowError)
 
 -- a row that may be refused, or none, where it is first told whether there is a refusal
-abbrev pub answer_of : {A : Type 0} → Result (Option A) XlsxError → Option (Result A XlsxError)
-answer_of (Ok None) = None
-answer_of (Ok (Some row)) = Some (Ok row)
-answer_of (Err error) = Some (Err error)
+abbrev pub row_answer : {A : Type 0} → Result (Option A) XlsxError → Option (Result A XlsxError)
+row_answer (Ok None) = None
+row_answer (Ok (Some row)) = Some (Ok row)
+row_answer (Err error) = Some (Err error)
 
 -- The fields of a cache are these, whose definitions are the part at the first path, and the part
 -- of its records, at the second one, is open.
@@ -245,8 +241,8 @@ pub record IsOfCache (definitions records : List ℕ) (old : PackageState) (now 
   where
     pub parts : SameParts old now.reading.source
     pub faults : now.reading.source.faults ≡ old.faults
-    pub fields : old.is_told ≡ true → fields_at old.parts definitions ≡ Some now.fields
-    pub part : old.is_told ≡ true → part_of old.parts records ≡ Some (events_of now.reading)
+    pub fields : old.is_visible ≡ true → fields_at old.parts definitions ≡ Some now.fields
+    pub part : old.is_visible ≡ true → part_of old.parts records ≡ Some (events_of now.reading)
 
 -- the fields of a cache were read, and the part of its records opened, of which nothing was taken
 pub record OpensRows (definitions records : List ℕ) (old : PackageState) (new : PivotRows) : Type 0
@@ -254,10 +250,11 @@ pub record OpensRows (definitions records : List ℕ) (old : PackageState) (new 
     pub at : IsAtRecords new
     pub cache : IsOfCache definitions records old new
     pub begins :
-        old.is_told ≡ true →
+        old.is_visible ≡ true →
         CountsUp (event_count old.parts definitions) old.taken new.reading.source.taken
     pub taken :
-        old.is_told ≡ true →
+        old.is_visible ≡ true →
         new.reading.source.taken + length new.reading.source.rest
         ≤ old.taken + event_count old.parts definitions + event_count old.parts records
-    pub rows : old.is_told ≡ true → cache_rows_left new ≡ cache_rows old.parts definitions records
+    pub rows : old.is_visible ≡ true → cache_rows_left new
+        ≡ cache_rows old.parts definitions records

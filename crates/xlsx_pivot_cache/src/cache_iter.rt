@@ -40,7 +40,7 @@ impl<P: Package, C: Drop> Drop for PivotCacheIter<'_, P, C> {
 
 impl<'a, P: Package> PivotCacheIter<'a, P> {
     ghost use Rattle.std.specs.Prelude.{IfOk, IfErr};
-    ghost use Rattle.part_events.specs.Lending.{LentFails};
+    ghost use Rattle.part_events.specs.Words.{LentFails};
     ghost use Rattle.xlsx_error.specs.declared.error.XlsxError.TheVariants.{Io};
     ghost use Rattle.xlsx_pivot_cache.specs.CacheErrors.{IsCacheFieldsError};
     ghost use Rattle.xlsx_pivot_cache.specs.CacheIter.{rows_by, rows_reference, OpenCacheFails};

@@ -1,14 +1,11 @@
-ghost use Rattle.std.specs.Prelude.{◌≡◌, ◌||◌, ◌≤◌, ◌<◌, ◌-◌, ℕ, suc, List, [], ◌∷◌, length};
-ghost use Rattle.std.specs.Prelude.{map, true, false, Ok, Result, codes, IfOk, OnOk, IfErr};
-ghost use Rattle.part_events.specs.Event.{Event, start, end, tag_of, event_of};
-ghost use Rattle.part_events.specs.Reading.{IsReading, ReadsPart};
-ghost use Rattle.part_events.specs.Walk.{section_ahead};
-ghost use Rattle.cell_data.specs.CellValue.{CellValue, value_of_data};
+ghost use Rattle.std.specs.Prelude.{◌≡◌, ◌||◌, ◌≤◌, ◌<◌, ◌-◌, ℕ, suc, List, [], ◌∷◌, length, map};
+ghost use Rattle.std.specs.Prelude.{true, false, Ok, Result, codes, IfOk, OnOk, IfErr};
+ghost use Rattle.part_events.specs.Words.{Event, start, end, tag_of, event_of, IsReading};
+ghost use Rattle.part_events.specs.Words.{ReadsPart, section_ahead};
+ghost use Rattle.cell_data.specs.Words.{CellValue, value_of_data};
 ghost use Rattle.xlsx_error.specs.declared.error.XlsxError.TheVariants.{Io};
-ghost use Rattle.xlsx_sections.specs.Answers.{prepended, and_others_if};
-ghost use Rattle.xlsx_sections.specs.Elements.{IsInsideRefused, ReachesEnd};
-ghost use Rattle.xlsx_sections.specs.PartSection.{always, SectionFails};
-ghost use Rattle.xlsx_sections.specs.Refusal.{Refusal, ElementFails};
+ghost use Rattle.xlsx_sections.specs.Words.{prepended, and_others_if, IsInsideRefused, ReachesEnd};
+ghost use Rattle.xlsx_sections.specs.Words.{always, SectionFails, Refusal, ElementFails};
 ghost use Rattle.xlsx_pivot_cache.specs.CacheErrors.{IsItemError, IsFieldsError};
 ghost use Rattle.xlsx_pivot_cache.specs.CacheFields.{item_said, is_shared, is_group, items_in};
 ghost use Rattle.xlsx_pivot_cache.specs.CacheFields.{groups_items};
@@ -186,11 +183,11 @@ pub(crate) fn contents_in<P: Package>(
     requires within { base ≤ length xml.old.names }
     ensures reads { ReadsPart Io result xml.old xml.new }
     ensures depth { OnOk result (suc (length xml.new.names) ≡ base) }
-    ensures reaches { xml.old.source.is_told ≡ true →
+    ensures reaches { xml.old.source.is_visible ≡ true →
         OnOk result (ReachesEnd base xml.old xml.new) }
-    ensures items { xml.old.source.is_told ≡ true → IfOk result (λ contents.
+    ensures items { xml.old.source.is_visible ≡ true → IfOk result (λ contents.
         items_in (section_ahead base xml.old) ≡ Ok (map value_of_data contents.items.items)) }
-    ensures groups { xml.old.source.is_told ≡ true →
+    ensures groups { xml.old.source.is_visible ≡ true →
         IfOk result (λ contents. groups_items (section_ahead base xml.old) ≡ contents.groups) }
     ensures err { IfErr result
         (SectionFails (always (codes "cacheField")) (IsInsideRefused items_in) base

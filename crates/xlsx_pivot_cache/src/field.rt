@@ -1,13 +1,9 @@
 ghost use Rattle.std.specs.Prelude.{◌≡◌, suc, List, length, true, Ok, option_map, string_bytes};
 ghost use Rattle.std.specs.Prelude.{codes, IfOk, IfErr, MatchOption};
-ghost use Rattle.part_events.specs.Event.{Event, Tag, start, tag_of};
-ghost use Rattle.part_events.specs.Reading.{ahead, IsReadingElement, ReadsElement};
-ghost use Rattle.part_events.specs.Section.{content};
+ghost use Rattle.part_events.specs.Words.{Event, Tag, start, tag_of, ahead, IsReadingElement};
+ghost use Rattle.part_events.specs.Words.{ReadsElement, content};
 ghost use Rattle.xlsx_error.specs.declared.error.XlsxError.TheVariants.{Io};
-ghost use Rattle.xlsx_sections.specs.Elements.{ElementReadFails};
-ghost use Rattle.xlsx_sections.specs.Names.{IsNameError};
-ghost use Rattle.xlsx_sections.specs.PartSection.{always};
-ghost use Rattle.xlsx_sections.specs.Refusal.{ElementFails};
+ghost use Rattle.xlsx_sections.specs.Words.{ElementReadFails, IsNameError, always, ElementFails};
 ghost use Rattle.xlsx_pivot_cache.specs.CacheErrors.{IsFieldsError};
 ghost use Rattle.xlsx_pivot_cache.specs.CacheFields.{field_said, unless_grouped, groups_items};
 ghost use Rattle.xlsx_pivot_cache.specs.CacheFields.{items_in, field_kept};
@@ -62,7 +58,7 @@ pub(crate) fn read_field<P: Package>(
     requires element { IsReadingElement xml.old }
     requires place { suc at ≡ xml.old.at }
     ensures reads { ReadsElement Io result xml.old xml.new }
-    ensures field { xml.old.source.is_told ≡ true → IfOk result (λ field. (tag : Tag) →
+    ensures field { xml.old.source.is_visible ≡ true → IfOk result (λ field. (tag : Tag) →
         start tag ≡ xml.old.source.current →
         field_said tag (content 0 (ahead xml.old)) ≡ Ok (option_map field_kept field)) }
     ensures err { IfErr result (λ error. (tag : Tag) → start tag ≡ xml.old.source.current →

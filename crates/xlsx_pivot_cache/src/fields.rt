@@ -1,9 +1,9 @@
 ghost use Rattle.std.specs.Prelude.{◌≡◌, ◌++◌, map, length, true, Some, option_map, option_to_list};
 ghost use Rattle.std.specs.Prelude.{IfOk, OnOk, IfErr};
-ghost use Rattle.part_events.specs.Package.{Uses, CountsUp, event_count};
-ghost use Rattle.part_events.specs.Reading.{events_of, IsReading, ReadsPart};
+ghost use Rattle.part_events.specs.Words.{Uses, CountsUp, event_count, events_of, IsReading};
+ghost use Rattle.part_events.specs.Words.{ReadsPart};
 ghost use Rattle.xlsx_error.specs.declared.error.XlsxError.TheVariants.{Io};
-ghost use Rattle.xlsx_sections.specs.Failing.{FailsBy};
+ghost use Rattle.xlsx_sections.specs.Words.{FailsBy};
 ghost use Rattle.xlsx_pivot_cache.specs.CacheErrors.{IsFieldsError, IsCacheFieldsError};
 ghost use Rattle.xlsx_pivot_cache.specs.CacheFields.{field_kept, fields_kept, fields_said};
 ghost use Rattle.xlsx_pivot_cache.specs.CacheFields.{FieldsCause, fields_at, FieldsAtCause};
@@ -31,9 +31,9 @@ fn fields_in<P: Package>(xml: &mut XlReader<P>) -> Result<Vec<CacheField>, XlsxE
     requires reading { IsReading xml.old }
     requires first { xml.old.at ≡ 0 }
     ensures reads { ReadsPart Io result xml.old xml.new }
-    ensures ends { xml.old.source.is_told ≡ true →
+    ensures ends { xml.old.source.is_visible ≡ true →
         OnOk result (xml.new.at ≡ length (events_of xml.old)) }
-    ensures fields { xml.old.source.is_told ≡ true → IfOk result (λ fields.
+    ensures fields { xml.old.source.is_visible ≡ true → IfOk result (λ fields.
         fields_said (events_of xml.old) ≡ Some (fields_kept fields.items)) }
     ensures err { IfErr result
         (FailsBy (FieldsCause (events_of xml.old)) xml.old.source xml.new.source) }
@@ -66,9 +66,9 @@ pub fn read_fields<P: Package>(
     ensures uses { Uses (event_count xml.old.source.parts path.now) Io result
         xml.old.source xml.new.source }
     ensures to_end { let old = xml.old.source in
-        old.is_told ≡ true →
+        old.is_visible ≡ true →
         OnOk result (CountsUp (event_count old.parts path.now) old.taken xml.new.source.taken) }
-    ensures fields { xml.old.source.is_told ≡ true → IfOk result (λ fields.
+    ensures fields { xml.old.source.is_visible ≡ true → IfOk result (λ fields.
         fields_at xml.old.source.parts path.now ≡ Some (fields_kept fields.items)) }
     ensures err { IfErr result
         (FailsBy (FieldsAtCause xml.old.source.parts path.now) xml.old.source xml.new.source) }

@@ -1,10 +1,9 @@
 ghost use Rattle.std.specs.Prelude.{◌≡◌, ◌≢◌, ◌==◌, ◌^◌, ◌+◌, ℕ, List, ◌∷◌, Ok, pos, neg_ℤ};
 ghost use Rattle.std.specs.Prelude.{option_map, MatchOption, IfOk, IfErr};
 ghost use Rattle.std.specs.List.{list_any};
-ghost use Rattle.part_events.specs.Event.{tag_of};
-ghost use Rattle.cell_data.specs.CellValue.{value_of_data};
-ghost use Rattle.xlsx_sections.specs.NumberText.{number_below};
-ghost use Rattle.xlsx_sections.specs.Refusal.{ElementFails};
+ghost use Rattle.part_events.specs.Words.{tag_of};
+ghost use Rattle.cell_data.specs.Words.{value_of_data};
+ghost use Rattle.xlsx_sections.specs.Words.{number_below, ElementFails};
 ghost use Rattle.xlsx_pivot_cache.specs.CacheErrors.{IsItemError};
 ghost use Rattle.xlsx_pivot_cache.specs.CacheItems.{item_kind_named, item_kind, whole_number};
 ghost use Rattle.xlsx_pivot_cache.specs.CacheItems.{item_number, item_truth, value_as};
@@ -108,7 +107,7 @@ fn number_value(text: &str) -> Data
     }
 }
 
-/// The value of the text of a truth value.
+/// The value of the text of a boolean.
 fn truth_value(text: &str) -> Data
     ensures { value_of_data result ≡ item_truth text.now }
 {

@@ -1,8 +1,8 @@
 //! Laws of the caches of pivot tables.
 
 ghost use Rattle.std.specs.Prelude.{◌≡◌, ℕ, List, Some};
-ghost use Rattle.part_events.specs.Package.{Part};
-ghost use Rattle.cell_data.specs.CellValue.{CellValue};
+ghost use Rattle.part_events.specs.Words.{Part};
+ghost use Rattle.cell_data.specs.Words.{CellValue};
 ghost use Rattle.xlsx_error.specs.declared.error.XlsxError.{XlsxError};
 ghost use Rattle.xlsx_pivot_cache.specs.CacheRecords.{cache_rows, CacheCause};
 

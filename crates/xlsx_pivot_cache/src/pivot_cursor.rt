@@ -1,12 +1,11 @@
 ghost use Rattle.std.specs.Prelude.{◌≡◌, Some, IfOk, IfErr};
-ghost use Rattle.part_events.specs.Package.{LeavesPackage, event_count};
-ghost use Rattle.part_events.specs.Reading.{ReadsPart};
+ghost use Rattle.part_events.specs.Words.{LeavesPackage, event_count, ReadsPart};
 ghost use Rattle.xlsx_error.specs.declared.error.XlsxError.TheVariants.{Io};
-ghost use Rattle.xlsx_sections.specs.Failing.{FailsBy};
+ghost use Rattle.xlsx_sections.specs.Words.{FailsBy};
 ghost use Rattle.xlsx_pivot_cache.specs.CacheErrors.{IsCacheFieldsError};
 ghost use Rattle.xlsx_pivot_cache.specs.CacheRecords.{OpenRowsCause};
 ghost use Rattle.xlsx_pivot_cache.specs.PivotRows.{pivot_rows, IsAtRecords, OpensRows, GivesRow};
-ghost use Rattle.xlsx_pivot_cache.specs.PivotRows.{answer_of};
+ghost use Rattle.xlsx_pivot_cache.specs.PivotRows.{row_answer};
 ghost use Rattle.xlsx_pivot_cache.specs.declared.pivot_cursor.RecordsPlace.TheVariants.{Before};
 ghost use Rattle.xlsx_pivot_cache.specs.declared.pivot_cursor.RecordsPlace.TheVariants.{Within};
 
@@ -114,7 +113,7 @@ impl PivotCursor {
         ensures at { IsAtRecords (pivot_rows xml.new self.new) }
         ensures fields { self.new.fields ≡ self.old.fields }
         ensures reads { ReadsPart Io result xml.old xml.new }
-        ensures gives { GivesRow (answer_of result) (pivot_rows xml.old self.old)
+        ensures gives { GivesRow (row_answer result) (pivot_rows xml.old self.old)
             (pivot_rows xml.new self.new) }
     {
         self.place = RecordsPlace::Done;

@@ -1,14 +1,10 @@
-ghost use Rattle.std.specs.Prelude.{◌≡◌, ◌++◌, ℕ, true, Ok, Some, option_map, option_to_list};
-ghost use Rattle.std.specs.Prelude.{IfOk, OnOk, IfErr, slice_get, length};
+ghost use Rattle.std.specs.Prelude.{◌≡◌, ◌++◌, ℕ, true, Ok, Some, option_map, option_to_list, IfOk};
+ghost use Rattle.std.specs.Prelude.{OnOk, IfErr, slice_get, length};
 ghost use Rattle.std.specs.Option.{option_copied};
-ghost use Rattle.part_events.specs.Event.{tag_of};
-ghost use Rattle.part_events.specs.Reading.{ahead, IsReadingElement, ReadsElement};
-ghost use Rattle.part_events.specs.Section.{content};
-ghost use Rattle.cell_data.specs.CellValue.{value_of_data};
+ghost use Rattle.part_events.specs.Words.{tag_of, ahead, IsReadingElement, ReadsElement, content};
+ghost use Rattle.cell_data.specs.Words.{value_of_data};
 ghost use Rattle.xlsx_error.specs.declared.error.XlsxError.TheVariants.{Io};
-ghost use Rattle.xlsx_sections.specs.Elements.{ElementReadFails};
-ghost use Rattle.xlsx_sections.specs.PartSection.{always};
-ghost use Rattle.xlsx_sections.specs.Refusal.{ElementFails, plain_told};
+ghost use Rattle.xlsx_sections.specs.Words.{ElementReadFails, always, ElementFails, plain_told};
 ghost use Rattle.xlsx_pivot_cache.specs.CacheErrors.{IsFaultError, IsRecordValueError, IsRowError};
 ghost use Rattle.xlsx_pivot_cache.specs.CacheFields.{field_kept, fields_kept};
 ghost use Rattle.xlsx_pivot_cache.specs.CacheRecords.{is_reference, referred_item, value_said};
@@ -142,7 +138,7 @@ pub(crate) fn read_record<P: Package>(
 ) -> Result<Vec<Data>, XlsxError>
     requires element { IsReadingElement xml.old }
     ensures reads { ReadsElement Io result xml.old xml.new }
-    ensures row { xml.old.source.is_told ≡ true → IfOk result (λ row.
+    ensures row { xml.old.source.is_visible ≡ true → IfOk result (λ row.
         row_in (fields_kept fields.now) (content 0 (ahead xml.old)) ≡ Ok (row_kept row.items)) }
     ensures err { IfErr result
         (ElementReadFails (always records_name) (row_in (fields_kept fields.now)) xml.old xml.new) }

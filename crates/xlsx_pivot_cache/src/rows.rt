@@ -1,8 +1,7 @@
-ghost use Rattle.std.specs.Prelude.{◌≡◌, ◌≤◌, length, true, IfOk, IfErr, IfSome};
-ghost use Rattle.std.specs.Prelude.{MatchOption};
-ghost use Rattle.part_events.specs.Reading.{IsReading, ReadsPart};
+ghost use Rattle.std.specs.Prelude.{◌≡◌, ◌≤◌, length, true, IfOk, IfErr, IfSome, MatchOption};
+ghost use Rattle.part_events.specs.Words.{IsReading, ReadsPart};
 ghost use Rattle.xlsx_error.specs.declared.error.XlsxError.TheVariants.{Io};
-ghost use Rattle.xlsx_sections.specs.Failing.{FailsBy};
+ghost use Rattle.xlsx_sections.specs.Words.{FailsBy};
 ghost use Rattle.xlsx_pivot_cache.specs.CacheErrors.{IsRowError};
 ghost use Rattle.xlsx_pivot_cache.specs.CacheFields.{fields_kept};
 ghost use Rattle.xlsx_pivot_cache.specs.CacheRecords.{names_row, row_kept};
@@ -43,7 +42,7 @@ pub(crate) fn next_record<P: Package>(
         MatchOption found (Unit {0}) (λ row. base ≤ length xml.new.names)) }
     ensures row { let said = fields_kept fields.now in
         IfOk result (λ found. MatchOption found
-        (xml.old.source.is_told ≡ true → EndsRecords base xml.old xml.new)
+        (xml.old.source.is_visible ≡ true → EndsRecords base xml.old xml.new)
         (λ row. TakesRecord said base (row_kept row.items) xml.old xml.new)) }
     ensures step { IfOk result (λ found. IfSome found (λ row. IsFewer xml.old xml.new)) }
     ensures err { IfErr result

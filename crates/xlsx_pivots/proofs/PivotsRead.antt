@@ -1,19 +1,15 @@
 -- Which refusals of the layers below are refusals of pivot tables.
-use Rattle.std.proofs.Common.{◌≡◌, ◌⊎◌, ℕ, List, Option, Result, Err, codes, inl}
-use Rattle.std.proofs.Common.{ap}
-use Rattle.part_events.specs.Package.{PackageState}
+use Rattle.std.proofs.Common.{◌≡◌, ◌⊎◌, ℕ, List, Option, Result, Err, codes, inl, ap}
+use Rattle.part_events.specs.Words.{PackageState}
 use Rattle.part_events.specs.declared.fault.XmlFault.TheVariants.{Break, Entity}
 use Rattle.xlsx_error.specs.declared.error.XlsxError.{XlsxError}
 use Rattle.xlsx_error.specs.declared.error.XlsxError.TheVariants.{OutOfMemory, Io, Xml, XmlEof}
 use Rattle.xlsx_error.specs.declared.error.XlsxError.TheVariants.{XmlAttr, Unexpected}
-use Rattle.xlsx_sections.specs.Failing.{FailsBy}
-use Rattle.xlsx_sections.specs.Names.{IsNameError}
-use Rattle.xlsx_sections.specs.PartSection.{IsStepError}
-use Rattle.xlsx_sections.specs.Refusal.{Refusal, ElementFails}
+use Rattle.xlsx_sections.specs.Words.{FailsBy, IsNameError, IsStepError, Refusal, ElementFails}
 use Rattle.xlsx_sections.proofs.Failing.{fails_by_weaker, same_parts}
 use Rattle.xlsx_sections.proofs.Refused.{refused_at_weaker}
-use Rattle.xlsx_parts.specs.WholePart.{IsBreakError}
-use Rattle.xlsx_relationships.specs.RelationshipErrors.{IsRelatedError}
+use Rattle.xlsx_parts.specs.Words.{IsBreakError}
+use Rattle.xlsx_relationships.specs.Words.{IsRelatedError}
 use Rattle.xlsx_pivots.specs.PivotErrors.{IsSingleError, IsPivotsError}
 use Rattle.xlsx_pivots.specs.Singles.{single_kept_by}
 use Rattle.xlsx_pivots.specs.Targets.{counted_target}

@@ -1,23 +1,21 @@
 -- How many events are taken where a pivot table is read: of its part, of its relationships and of
 -- those beside its definitions, in turn.
-use Rattle.std.proofs.Common.{◌≡◌, ◌+◌, ◌∙◌, ℕ, List, true, Option, Some}
-use Rattle.std.proofs.Common.{Result, Ok, Err, arith, ap}
-use Rattle.std.proofs.Common.{sym, subst, codes}
+use Rattle.std.proofs.Common.{◌≡◌, ◌+◌, ◌∙◌, ℕ, List, true, Option, Some, Result, Ok, Err, arith}
+use Rattle.std.proofs.Common.{ap, sym, subst, codes}
 use Rattle.std.specs.Option.{option_map_or}
-use Rattle.part_events.specs.Package.{Part, PackageState, Uses, UsesPackage, LeavesPackage}
-use Rattle.part_events.specs.Package.{CountsUp}
-use Rattle.part_events.specs.Package.{event_count}
+use Rattle.part_events.specs.Words.{Part, PackageState, Uses, UsesPackage, LeavesPackage, CountsUp}
+use Rattle.part_events.specs.Words.{event_count}
 use Rattle.part_events.proofs.Uses.{uses_then, leaves_then}
 use Rattle.xlsx_error.specs.declared.error.XlsxError.{XlsxError}
 use Rattle.xlsx_error.specs.declared.error.XlsxError.TheVariants.{Io}
-use Rattle.xlsx_sections.specs.SectionEvents.{section_events_of}
-use Rattle.xlsx_relationships.specs.Paths.{relationships_beside}
+use Rattle.xlsx_sections.specs.Words.{section_events_of}
+use Rattle.xlsx_relationships.specs.Words.{relationships_beside}
 use Rattle.xlsx_pivots.specs.Pivots.{pivot_events, pivot_sections, sum_of_pivot}
 use Rattle.xlsx_pivots.specs.Targets.{definitions_at}
 
 -- a bound counts where the package tells its parts
 told_uses : {A : Type 0} (result : Result A XlsxError) (most other : ℕ) (old new : PackageState)
-    → (old.is_told ≡ true → most ≡ other) → Uses most Io result old new
+    → (old.is_visible ≡ true → most ≡ other) → Uses most Io result old new
     → Uses other Io result old new
 told_uses (Ok value) most other old new same uses = record {
   parts = uses.parts;
@@ -70,7 +68,7 @@ both_use path old mid further first second =
 pub pivot_uses : (path there : List ℕ) (old mid further new : PackageState)
     → UsesPackage (event_count old.parts path) old mid
     → UsesPackage (event_count mid.parts (relationships_beside path)) mid further
-    → (mid.is_told ≡ true → definitions_at mid.parts path ≡ Some there)
+    → (mid.is_visible ≡ true → definitions_at mid.parts path ≡ Some there)
     → UsesPackage (event_count further.parts (relationships_beside there)) further new
     → UsesPackage (pivot_events old.parts path) old new
 pivot_uses path there old mid further new first second found third =
@@ -82,13 +80,13 @@ pivot_uses path there old mid further new first second found third =
     new
     (λ told. sum_found (event_count old.parts) (event_count old.parts) old.parts path there
     (subst (λ (parts : List Part). definitions_at parts path ≡ Some there) first.parts.parts
-    (found (first.parts.is_told ∙ told))))
+    (found (first.parts.is_visible ∙ told))))
     (uses_then (omega arith) both last)
 
 pub pivot_leaves : (path there : List ℕ) (error : XlsxError) (old mid further new : PackageState)
     → UsesPackage (event_count old.parts path) old mid
     → UsesPackage (event_count mid.parts (relationships_beside path)) mid further
-    → (mid.is_told ≡ true → definitions_at mid.parts path ≡ Some there)
+    → (mid.is_visible ≡ true → definitions_at mid.parts path ≡ Some there)
     → LeavesPackage (event_count further.parts (relationships_beside there)) Io further new error
     → LeavesPackage (pivot_events old.parts path) Io old new error
 pivot_leaves path there error old mid further new first second found third =
@@ -101,7 +99,7 @@ pivot_leaves path there error old mid further new first second found third =
     (pivot_events old.parts path) old new
     (λ told. sum_found (event_count old.parts) (event_count old.parts) old.parts path there
     (subst (λ (parts : List Part). definitions_at parts path ≡ Some there) first.parts.parts
-    (found (first.parts.is_told ∙ told))))
+    (found (first.parts.is_visible ∙ told))))
     (leaves_then (omega arith) both last)
 
 -- and each to the end of its section

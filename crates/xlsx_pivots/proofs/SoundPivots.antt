@@ -1,20 +1,16 @@
 -- Pivot tables that are said have no cause to be refused.
 use Rattle.std.proofs.Common.{◌≡◌, ℕ, List, [], Option, Some, None, codes, refl, inl, inr, subst}
 use Rattle.std.specs.Prelude.{option_and_then}
-use Rattle.part_events.specs.Event.{Event}
-use Rattle.part_events.specs.Package.{Part, part_of}
+use Rattle.part_events.specs.Words.{Event, Part, part_of}
 use Rattle.xlsx_error.specs.declared.error.XlsxError.{XlsxError}
 use Rattle.xlsx_error.specs.declared.error.XlsxError.TheVariants.{FileNotFound}
-use Rattle.xlsx_sections.specs.Elements.{IsInsideRefused}
-use Rattle.xlsx_sections.specs.PartSection.{LacksPart, OptionalPartCause, always}
-use Rattle.xlsx_parts.specs.PartSaid.{section_said}
-use Rattle.xlsx_parts.specs.SheetPaths.{SheetPath}
-use Rattle.xlsx_parts.specs.WholePart.{IfThere}
+use Rattle.xlsx_sections.specs.Words.{IsInsideRefused, LacksPart, OptionalPartCause, always}
+use Rattle.xlsx_parts.specs.Words.{section_said, SheetPath, IfThere}
 use Rattle.xlsx_parts.proofs.ManySaid.{no_some_cause}
 use Rattle.xlsx_parts.proofs.SaidFrom.{mapped_from, and_then_from}
 use Rattle.xlsx_parts.proofs.SoundParts.{no_said_cause, no_first_said_cause}
-use Rattle.xlsx_relationships.specs.Paths.{relationships_beside}
-use Rattle.xlsx_relationships.specs.RelatedParts.{related_parts, all_lead_to, target_path}
+use Rattle.xlsx_relationships.specs.Words.{relationships_beside, related_parts, all_lead_to}
+use Rattle.xlsx_relationships.specs.Words.{target_path}
 use Rattle.xlsx_pivots.specs.PivotParts.{name_said, name_in_part, NameCause}
 use Rattle.xlsx_pivots.specs.Pivots.{PivotSaid, pivot_type, pivot_name_at, pivot_with, pivot_from}
 use Rattle.xlsx_pivots.specs.Pivots.{pivot_named, pivot_at, one_pivot, pivots_at, pivots_by}

@@ -4,3 +4,4 @@ pub mod PivotTables
 pub mod Pivots
 pub mod Singles
 pub mod Targets
+pub mod Words

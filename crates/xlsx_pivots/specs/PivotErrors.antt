@@ -4,7 +4,7 @@ use Rattle.part_events.specs.declared.fault.XmlFault.TheVariants.{Break, Entity}
 use Rattle.xlsx_error.specs.declared.error.XlsxError.{XlsxError}
 use Rattle.xlsx_error.specs.declared.error.XlsxError.TheVariants.{OutOfMemory, Io, Xml, XmlAttr}
 use Rattle.xlsx_error.specs.declared.error.XlsxError.TheVariants.{XmlEof, FileNotFound, Unexpected}
-use Rattle.xlsx_sections.specs.Refusal.{told_by, unexpected}
+use Rattle.xlsx_sections.specs.Words.{told_by, unexpected}
 use Rattle.xlsx_pivots.specs.Singles.{IsPivotRefusal}
 
 -- the refusal of what has to be there exactly once

@@ -1,16 +1,13 @@
 -- The name that the part of a pivot table says (ECMA-376 part 1, section 18.10.1.73).
 use Rattle.std.specs.Prelude.{◌⊎◌, ℕ, List, [], ◌∷◌, length, Bool, codes, Option, None, Result}
-use Rattle.part_events.specs.Event.{Tag, Event}
-use Rattle.part_events.specs.Section.{PlacedTag, starts_by, is_named}
+use Rattle.part_events.specs.Words.{Tag, Event, PlacedTag, starts_by, is_named}
 use Rattle.xlsx_error.specs.declared.error.XlsxError.{XlsxError}
-use Rattle.xlsx_sections.specs.Changes.{all_changes, changed_by}
-use Rattle.xlsx_sections.specs.Names.{name_by}
-use Rattle.xlsx_sections.specs.Refusal.{Refusal, placed_at}
-use Rattle.xlsx_parts.specs.FirstElement.{first_said, FirstElementCause}
+use Rattle.xlsx_sections.specs.Words.{all_changes, changed_by, name_by, Refusal, placed_at}
+use Rattle.xlsx_parts.specs.Words.{first_said, FirstElementCause}
 use Rattle.xlsx_pivots.specs.Singles.{single_kept_by, Lacks}
 use Rattle.xlsx_pivots.specs.declared.single.Single.TheVariants as single
 
--- a start is the definition of a pivot table
+-- a start of the element `pivotTableDefinition`, a pivot table
 abbrev pub is_pivot : Tag → Bool
 is_pivot tag = is_named (codes "pivotTableDefinition" ∷ []) tag
 

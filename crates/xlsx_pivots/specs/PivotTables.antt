@@ -5,7 +5,7 @@ use Rattle.std.specs.Borrow.{Bor}
 use Rattle.std.specs.List.{filter}
 use Rattle.std.specs.Str.{bytes_eq}
 use Rattle.std.specs.declared.alloc.Global.{Global}
-use Rattle.xlsx_parts.specs.SheetPaths.{SheetPath, sheet_at}
+use Rattle.xlsx_parts.specs.Words.{SheetPath, sheet_at}
 use Rattle.xlsx_pivots.specs.Pivots.{PivotSaid, pivot_with}
 use Rattle.xlsx_pivots.specs.declared.names.PivotNames.{PivotNames}
 use Rattle.xlsx_pivots.specs.declared.names.PivotNamesInSheet.{PivotNamesInSheet}
@@ -34,7 +34,7 @@ pairs_of pivots = map (λ (own : PivotSaid). (own.sheet, own.name)) pivots
 abbrev pub is_on_sheet : List ℕ → PivotSaid → Bool
 is_on_sheet sheet pivot = bytes_eq pivot.sheet sheet
 
--- the names of those on the sheets of a name
+-- the names of the pivot tables on the sheets of a name
 abbrev pub names_on : List ℕ → List PivotSaid → List (List ℕ)
 names_on sheet pivots = map (λ (own : PivotSaid). own.name) (filter (is_on_sheet sheet) pivots)
 

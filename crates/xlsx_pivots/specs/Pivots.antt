@@ -2,17 +2,12 @@
 use Rattle.std.specs.Prelude.{◌⊎◌, ℕ, ◌+◌, List, [], ◌∷◌, codes, Option, option_map}
 use Rattle.std.specs.Prelude.{option_and_then, MatchOption}
 use Rattle.std.specs.Option.{option_map_or}
-use Rattle.part_events.specs.Package.{Part, part_of, event_count}
+use Rattle.part_events.specs.Words.{Part, part_of, event_count}
 use Rattle.xlsx_error.specs.declared.error.XlsxError.{XlsxError}
-use Rattle.xlsx_sections.specs.Asking.{Ask}
-use Rattle.xlsx_sections.specs.PartSection.{LacksPart}
-use Rattle.xlsx_sections.specs.SectionEvents.{section_events_of}
-use Rattle.xlsx_parts.specs.ManyAsked.{each}
-use Rattle.xlsx_parts.specs.PartSaid.{all_said}
-use Rattle.xlsx_parts.specs.SheetPaths.{SheetPath}
-use Rattle.xlsx_parts.specs.WholePart.{IfThere, SomeCause}
-use Rattle.xlsx_relationships.specs.Paths.{relationships_beside}
-use Rattle.xlsx_relationships.specs.RelatedParts.{related_parts, sum_of_related, RelatedCause}
+use Rattle.xlsx_sections.specs.Words.{Ask, LacksPart, section_events_of}
+use Rattle.xlsx_parts.specs.Words.{each, all_said, SheetPath, IfThere, SomeCause}
+use Rattle.xlsx_relationships.specs.Words.{relationships_beside, related_parts, sum_of_related}
+use Rattle.xlsx_relationships.specs.Words.{RelatedCause}
 use Rattle.xlsx_pivots.specs.PivotErrors.{IsPivotsError}
 use Rattle.xlsx_pivots.specs.PivotParts.{name_in_part, NameCause}
 use Rattle.xlsx_pivots.specs.Singles.{only_one}
@@ -44,7 +39,7 @@ pivot_with sheet name definitions records = record {
 abbrev pub pivot_name_at : List Part → List ℕ → Option (List ℕ)
 pivot_name_at parts path = only_one (option_and_then name_in_part (part_of parts path))
 
--- the records of these definitions go with the name
+-- the pivot table of a name and its definitions, if it can be said where the records of these lie
 abbrev pub pivot_from :
     List Part → List ℕ → List ℕ → List ℕ → List ℕ → Option PivotSaid
 pivot_from parts folder sheet name definitions =
@@ -69,7 +64,7 @@ one_pivot pivot = pivot ∷ []
 abbrev pub pivots_at : List Part → List ℕ → List ℕ → List ℕ → Option (List PivotSaid)
 pivots_at parts folder sheet path = option_map one_pivot (pivot_at parts folder sheet path)
 
--- those of the parts at these paths, one after the other
+-- the pivot tables of the parts at these paths, one after the other
 abbrev pub pivots_by : List Part → List ℕ → List ℕ → List (List ℕ) → Option (List PivotSaid)
 pivots_by parts folder sheet paths = all_said (pivots_at parts folder sheet) paths
 
@@ -79,7 +74,7 @@ pivots_on parts folder sheet =
     option_and_then (pivots_by parts folder sheet.name)
     (related_parts parts pivot_type sheet.path)
 
--- those of many sheets, one after the other
+-- the pivot tables of many sheets, one sheet after the other
 abbrev pub pivots_of : List Part → List ℕ → List SheetPath → Option (List PivotSaid)
 pivots_of parts folder sheets = all_said (pivots_on parts folder) sheets
 
@@ -95,19 +90,21 @@ sum_of_pivot own beside parts path =
 abbrev pub pivot_events : List Part → List ℕ → ℕ
 pivot_events parts path = sum_of_pivot (event_count parts) (event_count parts) parts path
 
--- those up to the ends of the pivot table and of the sections of relationships
+-- how many events are taken for a pivot table up to the ends of its own section and of those of
+-- relationships
 abbrev pub pivot_sections : List Part → List ℕ → ℕ
 pivot_sections parts path =
     sum_of_pivot (section_events_of (codes "pivotTableDefinition") parts)
     (section_events_of (codes "Relationships") parts) parts path
 
--- how many are taken at most for those of the sheet whose part is at a path
+-- how many events are taken at most for the pivot tables of the sheet whose part is at a path
 abbrev pub sheet_events : List Part → List ℕ → ℕ
 sheet_events parts path =
     event_count parts (relationships_beside path)
     + sum_of_related (pivot_events parts) parts pivot_type path
 
--- the same up to the ends of the pivot tables and of the sections of relationships
+-- how many events are taken for the pivot tables of the sheet whose part is at a path up to the
+-- ends of the pivot tables and of the sections of relationships
 abbrev pub sheet_sections : List Part → List ℕ → ℕ
 sheet_sections parts path =
     section_events_of (codes "Relationships") parts (relationships_beside path)
@@ -133,19 +130,19 @@ PivotCause parts path error =
     NameAtCause parts path error
     ⊎ MatchOption (pivot_name_at parts path) ⊥ (λ name. CacheAtCause parts path error)
 
--- why those of the parts at some paths can't
+-- why the pivot tables of the parts at some paths can't be taken
 abbrev pub PivotsByCause : List Part → List (List ℕ) → XlsxError → Type 0
 PivotsByCause parts paths error = SomeCause (PivotCause parts) paths error
 
--- why those of the sheet whose part is at a path can't: it can't be said where its relationships
--- lead, or the pivot table of a part that they lead to can't be taken
+-- why the pivot tables of the sheet whose part is at a path can't be taken: it can't be said where
+-- its relationships lead, or the pivot table of a part that they lead to can't
 abbrev pub PivotsAtCause : List Part → List ℕ → XlsxError → Type 0
 PivotsAtCause parts path error =
     RelatedCause parts pivot_type path error
     ⊎ MatchOption (related_parts parts pivot_type path) ⊥
     (λ paths. PivotsByCause parts paths error)
 
--- why those of many sheets can't
+-- why the pivot tables of many sheets can't be taken
 abbrev pub PivotsCause : List Part → List SheetPath → XlsxError → Type 0
 PivotsCause parts sheets error =
     SomeCause (λ (sheet : SheetPath). PivotsAtCause parts sheet.path) sheets error
@@ -160,7 +157,7 @@ one_pivot_ask folder sheet path = record {
   kind = IsPivotsError;
 }
 
--- for those of a sheet
+-- what is asked for the pivot tables of a sheet
 abbrev pub pivots_on_ask : List ℕ → SheetPath → Ask (List PivotSaid)
 pivots_on_ask folder sheet = record {
   most = λ parts. sheet_events parts sheet.path;
@@ -170,6 +167,6 @@ pivots_on_ask folder sheet = record {
   kind = IsPivotsError;
 }
 
--- and for those of many sheets
+-- what is asked for the pivot tables of many sheets
 abbrev pub pivots_ask : List ℕ → List SheetPath → Ask (List PivotSaid)
 pivots_ask folder sheets = each IsPivotsError (pivots_on_ask folder) sheets

@@ -1,20 +1,20 @@
 -- What a pivot table has exactly one of.
 use Rattle.std.specs.Prelude.{◌≡◌, ⊤, ℕ, List, Option, Some, None, Result, Ok, Err}
 use Rattle.xlsx_error.specs.declared.error.XlsxError.{XlsxError}
-use Rattle.xlsx_sections.specs.Refusal.{Refusal, PlainRefusal, plain, plain_told}
-use Rattle.xlsx_sections.specs.Refusal.{lacks_pivot_name, many_pivot_names}
-use Rattle.xlsx_sections.specs.Refusal.{lacks_definitions, many_definitions}
-use Rattle.xlsx_sections.specs.Refusal.{lacks_records, many_records}
+use Rattle.xlsx_sections.specs.Words.{Refusal, PlainRefusal, plain, plain_told, lacks_pivot_name}
+use Rattle.xlsx_sections.specs.Words.{many_pivot_names, lacks_definitions, many_definitions}
+use Rattle.xlsx_sections.specs.Words.{lacks_records, many_records}
 use Rattle.xlsx_pivots.specs.declared.single.Single.{Single}
 use Rattle.xlsx_pivots.specs.declared.single.Single.TheVariants as single
 
--- why there is none
+-- the refusal of a pivot table that lacks its name, its definitions or its records
 abbrev pub lacking : Single → PlainRefusal
 lacking single.Name = lacks_pivot_name
 lacking single.Definitions = lacks_definitions
 lacking single.Records = lacks_records
 
--- why there is more than one
+-- the refusal of a pivot table that has more than one name, or definitions or records at more than
+-- one place
 abbrev pub many : Single → PlainRefusal
 many single.Name = many_pivot_names
 many single.Definitions = many_definitions
@@ -39,11 +39,11 @@ abbrev pub only_one : Option (Option (List ℕ)) → Option (List ℕ)
 only_one None = None
 only_one (Some own) = own
 
--- it is said that there is none
+-- a pivot table says that it lacks what it has to have once, and the refusal tells so
 abbrev pub Lacks : Single → Option (Option (List ℕ)) → XlsxError → Type 0
 Lacks single said error = (said ≡ Some None) × (plain_told error ≡ Some (lacking single))
 
--- the refusals of which an error of this kind tells
+-- the refusals of which an error of a pivot table tells
 abbrev pub IsPivotRefusal : PlainRefusal → Type 0
 IsPivotRefusal lacks_pivot_name = ⊤
 IsPivotRefusal many_pivot_names = ⊤

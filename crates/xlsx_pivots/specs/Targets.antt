@@ -1,26 +1,19 @@
 -- Where the parts of a pivot table's cache lie (ECMA-376 part 2, section 9.3).
-use Rattle.std.specs.Prelude.{◌⊎◌, ⊤, ℕ, List, [], ◌∷◌, ◌++◌, nat_eq, codes, if◌then◌else◌}
-use Rattle.std.specs.Prelude.{Option, Some, None, option_map, option_and_then, Result, Ok, Err}
+use Rattle.std.specs.Prelude.{◌⊎◌, ⊤, ℕ, List, [], ◌∷◌, ◌++◌, nat_eq, codes, if◌then◌else◌, Option}
+use Rattle.std.specs.Prelude.{Some, None, option_map, option_and_then, Result, Ok, Err}
 use Rattle.std.specs.Coded.{Unit-prop}
 use Rattle.std.specs.List.{starts_with}
-use Rattle.part_events.specs.Event.{Event}
-use Rattle.part_events.specs.Package.{Part}
-use Rattle.part_events.specs.Section.{PlacedTag}
+use Rattle.part_events.specs.Words.{Event, Part, PlacedTag}
 use Rattle.xlsx_error.specs.declared.error.XlsxError.{XlsxError}
-use Rattle.xlsx_sections.specs.Changes.{all_changes}
-use Rattle.xlsx_sections.specs.Elements.{IsInsideRefused}
-use Rattle.xlsx_sections.specs.PartSection.{PartCause, always}
-use Rattle.xlsx_sections.specs.Refusal.{Refusal}
-use Rattle.xlsx_parts.specs.PartSaid.{part_said}
-use Rattle.xlsx_relationships.specs.Paths.{relationships_beside, without_slash}
-use Rattle.xlsx_relationships.specs.RelatedParts.{target_path, typed_target}
-use Rattle.xlsx_relationships.specs.Relationships.{relationship_starts}
+use Rattle.xlsx_sections.specs.Words.{all_changes, IsInsideRefused, PartCause, always, Refusal}
+use Rattle.xlsx_parts.specs.Words.{part_said}
+use Rattle.xlsx_relationships.specs.Words.{relationships_beside, without_slash, target_path}
+use Rattle.xlsx_relationships.specs.Words.{typed_target, relationship_starts}
 use Rattle.xlsx_pivots.specs.Singles.{single_kept_by, only_one, Lacks}
 use Rattle.xlsx_pivots.specs.declared.single.Single.{Single}
 use Rattle.xlsx_pivots.specs.declared.single.Single.TheVariants as single
 
--- the types of the relationships from a pivot table to its definitions, and from there to its
--- records
+-- the type of the relationships from a pivot table to the definitions of its cache
 abbrev pub definitions_type : List ℕ
 definitions_type =
     codes "http://schemas.openxmlformats.org/officeDocument/2006/relationships/pivotCacheDefinition"
@@ -30,7 +23,8 @@ abbrev pub records_type : List ℕ
 records_type =
     codes "http://schemas.openxmlformats.org/officeDocument/2006/relationships/pivotCacheRecords"
 
--- An empty target doesn't count before the first that isn't empty, and does behind it.
+-- a target behind the one that was kept: an empty one doesn't count before the first that isn't
+-- empty, and does behind it
 abbrev pub counted : Option (List ℕ) → Option (List ℕ) → Option (List ℕ)
 counted (Some first) target = target
 counted None None = None
@@ -61,18 +55,19 @@ abbrev pub target_kept :
 target_kept wanted single start kept =
     single_kept_by single kept (counted_target kept (typed_target wanted start))
 
--- the only target of that type
+-- the only target of one type that the relationships of a section name
 abbrev pub single_target_in : List ℕ → Single → List Event → Result (Option (List ℕ)) Refusal
 single_target_in wanted single inside =
     all_changes (target_kept wanted single) (relationship_starts inside) None
 
--- whether the relationships of the part at a path say it, and which
+-- whether the relationships beside the part at a path name a target of one type, and which
 abbrev pub target_beside : List Part → List ℕ → Single → List ℕ → Option (Option (List ℕ))
 target_beside parts wanted single path =
     part_said (codes "Relationships") (single_target_in wanted single) parts
     (relationships_beside path)
 
--- why it can't be taken: these relationships are absent or refused, or there is none
+-- why the single target of relationships can't be taken: these are absent or refused, or there is
+-- none
 abbrev pub TargetCause : List Part → List ℕ → Single → List ℕ → XlsxError → Type 0
 TargetCause parts wanted single path error =
     PartCause (codes "Relationships") (always (codes "Relationships"))

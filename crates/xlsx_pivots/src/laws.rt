@@ -1,9 +1,9 @@
 //! Laws of pivot tables.
 
 ghost use Rattle.std.specs.Prelude.{◌≡◌, ℕ, List, Some};
-ghost use Rattle.part_events.specs.Package.{Part};
+ghost use Rattle.part_events.specs.Words.{Part};
 ghost use Rattle.xlsx_error.specs.declared.error.XlsxError.{XlsxError};
-ghost use Rattle.xlsx_parts.specs.SheetPaths.{SheetPath};
+ghost use Rattle.xlsx_parts.specs.Words.{SheetPath};
 ghost use Rattle.xlsx_pivots.specs.Pivots.{PivotSaid, pivots_of, PivotsCause};
 
 /// Parts that say the pivot tables of all sheets have no cause of a refusal.

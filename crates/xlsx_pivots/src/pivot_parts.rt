@@ -1,13 +1,11 @@
 ghost use Rattle.std.proofs.Common.{rules};
-ghost use Rattle.std.specs.Prelude.{◌≡◌, ⊤, ℕ, List, Option, Ok, Some, codes, true};
-ghost use Rattle.std.specs.Prelude.{option_map, string_bytes, IfOk, OnOk, IfErr};
-ghost use Rattle.part_events.specs.Event.{tag_of};
-ghost use Rattle.part_events.specs.Package.{Uses, event_count};
-ghost use Rattle.part_events.specs.Reading.{IsReading, ReadsPart, events_of};
+ghost use Rattle.std.specs.Prelude.{◌≡◌, ⊤, ℕ, List, Option, Ok, Some, codes, true, option_map};
+ghost use Rattle.std.specs.Prelude.{string_bytes, IfOk, OnOk, IfErr};
+ghost use Rattle.part_events.specs.Words.{tag_of, Uses, event_count, IsReading, ReadsPart};
+ghost use Rattle.part_events.specs.Words.{events_of};
 ghost use Rattle.xlsx_error.specs.declared.error.XlsxError.TheVariants.{Io};
-ghost use Rattle.xlsx_sections.specs.Failing.{FailsBy};
-ghost use Rattle.xlsx_sections.specs.Refusal.{ElementFails, placed_at};
-ghost use Rattle.xlsx_sections.specs.SectionEvents.{ReadsToEnd, section_events};
+ghost use Rattle.xlsx_sections.specs.Words.{FailsBy, ElementFails, placed_at, ReadsToEnd};
+ghost use Rattle.xlsx_sections.specs.Words.{section_events};
 ghost use Rattle.xlsx_pivots.specs.PivotErrors.{IsPivotsError};
 ghost use Rattle.xlsx_pivots.specs.PivotParts.{name_kept, name_in_part, NameCause};
 ghost use Rattle.xlsx_pivots.specs.Pivots.{pivot_name_at, NameAtCause};
@@ -73,8 +71,8 @@ fn name_in_part<P: Package>(xml: &mut XlReader<P>) -> Result<String, XlsxError>
     requires first { xml.old.at ≡ 0 }
     ensures reads { ReadsPart Io result xml.old xml.new }
     ensures ends { let count = section_events (codes "pivotTableDefinition") (events_of xml.old) in
-        xml.old.source.is_told ≡ true → OnOk result (xml.new.at ≡ count) }
-    ensures name { xml.old.source.is_told ≡ true → IfOk result (λ name.
+        xml.old.source.is_visible ≡ true → OnOk result (xml.new.at ≡ count) }
+    ensures name { xml.old.source.is_visible ≡ true → IfOk result (λ name.
         name_in_part (events_of xml.old) ≡ Some (Some (string_bytes name))) }
     ensures err { IfErr result
         (FailsBy (NameCause (events_of xml.old)) xml.old.source xml.new.source) }
@@ -113,7 +111,7 @@ pub fn name_at<P: Package>(xml: &mut XlReader<P>, path: &str) -> Result<String, 
         xml.old.source xml.new.source }
     ensures to_end { ReadsToEnd (codes "pivotTableDefinition") path.now result
         xml.old.source xml.new.source }
-    ensures name { xml.old.source.is_told ≡ true → IfOk result (λ name.
+    ensures name { xml.old.source.is_visible ≡ true → IfOk result (λ name.
         pivot_name_at xml.old.source.parts path.now ≡ Some (string_bytes name)) }
     ensures err { IfErr result
         (FailsBy (NameAtCause xml.old.source.parts path.now) xml.old.source xml.new.source) }

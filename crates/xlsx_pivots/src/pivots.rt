@@ -1,11 +1,9 @@
 ghost use Rattle.std.proofs.Common.{rules};
 ghost use Rattle.std.specs.Prelude.{◌≡◌, ◌++◌, List, map, true, Some, IfOk, OnOk, IfErr};
-ghost use Rattle.part_events.specs.Package.{Uses, CountsUp};
+ghost use Rattle.part_events.specs.Words.{Uses, CountsUp};
 ghost use Rattle.xlsx_error.specs.declared.error.XlsxError.TheVariants.{Io};
-ghost use Rattle.xlsx_sections.specs.Asking.{Answers};
-ghost use Rattle.xlsx_sections.specs.Failing.{FailsBy};
-ghost use Rattle.xlsx_parts.specs.ManyAsked.{Appends};
-ghost use Rattle.xlsx_parts.specs.SheetPaths.{sheet_at};
+ghost use Rattle.xlsx_sections.specs.Words.{Answers, FailsBy};
+ghost use Rattle.xlsx_parts.specs.Words.{Appends, sheet_at};
 ghost use Rattle.xlsx_pivots.specs.PivotErrors.{IsPivotsError};
 ghost use Rattle.xlsx_pivots.specs.PivotTables.{pivot_kept, pivots_kept, sheet_given};
 ghost use Rattle.xlsx_pivots.specs.Pivots.{PivotSaid, PivotCause, pivot_at, pivot_events};
@@ -33,8 +31,8 @@ fn pivot_at<P: Package>(
         xml.old.source xml.new.source }
     ensures to_end { let old = xml.old.source in
         let count = pivot_sections old.parts path.now in
-        old.is_told ≡ true → OnOk result (CountsUp count old.taken xml.new.source.taken) }
-    ensures pivot { xml.old.source.is_told ≡ true → IfOk result (λ pivot.
+        old.is_visible ≡ true → OnOk result (CountsUp count old.taken xml.new.source.taken) }
+    ensures pivot { xml.old.source.is_visible ≡ true → IfOk result (λ pivot.
         pivot_at xml.old.source.parts folder.now sheet.now path.now ≡ Some (pivot_kept pivot)) }
     ensures err { IfErr result
         (FailsBy (PivotCause xml.old.source.parts path.now) xml.old.source xml.new.source) }

@@ -1,5 +1,5 @@
 ghost use Rattle.std.specs.Prelude.{◌≡◌, ℕ, Ok, Some, option_map, string_bytes, OnOk, OnErr, IfErr};
-ghost use Rattle.xlsx_sections.specs.Refusal.{ElementFails, plain_told};
+ghost use Rattle.xlsx_sections.specs.Words.{ElementFails, plain_told};
 ghost use Rattle.xlsx_pivots.specs.PivotErrors.{IsSingleError, IsPivotsError};
 ghost use Rattle.xlsx_pivots.specs.Singles.{lacking, many, kept_with};
 

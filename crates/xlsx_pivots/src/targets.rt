@@ -1,13 +1,10 @@
 ghost use Rattle.std.proofs.Common.{rules};
 ghost use Rattle.std.specs.Prelude.{◌≡◌, ⊤, ℕ, List, Option, Ok, Some, codes, true, option_map};
 ghost use Rattle.std.specs.Prelude.{string_bytes, IfOk, OnOk, IfErr};
-ghost use Rattle.part_events.specs.Event.{tag_of};
-ghost use Rattle.part_events.specs.Package.{Uses, event_count};
+ghost use Rattle.part_events.specs.Words.{tag_of, Uses, event_count};
 ghost use Rattle.xlsx_error.specs.declared.error.XlsxError.TheVariants.{Io};
-ghost use Rattle.xlsx_sections.specs.Failing.{FailsBy};
-ghost use Rattle.xlsx_sections.specs.Refusal.{ElementFails, placed_at};
-ghost use Rattle.xlsx_sections.specs.SectionEvents.{ReadsToEnd};
-ghost use Rattle.xlsx_relationships.specs.Paths.{relationships_beside};
+ghost use Rattle.xlsx_sections.specs.Words.{FailsBy, ElementFails, placed_at, ReadsToEnd};
+ghost use Rattle.xlsx_relationships.specs.Words.{relationships_beside};
 ghost use Rattle.xlsx_pivots.specs.PivotErrors.{IsPivotsError};
 ghost use Rattle.xlsx_pivots.specs.Targets.{counted, HasText, HasText-prop, target_kept};
 ghost use Rattle.xlsx_pivots.specs.Targets.{target_beside, TargetCause, definitions_at};
@@ -116,7 +113,7 @@ fn target_beside<P: Package>(
         xml.old.source xml.new.source }
     ensures to_end { ReadsToEnd (codes "Relationships") (relationships_beside path.now) result
         xml.old.source xml.new.source }
-    ensures target { xml.old.source.is_told ≡ true → IfOk result (λ target.
+    ensures target { xml.old.source.is_visible ≡ true → IfOk result (λ target.
         target_beside xml.old.source.parts wanted.now single path.now
         ≡ Some (Some (string_bytes target))) }
     ensures written { IfOk result (λ target. HasText (Some (string_bytes target))) }
@@ -157,7 +154,7 @@ pub fn definitions_at<P: Package>(xml: &mut XlReader<P>, path: &str) -> Result<S
         xml.old.source xml.new.source }
     ensures to_end { ReadsToEnd (codes "Relationships") (relationships_beside path.now) result
         xml.old.source xml.new.source }
-    ensures path { xml.old.source.is_told ≡ true → IfOk result (λ there.
+    ensures path { xml.old.source.is_visible ≡ true → IfOk result (λ there.
         definitions_at xml.old.source.parts path.now ≡ Some (string_bytes there)) }
     ensures err { IfErr result (FailsBy
         (TargetCause xml.old.source.parts definitions_type single.Definitions path.now)
@@ -201,7 +198,7 @@ pub fn records_at<P: Package>(
         xml.old.source xml.new.source }
     ensures to_end { ReadsToEnd (codes "Relationships") (relationships_beside path.now) result
         xml.old.source xml.new.source }
-    ensures path { xml.old.source.is_told ≡ true → IfOk result (λ there.
+    ensures path { xml.old.source.is_visible ≡ true → IfOk result (λ there.
         records_at xml.old.source.parts folder.now path.now ≡ Some (string_bytes there)) }
     ensures err { IfErr result
         (FailsBy (TargetCause xml.old.source.parts records_type single.Records path.now)

@@ -1,7 +1,7 @@
 -- The cells that are found by the numbers of their areas.
-use Rattle.std.proofs.Common.{◌≡◌, ℕ, suc, ◌+◌, ◌-◌, Bool, true, false, cond, not, ◌||◌}
-use Rattle.std.proofs.Common.{List, [], ◌∷◌, ◌++◌, length, map, replicate, Option, None, Some}
-use Rattle.std.proofs.Common.{refl, sym, ap, ◌∙◌, arith}
+use Rattle.std.proofs.Common.{◌≡◌, ℕ, suc, ◌+◌, ◌-◌, Bool, true, false, cond, not, ◌||◌, List, []}
+use Rattle.std.proofs.Common.{◌∷◌, ◌++◌, length, map, replicate, Option, None, Some, refl, sym, ap}
+use Rattle.std.proofs.Common.{◌∙◌, arith}
 use Rattle.std.specs.Prelude.{◌&&◌, ◌==◌, filter}
 use Rattle.std.specs.List.{slice_get, list_all}
 use Rattle.std.specs.declared.cmp.Ordering.TheVariants.{Less, Greater}
@@ -9,13 +9,13 @@ use Rattle.std.specs.Ordering.{ordering_reverse, is_lt}
 use Rattle.std.proofs.lemmas.Bool.Decides.{nat_tests}
 use Rattle.std.proofs.lemmas.List.{append-nil, append_assoc, length_push, get_or_push}
 use Rattle.std.proofs.lemmas.Option.{slice_get-get_or}
-use Rattle.cell_refs.specs.Positions.{position_cmp, is_in_area}
+use Rattle.cell_refs.specs.Words.{position_cmp, is_in_area}
 use Rattle.cell_refs.specs.declared.dimensions.Dimensions.{Dimensions}
-use Rattle.cell_refs.proofs.PositionOrder.{and_both, and_from, positions_rise}
-use Rattle.cell_refs.proofs.PositionOrder.{position_total, less_from, rising_positions}
-use Rattle.xlsx_precedents.specs.Kept.{all_naming, entry_in, AreGathered}
+use Rattle.cell_refs.proofs.PositionOrder.{and_both, and_from, positions_rise, position_total}
+use Rattle.cell_refs.proofs.PositionOrder.{less_from, rising_positions}
+use Rattle.xlsx_precedents.specs.Kept.{all_naming, entry_in, AreCellsGathered}
 use Rattle.xlsx_precedents.specs.Numbers.{numbers_where, is_this, last_cell, put_found, found_by}
-use Rattle.xlsx_precedents.specs.Precedents.{names_cell, dependents_of, all_named}
+use Rattle.xlsx_precedents.specs.Precedents.{names_cell, direct_dependents, all_named}
 use Rattle.xlsx_precedents.specs.declared.named_areas.NamedAreas.{NamedAreas}
 use Rattle.xlsx_precedents.proofs.Gathering.{paired}
 
@@ -158,8 +158,8 @@ pub along_index : (position : ℕ × ℕ) (found : List (ℕ × ℕ))
     (index : List ((ℕ × ℕ) × List Dimensions)) → positions_rise (positions index) ≡ true →
     none_last found (positions index) ≡ true →
     along position found (all_named index) (all_naming index)
-    ≡ found ++ dependents_of index position
-unfolding dependents_of
+    ≡ found ++ direct_dependents index position
+unfolding direct_dependents
 along_index position found [] rise apart = sym (append-nil found)
 along_index position found (entry ∷ index) rise apart =
     let (behind, rise') = and_both
@@ -198,7 +198,7 @@ along_index position found (entry ∷ index) rise apart =
 
 -- cells, and their areas
 module _ (cells : List ((ℕ × ℕ) × (ℕ × ℕ))) (named : NamedAreas) (position : ℕ × ℕ)
-    (gathered : AreGathered cells named) (index : List ((ℕ × ℕ) × List Dimensions))
+    (gathered : AreCellsGathered cells named) (index : List ((ℕ × ℕ) × List Dimensions))
     (index_is : map (entry_in named.areas.items) cells ≡ index) where
   abbrev entries : List ((ℕ × ℕ) × List Dimensions)
   entries = map (entry_in named.areas.items) cells
@@ -215,11 +215,11 @@ module _ (cells : List ((ℕ × ℕ) × (ℕ × ℕ))) (named : NamedAreas) (pos
   pub searched :
       found_by cell_numbered []
       (numbers_where (λ area. is_in_area area position) 0 named.areas.items)
-      ≡ dependents_of index position
+      ≡ direct_dependents index position
   searched =
       found_along position cell_numbered [] 0 named.areas.items named.cells.items both_lists
       (λ k. ap cell_numbered (omega arith))
       ∙ (λ i. along position [] (gathered.areas i) (gathered.owners i))
       ∙ along_index position [] entries (sym (rising_positions entries) ∙ gathered.rising)
       (no_last (positions entries))
-      ∙ ap (λ index. dependents_of index position) index_is
+      ∙ ap (λ index. direct_dependents index position) index_is

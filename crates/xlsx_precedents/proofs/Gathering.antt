@@ -1,7 +1,7 @@
 -- Cells with the places of their areas.
-use Rattle.std.proofs.Common.{◌≡◌, ℕ, ◌+◌, ◌-◌, ◌≤◌, Bool, true, false, cond}
-use Rattle.std.proofs.Common.{List, [], ◌∷◌, ◌++◌, length, map, take, drop, replicate}
-use Rattle.std.proofs.Common.{Option, Some, refl, sym, ap, ◌∙◌, subst, arith}
+use Rattle.std.proofs.Common.{◌≡◌, ℕ, ◌+◌, ◌-◌, ◌≤◌, Bool, true, false, cond, List, [], ◌∷◌, ◌++◌}
+use Rattle.std.proofs.Common.{length, map, take, drop, replicate, Option, Some, refl, sym, ap, ◌∙◌}
+use Rattle.std.proofs.Common.{subst, arith}
 use Rattle.std.specs.Prelude.{◌&&◌, nat_le, String}
 use Rattle.std.specs.FinMap.{find}
 use Rattle.std.specs.List.{list_all, slice_range}
@@ -14,13 +14,13 @@ use Rattle.std.proofs.lemmas.List.{append-nil, append_assoc, map-append, length-
 use Rattle.std.proofs.lemmas.List.{take-append-le, drop-append-le, drop_at, length-drop}
 use Rattle.std.proofs.lemmas.List.{length-replicate}
 use Rattle.std.proofs.lemmas.List.Folds.{list_all-append}
-use Rattle.cell_refs.specs.Positions.{position_cmp, is_rising, is_sheet_area}
+use Rattle.cell_refs.specs.Words.{position_cmp, is_rising, is_sheet_area}
 use Rattle.cell_refs.specs.declared.dimensions.Dimensions.{Dimensions}
 use Rattle.cell_refs.proofs.PositionOrder.{and_both, and_from, rising_positions, positions_rise}
-use Rattle.sorted_cells.specs.Last.{last_key, comes_after}
+use Rattle.sorted_cells.specs.Words.{last_key, comes_after}
 use Rattle.sorted_cells.proofs.Orders.{after_sorted}
-use Rattle.xlsx_precedents.specs.Kept.{all_naming, entry_in, lies_within, AreGathered}
-use Rattle.xlsx_precedents.specs.Precedents.{areas, formula_entry, named_by, all_named}
+use Rattle.xlsx_precedents.specs.Kept.{all_naming, entry_in, lies_within, AreCellsGathered}
+use Rattle.xlsx_precedents.specs.Precedents.{areas, formula_of_cell, areas_named_by, all_named}
 use Rattle.xlsx_precedents.specs.declared.named_areas.NamedAreas.{NamedAreas}
 
 -- ---- the areas of a cell
@@ -131,7 +131,7 @@ further count more less (cell ∷ cells) within =
 pub record Gathers (cells : List ((ℕ × ℕ) × (ℕ × ℕ))) (named : NamedAreas)
     (left : List ((ℕ × ℕ) × List ℕ)) (whole : List ((ℕ × ℕ) × List Dimensions)) : Type 0 where
   pub within : list_all (lies_within (length named.areas.items)) cells ≡ true
-  pub entries : map (entry_in named.areas.items) cells ++ map named_by left ≡ whole
+  pub entries : map (entry_in named.areas.items) cells ++ map areas_named_by left ≡ whole
   pub areas : named.areas.items ≡ all_named (map (entry_in named.areas.items) cells)
   pub owners : named.cells.items ≡ all_naming (map (entry_in named.areas.items) cells)
   pub on_sheet : list_all is_sheet_area named.areas.items ≡ true
@@ -150,9 +150,9 @@ pub comes_next : (cells : List ((ℕ × ℕ) × (ℕ × ℕ))) (named : NamedAre
     comes_after position_cmp (last_key cells) next.0 ≡ true
 comes_next cells named next left rest whole gathers is rising =
     ap (λ k. comes_after position_cmp k next.0) (sym (last_entry named.areas.items cells))
-    ∙ after_sorted position_cmp (map (entry_in named.areas.items) cells) (named_by next)
-    (map named_by rest)
-    (ap (λ l. is_rising (map (entry_in named.areas.items) cells ++ map named_by l)) (sym is)
+    ∙ after_sorted position_cmp (map (entry_in named.areas.items) cells) (areas_named_by next)
+    (map areas_named_by rest)
+    (ap (λ l. is_rising (map (entry_in named.areas.items) cells ++ map areas_named_by l)) (sym is)
     ∙ ap is_rising gathers.entries ∙ rising)
 
 -- each area has a cell
@@ -187,7 +187,7 @@ gathers_next cells cells' named named' next left rest whole first end gathers is
     let all = named.areas.items in
     let more_of = areas next.1 in
     let before = map (entry_in all) cells in
-    let entries : map (entry_in named'.areas.items) cells' ≡ before ++ named_by next ∷ [] =
+    let entries : map (entry_in named'.areas.items) cells' ≡ before ++ areas_named_by next ∷ [] =
     (λ i. map (entry_in (more_areas i)) (more i))
     ∙ with_cell all more_of cells next.0 first end gathers.within begins
     (ends ∙ ap length more_areas) in
@@ -204,32 +204,33 @@ gathers_next cells cells' named named' next left rest whole first end gathers is
           (further (length all) (length named'.areas.items) (omega (arith, count)) cells
           gathers.within)
           (and_from (lies_within (length named'.areas.items) (next.0, (first, end))) true own refl);
-      entries = ap (λ es. es ++ map named_by rest) entries
-          ∙ append_assoc before (named_by next ∷ []) (map named_by rest)
-          ∙ ap (λ l. before ++ map named_by l) (sym is) ∙ gathers.entries;
+      entries = ap (λ es. es ++ map areas_named_by rest) entries
+          ∙ append_assoc before (areas_named_by next ∷ []) (map areas_named_by rest)
+          ∙ ap (λ l. before ++ map areas_named_by l) (sym is) ∙ gathers.entries;
       areas = more_areas ∙ (λ i. gathers.areas i ++ sym (append-nil more_of) i)
           ∙ sym (flat_map-append (λ (e : (ℕ × ℕ) × List Dimensions). e.1) before
-          (named_by next ∷ []))
+          (areas_named_by next ∷ []))
           ∙ ap all_named (sym entries);
       owners = more_cells
           ∙ (λ i. gathers.owners i
           ++ sym (append-nil (replicate (length more_of) next.0)) i)
           ∙ sym (flat_map-append
           (λ (e : (ℕ × ℕ) × List Dimensions). replicate (length e.1) e.0) before
-          (named_by next ∷ []))
+          (areas_named_by next ∷ []))
           ∙ ap all_naming (sym entries);
       on_sheet = on_sheet;
     }
 
 -- what all formulas name rises as their cells do
 pub named_rises : (cells : List ((ℕ × ℕ) × String Global)) → is_rising cells ≡ true →
-    is_rising (map named_by (map formula_entry cells)) ≡ true
+    is_rising (map areas_named_by (map formula_of_cell cells)) ≡ true
 named_rises cells rising =
-    rising_positions (map named_by (map formula_entry cells))
+    rising_positions (map areas_named_by (map formula_of_cell cells))
     ∙ ap positions_rise (same cells) ∙ sym (rising_positions cells) ∙ rising
   where
     same : (cells : List ((ℕ × ℕ) × String Global)) →
-        map (λ (e : (ℕ × ℕ) × List Dimensions). e.0) (map named_by (map formula_entry cells))
+        map (λ (e : (ℕ × ℕ) × List Dimensions).
+        e.0) (map areas_named_by (map formula_of_cell cells))
         ≡ map (λ (e : (ℕ × ℕ) × String Global). e.0) cells
     same [] = refl
     same (cell ∷ cells) = ap (λ ps. cell.0 ∷ ps) (same cells)
@@ -238,11 +239,11 @@ named_rises cells rising =
 pub all_gathered : (cells : List ((ℕ × ℕ) × (ℕ × ℕ))) (named : NamedAreas)
     (left : List ((ℕ × ℕ) × List ℕ)) (whole : List ((ℕ × ℕ) × List Dimensions)) →
     Gathers cells named left whole → left ≡ [] → is_rising whole ≡ true →
-    AreGathered cells named × (map (entry_in named.areas.items) cells ≡ whole)
+    AreCellsGathered cells named × (map (entry_in named.areas.items) cells ≡ whole)
 all_gathered cells named left whole gathers none rising =
     let entries : map (entry_in named.areas.items) cells ≡ whole =
     sym (append-nil (map (entry_in named.areas.items) cells))
-    ∙ ap (λ l. map (entry_in named.areas.items) cells ++ map named_by l) (sym none)
+    ∙ ap (λ l. map (entry_in named.areas.items) cells ++ map areas_named_by l) (sym none)
     ∙ gathers.entries in (
       record {
         within = gathers.within;

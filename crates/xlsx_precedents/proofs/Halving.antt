@@ -1,7 +1,7 @@
 -- Areas that are kept by halving.
 use Rattle.std.proofs.Common.{◌≡◌, ℕ, zero, suc, ◌+◌, ◌/◌, ◌≤◌, ◌<◌, Bool, true, false, max, List}
-use Rattle.std.proofs.Common.{[], ◌∷◌, ◌++◌, length, take, drop, Some, refl, sym, ap}
-use Rattle.std.proofs.Common.{◌∙◌, subst, arith, ◌||◌}
+use Rattle.std.proofs.Common.{[], ◌∷◌, ◌++◌, length, take, drop, Some, refl, sym, ap, ◌∙◌, subst}
+use Rattle.std.proofs.Common.{arith, ◌||◌}
 use Rattle.std.specs.Prelude.{IfSome, nat_le, ◌==◌}
 use Rattle.std.specs.List.{list_all, list_any, slice_get}
 use Rattle.std.specs.List.Sorted.{IsNonDecreasingBy, IsPermutation}
@@ -14,8 +14,8 @@ use Rattle.cell_refs.specs.declared.dimensions.Dimensions.{Dimensions}
 use Rattle.cell_refs.proofs.PositionOrder.{and_from}
 use Rattle.xlsx_precedents.specs.Spans.{AreHalved, IsGreatest, KeepsGreatest, KeepsSpans, Numbered}
 use Rattle.xlsx_precedents.specs.Spans.{AreSearched, AreSearchedHalves, AreSpans, IsHalves}
-use Rattle.xlsx_precedents.specs.Spans.{numbered_from}
-use Rattle.xlsx_precedents.specs.Spans.{first_row, greatest_from, last_row, span_told, spans_told}
+use Rattle.xlsx_precedents.specs.Spans.{numbered_from, first_row, greatest_from, last_row}
+use Rattle.xlsx_precedents.specs.Spans.{span_told, spans_told}
 use Rattle.xlsx_precedents.specs.declared.spans.Halves.{Halves}
 use Rattle.xlsx_precedents.specs.declared.spans.Span.{Span}
 

@@ -7,7 +7,7 @@ use Rattle.std.specs.List.Sorted.{IsNonDecreasingBy, IsPermutation}
 use Rattle.std.proofs.lemmas.Bool.Decides.{nat_tests}
 use Rattle.std.proofs.lemmas.List.Sums.{sum_by-cons}
 use Rattle.std.proofs.lemmas.List.Sorted.{sum_by-IsPermutation}
-use Rattle.cell_refs.specs.Positions.{is_in_area}
+use Rattle.cell_refs.specs.Words.{is_in_area}
 use Rattle.cell_refs.specs.declared.dimensions.Dimensions.{Dimensions}
 use Rattle.xlsx_precedents.specs.Numbers.{numbers_where}
 use Rattle.xlsx_precedents.specs.Spans.{Numbered, numbered_from, numbers_having}

@@ -1,21 +1,19 @@
 -- The areas of a text, piece by piece, and those of a moved text.
 use Rattle.std.proofs.Common.{◌≡◌, ℕ, suc, ◌-◌, arith, List, [], ◌∷◌, ◌++◌, length, map, Option}
-use Rattle.std.proofs.Common.{None, Some}
-use Rattle.std.proofs.Common.{refl, sym, ap, ◌∙◌}
+use Rattle.std.proofs.Common.{None, Some, refl, sym, ap, ◌∙◌}
 use Rattle.std.specs.Prelude.{ℤ}
 use Rattle.std.specs.List.{slice_get}
 use Rattle.std.proofs.lemmas.List.{map-append, append_assoc}
 use Rattle.cell_refs.specs.declared.dimensions.Dimensions.{Dimensions}
-use Rattle.formula_shift.specs.Areas.{area_named, own_references, last_byte}
-use Rattle.formula_shift.specs.Pieces.{PieceText, pieces}
-use Rattle.formula_shift.specs.Relocation.{moved, first_byte}
+use Rattle.formula_shift.specs.Words.{area_named, own_references, last_byte, PieceText, pieces}
+use Rattle.formula_shift.specs.Words.{moved, first_byte}
 use Rattle.formula_shift.proofs.Cutting.{joined_pieces-pieces}
 use Rattle.formula_shift.proofs.OwnReferences.{own_references-moved}
 use Rattle.xlsx_precedents.specs.Kept.{own_reference}
-use Rattle.xlsx_precedents.specs.Precedents.{areas, moved_areas}
+use Rattle.xlsx_precedents.specs.Precedents.{areas, shifted_areas}
 
 pub areas-moved : (text : List ℕ) (offset : ℤ × ℤ) →
-    areas (moved text offset) ≡ moved_areas text offset
+    areas (moved text offset) ≡ shifted_areas text offset
 unfolding areas
 areas-moved text offset = ap (map area_named) (own_references-moved text offset)
 

@@ -6,13 +6,12 @@ use Rattle.std.specs.Prelude.{nat_le, ◌==◌, ◌&&◌, filter}
 use Rattle.std.specs.List.{list_all, list_any, sum_by}
 use Rattle.std.specs.List.Sorted.{IsNonDecreasingBy, IsPermutation}
 use Rattle.std.proofs.lemmas.Bool.Decides.{nat_tests}
-use Rattle.std.proofs.lemmas.List.{append-nil, length-append, length-map, map-append}
-use Rattle.std.proofs.lemmas.List.{get_or_at}
+use Rattle.std.proofs.lemmas.List.{append-nil, length-append, length-map, map-append, get_or_at}
 use Rattle.std.proofs.lemmas.List.Elements.{filter-append}
 use Rattle.std.proofs.lemmas.List.Folds.{list_all-append}
 use Rattle.std.proofs.lemmas.List.Sums.{sum_by-cons}
 use Rattle.std.proofs.lemmas.List.Sorted.{length_permutation, sum_by-IsPermutation}
-use Rattle.cell_refs.specs.Positions.{is_in_area}
+use Rattle.cell_refs.specs.Words.{is_in_area}
 use Rattle.cell_refs.specs.declared.dimensions.Dimensions.{Dimensions}
 use Rattle.cell_refs.proofs.PositionOrder.{and_both, and_from}
 use Rattle.xlsx_precedents.proofs.Halving.{rising_rest}

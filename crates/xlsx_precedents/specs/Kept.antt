@@ -2,11 +2,9 @@
 use Rattle.std.specs.Prelude.{◌≡◌, ℕ, ◌&&◌, nat_le, Bool, true, List, map, length, Option}
 use Rattle.std.specs.Prelude.{replicate, [], option_to_list, if◌then◌else◌}
 use Rattle.std.specs.List.{flat_map, list_all, slice_range}
-use Rattle.cell_refs.specs.Positions.{is_rising, is_sheet_area}
+use Rattle.cell_refs.specs.Words.{is_rising, is_sheet_area}
 use Rattle.cell_refs.specs.declared.dimensions.Dimensions.{Dimensions}
-use Rattle.formula_shift.specs.Areas.{is_elsewhere}
-use Rattle.formula_shift.specs.Pieces.{PieceText}
-use Rattle.formula_shift.specs.Relocation.{piece_reference}
+use Rattle.formula_shift.specs.Words.{is_elsewhere, PieceText, piece_reference}
 use Rattle.formula_shift.specs.declared.reference.Reference.{Reference}
 use Rattle.xlsx_precedents.specs.Precedents.{all_named}
 use Rattle.xlsx_precedents.specs.declared.named_areas.NamedAreas.{NamedAreas}
@@ -29,7 +27,7 @@ abbrev pub lies_within : ℕ → (ℕ × ℕ) × (ℕ × ℕ) → Bool
 lies_within count cell = nat_le cell.1.0 cell.1.1 && nat_le cell.1.1 count
 
 -- what is known of cells, of areas, and of the cell of each area
-pub record AreGathered (cells : List ((ℕ × ℕ) × (ℕ × ℕ))) (named : NamedAreas) : Type 0 where
+pub record AreCellsGathered (cells : List ((ℕ × ℕ) × (ℕ × ℕ))) (named : NamedAreas) : Type 0 where
   pub within : list_all (lies_within (length named.areas.items)) cells ≡ true
   pub rising : is_rising (map (entry_in named.areas.items) cells) ≡ true
   pub areas : named.areas.items ≡ all_named (map (entry_in named.areas.items) cells)

@@ -1,10 +1,10 @@
 -- Areas by their rows, as an index keeps them: by their first rows, as a tree by halving.
-use Rattle.std.specs.Prelude.{◌≡◌, ℕ, zero, suc, ◌+◌, ◌*◌, ◌/◌, ◌^◌, ◌<◌, ◌≤◌, nat_le, ◌==◌}
-use Rattle.std.specs.Prelude.{Bool, true, List, [], ◌∷◌, ◌++◌, length, map, filter, take, drop}
-use Rattle.std.specs.Prelude.{IfSome, max}
+use Rattle.std.specs.Prelude.{◌≡◌, ℕ, zero, suc, ◌+◌, ◌*◌, ◌/◌, ◌^◌, ◌<◌, ◌≤◌, nat_le, ◌==◌, Bool}
+use Rattle.std.specs.Prelude.{true, List, [], ◌∷◌, ◌++◌, length, map, filter, take, drop, IfSome}
+use Rattle.std.specs.Prelude.{max}
 use Rattle.std.specs.List.{list_all, list_any, slice_get}
 use Rattle.std.specs.List.Sorted.{IsNonDecreasingBy, IsPermutation}
-use Rattle.cell_refs.specs.Positions.{is_in_area}
+use Rattle.cell_refs.specs.Words.{is_in_area}
 use Rattle.cell_refs.specs.declared.dimensions.Dimensions.{Dimensions}
 use Rattle.xlsx_precedents.specs.Precedents.{has_row}
 use Rattle.xlsx_precedents.specs.declared.spans.Halves.{Halves}
@@ -23,7 +23,7 @@ numbered_from from (area ∷ areas) = (area, from) ∷ numbered_from (from + 1) 
 abbrev pub span_told : Span → Numbered
 span_told span = (span.area, span.number)
 
--- the same of all
+-- the areas that are kept, each with its number
 abbrev pub spans_told : List Span → List Numbered
 spans_told spans = map span_told spans
 
@@ -31,7 +31,7 @@ spans_told spans = map span_told spans
 abbrev pub first_row : Numbered → ℕ
 first_row own = own.0.start.0
 
--- the row in which it ends
+-- the row in which an area ends
 abbrev pub last_row : Numbered → ℕ
 last_row own = own.0.end.0
 
@@ -54,7 +54,8 @@ KeepsGreatest (suc turns) spans =
     IfSome (slice_get spans middle) (λ (span : Span). IsGreatest span.greatest (spans_told spans)
     × KeepsGreatest turns (take middle spans) × KeepsGreatest turns (drop (middle + 1) spans))
 
--- the same, however often they are halved
+-- What stands in the middle of each stretch keeps the greatest last row of the stretch, however
+-- often the stretches are halved.
 abbrev pub AreHalved : List Span → Type 0
 AreHalved spans = (turns : ℕ) → KeepsGreatest turns spans
 
@@ -68,14 +69,14 @@ pub record AreSpans (areas : List Dimensions) (spans : List Span) : Type 0 where
   pub are : IsPermutation (numbered_from 0 areas) (spans_told spans)
   pub searched : AreSearched spans
 
--- areas by their middle
+-- areas are cut at their middle: those before it, the one there, and those behind
 pub record IsHalves (spans : List Span) (own : Halves) : Type 0 where
   pub is : spans ≡ own.left.now ++ own.middle ∷ own.right.now
   pub half : length own.left.now ≡ length spans / 2
   pub fewer_left : length own.left.now < length spans
   pub fewer_right : length own.right.now < length spans
 
--- what is known of both halves of such areas, and of their middle
+-- what is known of both halves of areas by their first rows, and of their middle
 pub record AreSearchedHalves (spans : List Span) (own : Halves) : Type 0 where
   pub greatest : IsGreatest own.middle.greatest (spans_told spans)
   pub left : AreSearched own.left.now

@@ -1,9 +1,8 @@
 //! The areas that a formula names.
 ghost use Rattle.std.specs.Prelude.{◌≡◌, ◌++◌, true, map, IfOk, OnOk};
 ghost use Rattle.std.specs.List.{list_all};
-ghost use Rattle.cell_refs.specs.Positions.{is_sheet_area};
-ghost use Rattle.formula_shift.specs.Areas.{last_byte, is_elsewhere, area_named};
-ghost use Rattle.formula_shift.specs.Pieces.{piece_text};
+ghost use Rattle.cell_refs.specs.Words.{is_sheet_area};
+ghost use Rattle.formula_shift.specs.Words.{last_byte, is_elsewhere, area_named, piece_text};
 ghost use Rattle.xlsx_precedents.specs.Kept.{own_reference};
 ghost use Rattle.xlsx_precedents.specs.Precedents.{areas};
 

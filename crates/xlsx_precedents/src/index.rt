@@ -3,14 +3,13 @@ ghost use Rattle.std.specs.Prelude.{◌≡◌, ◌+◌, ◌^◌, ◌<◌, ◌≤
 ghost use Rattle.std.specs.FinMap.{find};
 ghost use Rattle.std.specs.List.{slice_get};
 ghost use Rattle.std.specs.Option.{unwrap_or};
-ghost use Rattle.cell_data.specs.Cells.{AreInSheet};
-ghost use Rattle.cell_data.specs.Range.{cells_of};
-ghost use Rattle.cell_refs.specs.Positions.{position_cmp};
-ghost use Rattle.sorted_cells.specs.Kept.{kept_cells};
-ghost use Rattle.xlsx_precedents.specs.Kept.{entry_in, AreGathered};
+ghost use Rattle.cell_data.specs.Words.{AreInSheet, cells_of};
+ghost use Rattle.cell_refs.specs.Words.{position_cmp};
+ghost use Rattle.sorted_cells.specs.Words.{kept_cells};
+ghost use Rattle.xlsx_precedents.specs.Kept.{entry_in, AreCellsGathered};
 ghost use Rattle.xlsx_precedents.specs.Numbers.{put_once, is_this, last_cell, found_by};
-ghost use Rattle.xlsx_precedents.specs.Precedents.{named_by, formula_entry, dependents_of};
-ghost use Rattle.xlsx_precedents.specs.Precedents.{all_named, steps_within};
+ghost use Rattle.xlsx_precedents.specs.Precedents.{areas_named_by, formula_of_cell};
+ghost use Rattle.xlsx_precedents.specs.Precedents.{direct_dependents, all_named, steps_within};
 
 use crate::named_areas::NamedAreas;
 use crate::spans::{Span, numbers_at, spans_of};
@@ -37,15 +36,15 @@ pub struct DependencyIndex {
 impl Model for DependencyIndex {
     ghost use Rattle.std.specs.Prelude.{ℕ, List, map};
     ghost use Rattle.cell_refs.specs.declared.dimensions.Dimensions.{Dimensions};
-    ghost use Rattle.sorted_cells.specs.Kept.{kept_cells};
-    ghost use Rattle.xlsx_precedents.specs.Kept.{entry_in, AreGathered};
+    ghost use Rattle.sorted_cells.specs.Words.{kept_cells};
+    ghost use Rattle.xlsx_precedents.specs.Kept.{entry_in, AreCellsGathered};
     ghost use Rattle.xlsx_precedents.specs.Spans.{AreSpans};
 
     ghost Value = { List ((ℕ × ℕ) × List Dimensions) };
 
     ghost view = { λ index. map (entry_in index.named.areas.items) (kept_cells index.cells) };
 
-    ghost invariant = { λ index. AreGathered (kept_cells index.cells) index.named
+    ghost invariant = { λ index. AreCellsGathered (kept_cells index.cells) index.named
         × AreSpans index.named.areas.items index.spans.items };
 }
 
@@ -56,7 +55,7 @@ impl DependencyIndex {
     /// its cell, its number and a row.
     pub fn build(alloc: Global, formulas: &Range<String>) -> Result<DependencyIndex, AllocError>
         ensures entries { IfOk result
-            (λ index. index ≡ map named_by (map formula_entry (cells_of formulas.now))) }
+            (λ index. index ≡ map areas_named_by (map formula_of_cell (cells_of formulas.now))) }
         ensures sheet { IfOk result AreInSheet }
     {
         let (cells, named) = gather(alloc, formulas)?;
@@ -82,7 +81,7 @@ impl DependencyIndex {
     /// The cells whose formulas name the cell at a position, each once, row by row, as rows and
     /// columns counted from 0.
     pub fn dependents(&self, alloc: Global, pos: (u32, u32)) -> Result<Vec<(u32, u32)>, AllocError>
-        ensures { IfOk result (λ found. found.items ≡ dependents_of self.now pos) }
+        ensures { IfOk result (λ found. found.items ≡ direct_dependents self.now pos) }
     {
         self.dependents_uncounted::<Brand>(alloc, pos, Blank::new(1))
     }
@@ -96,7 +95,7 @@ impl DependencyIndex {
         pos: (u32, u32),
         steps: &mut Steps<L>,
     ) -> Result<Vec<(u32, u32)>, AllocError>
-        ensures value { IfOk result (λ found. found.items ≡ dependents_of self.now pos) }
+        ensures value { IfOk result (λ found. found.items ≡ direct_dependents self.now pos) }
         ensures counted { steps.old ≤ steps.new }
         ensures cost { (digits : ℕ) → length (all_named self.now) < 2 ^ digits →
             steps.new ≤ steps.old + steps_within self.now pos digits }
@@ -115,7 +114,7 @@ impl DependencyIndex {
         requires name { blank.name ≡ L.name }
         requires parts { blank.parts ≡ L.parts }
         requires some { 0 < blank.parts }
-        ensures { IfOk result (λ found. found.items ≡ dependents_of self.now pos) }
+        ensures { IfOk result (λ found. found.items ≡ direct_dependents self.now pos) }
     {
         let mut steps = Steps::<L>::new(blank);
         self.dependents_counted(alloc, pos, &mut steps)
@@ -127,10 +126,10 @@ fn gather(
     alloc: Global,
     formulas: &Range<String>,
 ) -> Result<(SortedCells<(usize, usize)>, NamedAreas), AllocError>
-    ensures gathered { IfOk result (λ all. AreGathered (kept_cells all.0) all.1) }
+    ensures gathered { IfOk result (λ all. AreCellsGathered (kept_cells all.0) all.1) }
     ensures entries { IfOk result
         (λ all. map (entry_in all.1.areas.items) (kept_cells all.0)
-        ≡ map named_by (map formula_entry (cells_of formulas.now))) }
+        ≡ map areas_named_by (map formula_of_cell (cells_of formulas.now))) }
     ensures sheet { IfOk result
         (λ all. AreInSheet (map (entry_in all.1.areas.items) (kept_cells all.0))) }
 {

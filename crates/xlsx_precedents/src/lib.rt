@@ -37,5 +37,5 @@ mod spans;
 pub use areas::areas_of;
 pub use counted_steps::Steps;
 pub use index::DependencyIndex;
-pub use laws::areas_of_a_moved_text_are_moved;
+pub use laws::areas_of_a_shifted_text_are_shifted;
 pub use lines::{push_dependents, push_precedents};

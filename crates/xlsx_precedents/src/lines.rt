@@ -1,12 +1,12 @@
 //! The lines of what formulas name (docs/FORMAT.md).
 ghost use Rattle.std.specs.Prelude.{◌≡◌, ◌++◌, map, string_bytes, All, OnOk, OnErr};
 ghost use Rattle.std.specs.List.{flat_map};
-ghost use Rattle.cell_data.specs.Range.{cells_of};
-ghost use Rattle.escaped_text.specs.Escaped.{Extends};
+ghost use Rattle.cell_data.specs.Words.{cells_of};
+ghost use Rattle.escaped_text.specs.Escaped.{AddsBehind};
 ghost use Rattle.list_lines.specs.Inside.{IsCellOfWorksheet};
 ghost use Rattle.list_lines.specs.Lines.{position_line};
 ghost use Rattle.xlsx_precedents.specs.Lines.{precedents_lines, dependents_lines};
-ghost use Rattle.xlsx_precedents.specs.Precedents.{formula_entry};
+ghost use Rattle.xlsx_precedents.specs.Precedents.{formula_of_cell};
 
 use crate::areas::push_areas;
 use crate::index::DependencyIndex;
@@ -17,9 +17,9 @@ use std::alloc::AllocError;
 
 /// Appends those lines. A refusal may leave a front of them behind.
 fn push_precedents_lines(out: &mut String, formulas: &Range<String>) -> Result<(), AllocError>
-    ensures ok { let printed = precedents_lines (map formula_entry (cells_of formulas.now)) in
+    ensures ok { let printed = precedents_lines (map formula_of_cell (cells_of formulas.now)) in
         OnOk result (string_bytes out.new ≡ string_bytes out.old ++ printed) }
-    ensures err { OnErr result (Extends (string_bytes out.old) (string_bytes out.new)) }
+    ensures err { OnErr result (AddsBehind (string_bytes out.old) (string_bytes out.new)) }
 {
     let mut areas = Vec::new(*out.allocator());
     for (pos, formula) in formulas.used() {
@@ -34,7 +34,7 @@ fn push_precedents_lines(out: &mut String, formulas: &Range<String>) -> Result<(
 /// names, each behind a tab. No index is built. A refusal leaves the text as it was.
 #[tactic(auto, using(escaped_text::proofs::Extending::cut_back))]
 pub fn push_precedents(out: &mut String, formulas: &Range<String>) -> Result<(), AllocError>
-    ensures ok { let printed = precedents_lines (map formula_entry (cells_of formulas.now)) in
+    ensures ok { let printed = precedents_lines (map formula_of_cell (cells_of formulas.now)) in
         OnOk result (string_bytes out.new ≡ string_bytes out.old ++ printed) }
     ensures err { OnErr result (string_bytes out.new ≡ string_bytes out.old) }
 {
@@ -48,7 +48,7 @@ fn push_positions(out: &mut String, cells: &[(u32, u32)]) -> Result<(), AllocErr
     requires { All IsCellOfWorksheet cells.now }
     ensures ok { OnOk result
         (string_bytes out.new ≡ string_bytes out.old ++ flat_map position_line cells.now) }
-    ensures err { OnErr result (Extends (string_bytes out.old) (string_bytes out.new)) }
+    ensures err { OnErr result (AddsBehind (string_bytes out.old) (string_bytes out.new)) }
 {
     for pos in cells {
         push_position_line(out, *pos)?;
@@ -64,7 +64,7 @@ pub fn push_dependents(
     formulas: &Range<String>,
     pos: (u32, u32),
 ) -> Result<(), AllocError>
-    ensures ok { let printed = dependents_lines (map formula_entry (cells_of formulas.now)) pos in
+    ensures ok { let printed = dependents_lines (map formula_of_cell (cells_of formulas.now)) pos in
         OnOk result (string_bytes out.new ≡ string_bytes out.old ++ printed) }
     ensures err { OnErr result (string_bytes out.new ≡ string_bytes out.old) }
 {

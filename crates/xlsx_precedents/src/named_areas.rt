@@ -1,7 +1,7 @@
 //! All areas that formulas name, and the cell of each.
 ghost use Rattle.std.specs.Prelude.{◌≡◌, ◌≤◌, ◌++◌, [], length, replicate, true, OnOk};
 ghost use Rattle.std.specs.List.{list_all, slice_get, slice_range};
-ghost use Rattle.cell_refs.specs.Positions.{is_sheet_area};
+ghost use Rattle.cell_refs.specs.Words.{is_sheet_area};
 ghost use Rattle.xlsx_precedents.specs.Precedents.{areas};
 
 use crate::areas::push_areas;

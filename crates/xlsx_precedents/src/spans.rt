@@ -1,12 +1,11 @@
 //! Areas by their rows: sorted by their first rows, as a tree by halving.
 ghost use Rattle.std.specs.Prelude.{◌≡◌, ◌++◌, [], IfOk, IfNone, IfSome, OnOk};
 ghost use Rattle.std.specs.List.Sorted.{IsNonDecreasingBy, IsPermutation};
-ghost use Rattle.cell_refs.specs.Positions.{is_in_area};
+ghost use Rattle.cell_refs.specs.Words.{is_in_area};
 ghost use Rattle.xlsx_precedents.specs.Numbers.{numbers_where};
 ghost use Rattle.xlsx_precedents.specs.Spans.{AreSearched, AreSearchedHalves, AreSpans, IsHalves};
-ghost use Rattle.xlsx_precedents.specs.Spans.{KeepsSpans, greatest_from};
-ghost use Rattle.xlsx_precedents.specs.Spans.{SearchesIn, first_row, numbered_from};
-ghost use Rattle.xlsx_precedents.specs.Spans.{numbers_having, spans_told};
+ghost use Rattle.xlsx_precedents.specs.Spans.{KeepsSpans, greatest_from, SearchesIn, first_row};
+ghost use Rattle.xlsx_precedents.specs.Spans.{numbered_from, numbers_having, spans_told};
 
 use cell_refs::Dimensions;
 use counted_steps::Steps;

@@ -1,10 +1,8 @@
 -- What an event does to what a part says of a name of the users' own.
 use Rattle.std.proofs.Common.{◌≡◌, ◌∷◌, ℕ, List, length, Bool, true, Option, Err, refl}
-use Rattle.part_events.specs.Event.{Tag, Event, Leaf, start, leaf}
-use Rattle.part_events.specs.JoinedText.{is_unknown}
-use Rattle.xlsx_sections.specs.Refusal.{Refusal, no_character, placed_at}
+use Rattle.part_events.specs.Words.{Tag, Event, Leaf, start, leaf, is_unknown}
+use Rattle.xlsx_sections.specs.Words.{Refusal, no_character, placed_at, name_by}
 use Rattle.xlsx_properties.specs.CustomProperties.{OpenCustom, custom_from, is_property, is_taken}
-use Rattle.xlsx_sections.specs.Names.{name_by}
 
 pub name_refused : (name : List ℕ) (own : Option OpenCustom) (takes : Bool) (tag : Tag)
     (events : List Event) (refusal : Refusal) → is_property tag ≡ true

@@ -2,9 +2,8 @@
 use Rattle.part_events.specs.declared.fault.XmlFault.TheVariants.{Break, Entity}
 use Rattle.xlsx_error.specs.declared.error.XlsxError.{XlsxError}
 use Rattle.xlsx_error.specs.declared.error.XlsxError.TheVariants.{OutOfMemory, Io, Xml, XmlAttr}
-use Rattle.xlsx_sections.specs.Names.{IsNameError}
-use Rattle.xlsx_sections.specs.Refusal.{IsDecodeError}
-use Rattle.xlsx_parts.specs.WholePart.{IsBreakError}
+use Rattle.xlsx_sections.specs.Words.{IsNameError, IsDecodeError}
+use Rattle.xlsx_parts.specs.Words.{IsBreakError}
 use Rattle.xlsx_properties.specs.Errors.{IsPropertyError}
 
 pub step_error : (error : XlsxError) → IsBreakError error → IsPropertyError error

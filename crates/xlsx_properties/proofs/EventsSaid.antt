@@ -1,21 +1,14 @@
 -- How a part is read event by event for what it says by keys.
 use Rattle.std.proofs.Common.{◌≡◌, ◌∷◌, ◌∙◌, [], ℕ, suc, ◌+◌, List, length, true, Option, None}
-use Rattle.std.proofs.Common.{Some}
-use Rattle.std.proofs.Common.{Result, Ok, Err, sym, ap}
-use Rattle.part_events.specs.Event.{Event}
-use Rattle.part_events.specs.Nesting.{whole}
-use Rattle.part_events.specs.Package.{PackageState}
-use Rattle.part_events.specs.Reading.{Reading, events_of}
-use Rattle.part_events.specs.Walk.{section_ahead}
+use Rattle.std.proofs.Common.{Some, Result, Ok, Err, sym, ap}
+use Rattle.part_events.specs.Words.{Event, whole, PackageState, Reading, events_of, section_ahead}
 use Rattle.part_events.specs.declared.fault.XmlFault.TheVariants.{Break}
 use Rattle.xlsx_error.specs.declared.error.XlsxError.{XlsxError}
 use Rattle.xlsx_error.specs.declared.error.XlsxError.TheVariants.{OutOfMemory, Io, Xml}
-use Rattle.xlsx_sections.specs.Answers.{or_earlier, or_later}
-use Rattle.xlsx_sections.specs.PartSection.{KeepsSection}
-use Rattle.xlsx_sections.specs.Refusal.{Refusal, RefusedAs, RefusedAt}
-use Rattle.xlsx_sections.specs.Steps.{IsEventInside}
+use Rattle.xlsx_sections.specs.Words.{or_earlier, or_later, KeepsSection, Refusal, RefusedAs}
+use Rattle.xlsx_sections.specs.Words.{RefusedAt, IsEventInside}
 use Rattle.xlsx_sections.proofs.Refused.{refused_weaker}
-use Rattle.xlsx_parts.specs.WholePart.{WholePartCause, WholePartFails}
+use Rattle.xlsx_parts.specs.Words.{WholePartCause, WholePartFails}
 use Rattle.xlsx_parts.proofs.WholeRead.{BeginsPart}
 use Rattle.xlsx_properties.specs.Said.{Saying, AreRefused}
 
@@ -25,7 +18,7 @@ pub record KeepsEvents {K A : Type 0} (before now : K → Option A) (saying foll
     (first here : Reading) : Type 0 where
   pub keeps : KeepsSection 0 first here
   pub said :
-      first.source.is_told ≡ true → (key : K) →
+      first.source.is_visible ≡ true → (key : K) →
       or_earlier (now key) (following key (section_ahead 0 here))
       ≡ or_earlier (before key) (saying key (section_ahead 0 first))
 
@@ -60,8 +53,8 @@ told_cause refused events error refuses = refuses
 
 part_refused : (at behind : ℕ) (first : Reading) (own : Refusal → Type 0)
     (refused : List Event → Refusal → Type 0) (new : PackageState) (error : XlsxError)
-    → (first.source.is_told ≡ true → at + suc behind ≡ length (whole (events_of first)))
-    → (first.source.is_told ≡ true → (refusal : Refusal) → own refusal
+    → (first.source.is_visible ≡ true → at + suc behind ≡ length (whole (events_of first)))
+    → (first.source.is_visible ≡ true → (refusal : Refusal) → own refusal
     → refused (whole (events_of first)) refusal) → RefusedAt own at behind error
     → WholePartFails refused first new error
 part_refused at behind first own refused new Io there weaker fails = absurd fails
@@ -75,7 +68,7 @@ part_refused at behind first own refused new error there weaker fails = λ told.
 -- the next event is refused, and so is the part
 pub events_refused : {K A : Type 0} {before now : K → Option A} {saying following : Saying K A}
     {event : Event} {place : ℕ} {first old new : Reading} (last : PackageState)
-    (error : XlsxError) → (first.source.is_told ≡ true → BeginsPart first)
+    (error : XlsxError) → (first.source.is_visible ≡ true → BeginsPart first)
     → KeepsEvents before now saying following first old → IsEventInside 0 event place first old new
     → ((events : List Event) → RefusedAt (λ refusal. (key : K) → following key (event ∷ events)
     ≡ Err refusal) place (length events) error)
@@ -95,9 +88,9 @@ events_refused {K = K} {before = before} {now = now} {saying = saying} {followin
 
 -- the part has ended
 pub events_ended : {K A : Type 0} {before now : K → Option A} {saying following : Saying K A}
-    {first old : Reading} → (first.source.is_told ≡ true → BeginsPart first)
+    {first old : Reading} → (first.source.is_visible ≡ true → BeginsPart first)
     → KeepsEvents before now saying following first old
-    → ((key : K) → following key [] ≡ Ok None) → first.source.is_told ≡ true
+    → ((key : K) → following key [] ≡ Ok None) → first.source.is_visible ≡ true
     → whole (events_of first) ≡ events_of first → section_ahead 0 old ≡ [] → (key : K)
     → or_earlier (before key) (saying key (events_of first)) ≡ Ok (now key)
 events_ended {before = before} {now = now} {saying = saying} {following = following}

@@ -1,16 +1,13 @@
 -- Parts that say properties have no cause to be refused.
-use Rattle.std.proofs.Common.{◌≡◌, inl, inr, ℕ, List, [], length, Option, None, Some, Result}
-use Rattle.std.proofs.Common.{Ok, Err, refl, sym, ap, ◌∙◌, arith}
-use Rattle.part_events.specs.Event.{Event}
-use Rattle.part_events.specs.Nesting.{whole}
-use Rattle.part_events.specs.Package.{Part, part_of}
+use Rattle.std.proofs.Common.{◌≡◌, inl, inr, ℕ, List, [], length, Option, None, Some, Result, Ok}
+use Rattle.std.proofs.Common.{Err, refl, sym, ap, ◌∙◌, arith}
+use Rattle.part_events.specs.Words.{Event, whole, Part, part_of}
 use Rattle.part_events.specs.declared.fault.XmlFault.TheVariants.{Break}
 use Rattle.xlsx_error.specs.declared.error.XlsxError.{XlsxError}
 use Rattle.xlsx_error.specs.declared.error.XlsxError.TheVariants.{Xml}
-use Rattle.xlsx_sections.specs.Answers.{or_later}
-use Rattle.xlsx_sections.specs.Refusal.{Refusal}
+use Rattle.xlsx_sections.specs.Words.{or_later, Refusal}
 use Rattle.xlsx_sections.proofs.Refused.{never_refused}
-use Rattle.xlsx_parts.specs.WholePart.{WholePartCause, IfThere}
+use Rattle.xlsx_parts.specs.Words.{WholePartCause, IfThere}
 use Rattle.xlsx_properties.specs.CustomProperties.{custom_in}
 use Rattle.xlsx_properties.specs.Parts.{said_by, IsWholeIfThere, SayProperties, PropertiesCause}
 use Rattle.xlsx_properties.specs.Parts.{core_part, program_part, custom_part}

@@ -5,19 +5,18 @@ use Rattle.std.proofs.Common.{append-nil, append_assoc, inl, inr, ◌⊎◌, Bor
 use Rattle.std.specs.Prelude.{if◌then◌else◌, IsSome, option_map}
 use Rattle.std.specs.Option.{option_or}
 use Rattle.part_events.specs.Event as event
-use Rattle.part_events.specs.Event.{Tag, Event, Leaf, start, end, leaf, event_of}
+use Rattle.part_events.specs.Words.{Tag, Event, Leaf, start, end, leaf, event_of, event_text}
+use Rattle.part_events.specs.Words.{joined_text, is_unknown, unknown_entity}
 use Rattle.part_events.specs.declared.event.PartEvent.{PartEvent}
 use Rattle.part_events.specs.declared.event.PartEvent.TheVariants.{Text, CharData, EntityRef, Other}
 use Rattle.part_events.specs.declared.event.PartEvent.TheVariants as part_event
 use Rattle.part_events.specs.declared.flaw.Flaw.{Flaw}
-use Rattle.part_events.specs.JoinedText.{event_text, joined_text, is_unknown, unknown_entity}
-use Rattle.xlsx_sections.specs.Answers.{or_earlier, or_later}
-use Rattle.xlsx_sections.specs.Refusal.{Refusal, no_character}
+use Rattle.xlsx_sections.specs.Words.{or_earlier, or_later, Refusal, no_character}
 use Rattle.xlsx_properties.specs.Property.{is_same}
-use Rattle.xlsx_properties.specs.PropertyTexts.{Listed, OpenText, property_of, property_in, opened}
-use Rattle.xlsx_properties.specs.PropertyTexts.{text_behind, text_if, if_wanted, if_written, leaves}
-use Rattle.xlsx_properties.specs.PropertyTexts.{text_or_refused, ends_next, text_kept, continued}
-use Rattle.xlsx_properties.specs.PropertyTexts.{with_text}
+use Rattle.xlsx_properties.specs.PropertyTexts.{Listed, PropertySoFar, property_of, property_in}
+use Rattle.xlsx_properties.specs.PropertyTexts.{property_begun, property_text_behind, text_if}
+use Rattle.xlsx_properties.specs.PropertyTexts.{if_wanted, if_written, leaves, text_or_refused}
+use Rattle.xlsx_properties.specs.PropertyTexts.{ends_next, text_kept, continued, with_text}
 use Rattle.xlsx_properties.specs.declared.property.Property.{Property}
 
 none_earlier : {A : Type 0} (answer : Result (Option A) Refusal) → or_earlier None answer ≡ answer
@@ -40,7 +39,7 @@ later_kept kept (Some own) (Ok (Some a)) = refl
 later_kept kept (Some own) (Err refusal) = refl
 
 -- a start gives up the text of the one before
-unless_closed : (wanted : Property) (started : Option OpenText) (listed : Listed) (tag : Tag)
+unless_closed : (wanted : Property) (started : Option PropertySoFar) (listed : Listed) (tag : Tag)
     (events : List Event)
     → continued listed wanted started (start tag ∷ events)
     ≡ property_in listed wanted (start tag ∷ events)
@@ -55,26 +54,26 @@ begun : (wanted : Property) (property : Option Property) (events : List Event)
     (others : Result (Option (List ℕ)) Refusal) (listed : Listed)
     → property_in listed wanted events ≡ others
     → or_later (text_if wanted property events) others
-    ≡ continued listed wanted (opened property) events
+    ≡ continued listed wanted (property_begun property) events
 begun wanted None events others listed same = none_earlier others ∙ sym same
 begun wanted (Some own) events others listed same =
-    ap (or_later (if_wanted (is_same wanted own) (text_behind [] events))) (sym same)
+    ap (or_later (if_wanted (is_same wanted own) (property_text_behind [] events))) (sym same)
 
-pub behind_start : (listed : Listed) (wanted : Property) (started : Option OpenText)
+pub behind_start : (listed : Listed) (wanted : Property) (started : Option PropertySoFar)
     (kept : Option (List ℕ)) (tag : Tag) (events : List Event)
     → or_earlier kept (continued listed wanted started (start tag ∷ events))
-    ≡ or_earlier kept (continued listed wanted (opened (property_of listed tag)) events)
+    ≡ or_earlier kept (continued listed wanted (property_begun (property_of listed tag)) events)
 behind_start listed wanted started kept tag events =
     ap (or_earlier kept) (unless_closed wanted started listed tag events
     ∙ begun wanted (property_of listed tag) events (property_in listed wanted events) listed refl)
 
 text_at_end : (b : Bool) (text : List ℕ) (name : List ℕ) (events : List Event)
-    → if_wanted b (text_behind text (end name ∷ events))
+    → if_wanted b (property_text_behind text (end name ∷ events))
     ≡ Ok (if b then if_written text else None)
 text_at_end b text name events =
     ap (λ (own : List ℕ). Ok (if b then if_written own else None)) (append-nil text)
 
-pub behind_end : (listed : Listed) (wanted : Property) (started : Option OpenText)
+pub behind_end : (listed : Listed) (wanted : Property) (started : Option PropertySoFar)
     (kept : Option (List ℕ)) (name : List ℕ) (events : List Event)
     → or_earlier kept (continued listed wanted started (end name ∷ events))
     ≡ or_earlier (option_or (text_kept wanted started) kept) (continued listed wanted None events)
@@ -98,8 +97,8 @@ by_known text own others beyond left ends (Some behind) same =
 
 -- a leaf goes on with the text of the start before
 text_further : (text : List ℕ) (kind : Leaf) (events : List Event) → is_unknown (leaf kind) ≡ false
-    → text_behind text (leaf kind ∷ events)
-    ≡ text_behind (text ++ event_text false (leaf kind)) events
+    → property_text_behind text (leaf kind ∷ events)
+    ≡ property_text_behind (text ++ event_text false (leaf kind)) events
 text_further text kind events known =
     let own = length (leaves events) in
     let left : suc (length events) - suc own ≡ length events - own = omega arith in
@@ -107,7 +106,7 @@ text_further text kind events known =
     (by_known text kind (leaves events) (suc (length events) - suc own) (length events - own)
     (ends_next events) (unknown_entity (leaves events)) left)
 
-behind_text : (listed : Listed) (wanted : Property) (own : OpenText)
+behind_text : (listed : Listed) (wanted : Property) (own : PropertySoFar)
     (kept : Option (List ℕ)) (kind : Leaf) (events : List Event) → is_unknown (leaf kind) ≡ false
     → or_earlier kept (continued listed wanted (Some own) (leaf kind ∷ events))
     ≡ or_earlier kept (continued listed wanted
@@ -117,7 +116,7 @@ behind_text listed wanted own kept kind events known =
     or_earlier kept (or_later (if_wanted (is_same wanted own.property) answer)
     (property_in listed wanted events))) (text_further own.text kind events known)
 
-pub behind_leaf : (listed : Listed) (wanted : Property) (started : Option OpenText)
+pub behind_leaf : (listed : Listed) (wanted : Property) (started : Option PropertySoFar)
     (kept : Option (List ℕ)) (kind : Leaf) (events : List Event)
     → (IsSome started → is_unknown (leaf kind) ≡ false)
     → or_earlier kept (continued listed wanted started (leaf kind ∷ events))
@@ -134,7 +133,7 @@ leaves_fit (end name ∷ events) = omega arith
 leaves_fit (leaf kind ∷ events) = omega (arith, leaves_fit events)
 
 text_refused : (text : List ℕ) (kind : Leaf) (events : List Event) → is_unknown (leaf kind) ≡ true
-    → text_behind text (leaf kind ∷ events) ≡ Err (no_character (length events))
+    → property_text_behind text (leaf kind ∷ events) ≡ Err (no_character (length events))
 text_refused text kind events unknown =
     let own = length (leaves events) in
     let place : own + (suc (length events) - suc own) ≡ length events =
@@ -142,7 +141,7 @@ text_refused text kind events unknown =
     rw unknown (ap (λ (behind : ℕ). Err (no_character behind)) place)
 
 -- and one without a character refuses it
-refused_at_text : (listed : Listed) (wanted : Property) (own : OpenText) (kind : Leaf)
+refused_at_text : (listed : Listed) (wanted : Property) (own : PropertySoFar) (kind : Leaf)
     (events : List Event) → is_unknown (leaf kind) ≡ true
     → continued listed wanted (Some own) (leaf kind ∷ events) ≡ Err (no_character (length events))
 refused_at_text listed wanted own kind events unknown =
@@ -150,7 +149,8 @@ refused_at_text listed wanted own kind events unknown =
     or_later (if_wanted (is_same wanted own.property) answer)
     (property_in listed wanted events)) (text_refused own.text kind events unknown)
 
-pub leaf_refused : (listed : Listed) (wanted : Property) (started : Option OpenText) (kind : Leaf)
+pub leaf_refused : (listed : Listed) (wanted : Property) (started : Option PropertySoFar)
+    (kind : Leaf)
     (events : List Event) → IsSome started → is_unknown (leaf kind) ≡ true
     → continued listed wanted started (leaf kind ∷ events) ≡ Err (no_character (length events))
 leaf_refused listed wanted None kind events some unknown = absurd (cc)

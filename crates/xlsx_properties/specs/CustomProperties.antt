@@ -1,15 +1,11 @@
 -- The properties that users named (ECMA-376 part 1, section 22.3).
-use Rattle.std.specs.Prelude.{ℕ, List, [], ◌∷◌, ◌++◌, length, Bool, ◌&&◌, false, not}
-use Rattle.std.specs.Prelude.{if◌then◌else◌, codes, Option, Some, None, is_none, Result, Ok, Err}
+use Rattle.std.specs.Prelude.{ℕ, List, [], ◌∷◌, ◌++◌, length, Bool, ◌&&◌, false, not, if◌then◌else◌}
+use Rattle.std.specs.Prelude.{codes, Option, Some, None, is_none, Result, Ok, Err}
 use Rattle.std.specs.Str.{bytes_eq}
-use Rattle.part_events.specs.Event.{Tag, Event, start, end, leaf}
-use Rattle.part_events.specs.JoinedText.{event_text, is_unknown}
-use Rattle.part_events.specs.Section.{is_named}
-use Rattle.xlsx_sections.specs.Answers.{or_earlier}
-use Rattle.xlsx_sections.specs.Refusal.{Refusal, no_character, placed_at}
-use Rattle.xlsx_sections.specs.Names.{name_by}
+use Rattle.part_events.specs.Words.{Tag, Event, start, end, leaf, event_text, is_unknown, is_named}
+use Rattle.xlsx_sections.specs.Words.{or_earlier, Refusal, no_character, placed_at, name_by}
 
--- a start is a property of the users
+-- a start of the element `property`, a property of the users
 abbrev pub is_property : Tag → Bool
 is_property tag = is_named (codes "property" ∷ []) tag
 
@@ -73,6 +69,6 @@ custom_from name property takes (leaf kind ∷ events) =
     if is_taken property takes && is_unknown (leaf kind) then Err (no_character (length events))
     else custom_from name (behind_leaf takes (leaf kind) property) takes events
 
--- what a part says of a name
+-- what the part of the users' own properties says of a name
 abbrev pub custom_in : List ℕ → List Event → Result (Option (List ℕ)) Refusal
 custom_in name events = custom_from name None false events

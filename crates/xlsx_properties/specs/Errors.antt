@@ -4,7 +4,7 @@ use Rattle.part_events.specs.declared.fault.XmlFault.TheVariants.{Break, Entity}
 use Rattle.xlsx_error.specs.declared.error.XlsxError.{XlsxError}
 use Rattle.xlsx_error.specs.declared.error.XlsxError.TheVariants.{OutOfMemory, Io, Xml, XmlAttr}
 
--- whatever the package tells
+-- the refusals that a part of properties can have, whatever the package tells
 abbrev pub IsPropertyError : XlsxError → Type 0
 IsPropertyError Io = ⊤
 IsPropertyError OutOfMemory = ⊤

@@ -15,7 +15,7 @@ use Rattle.xlsx_properties.specs.declared.workbook_properties.WorkbookProperties
   WorkbookProperties,
 }
 
--- the text of a property
+-- the text that is kept of a property
 abbrev pub held : Property → WorkbookProperties → Option (List ℕ)
 held Creator kept = option_map string_bytes kept.creator
 held LastModifiedBy kept = option_map string_bytes kept.last_modified_by
@@ -47,7 +47,7 @@ entry_texts entry = (string_bytes entry.0, string_bytes entry.1)
 abbrev pub custom_texts : WorkbookProperties → List (List ℕ × List ℕ)
 custom_texts kept = map entry_texts kept.custom_properties.entries
 
--- these properties have the same texts
+-- two lists of properties have the same texts
 pub record AreSame (one other : WorkbookProperties) : Type 0 where
   pub held : (own : Property) → held own one ≡ held own other
   pub custom : custom_texts one ≡ custom_texts other

@@ -1,12 +1,9 @@
 -- The parts that say the properties of a workbook, each of which may be absent.
 use Rattle.std.specs.Prelude.{◌≡◌, ◌⊎◌, ℕ, ◌+◌, List, codes, Option, Some, None, Result, Ok}
-use Rattle.part_events.specs.Event.{Event}
-use Rattle.part_events.specs.Nesting.{whole}
-use Rattle.part_events.specs.Package.{Part, part_of, event_count}
+use Rattle.part_events.specs.Words.{Event, whole, Part, part_of, event_count}
 use Rattle.xlsx_error.specs.declared.error.XlsxError.{XlsxError}
-use Rattle.xlsx_sections.specs.Answers.{or_later}
-use Rattle.xlsx_sections.specs.Refusal.{Refusal}
-use Rattle.xlsx_parts.specs.WholePart.{WholePartCause, IfThere}
+use Rattle.xlsx_sections.specs.Words.{or_later, Refusal}
+use Rattle.xlsx_parts.specs.Words.{WholePartCause, IfThere}
 use Rattle.xlsx_properties.specs.CustomProperties.{custom_in}
 use Rattle.xlsx_properties.specs.Property.{core_properties, program_properties}
 use Rattle.xlsx_properties.specs.PropertyTexts.{property_in}
@@ -47,7 +44,7 @@ property_said parts wanted =
     or_later (said_by (property_in core_properties) wanted (part_of parts core_part))
     (said_by (property_in program_properties) wanted (part_of parts program_part))
 
--- and what they say of a name of the users' own
+-- what the parts say of a name that users gave to a property
 abbrev pub custom_said : List Part → List ℕ → Result (Option (List ℕ)) Refusal
 custom_said parts name = said_by custom_in name (part_of parts custom_part)
 
@@ -58,12 +55,12 @@ PropertiesCause parts error =
     ⊎ (SaidCause (property_in program_properties) program_part parts error
     ⊎ SaidCause custom_in custom_part parts error)
 
--- how many events the three parts have
+-- how many events the three parts of properties have
 abbrev pub property_events : List Part → ℕ
 property_events parts =
     event_count parts core_part + (event_count parts program_part + event_count parts custom_part)
 
--- no end breaks the nesting of one of them
+-- no end breaks the nesting of one of the three parts of properties
 pub record AreWhole (parts : List Part) : Type 0 where
   pub core : IsWholeIfThere (part_of parts core_part)
   pub program : IsWholeIfThere (part_of parts program_part)

@@ -20,7 +20,8 @@ program_properties =
     ∷ (codes "Manager", Some Manager)
     ∷ []
 
--- and those that the core part may have: these, too
+-- the elements that the core part may have, each with its property: its own, and those that the
+-- program's part may have, too
 abbrev pub core_properties : List (List ℕ × Option Property)
 core_properties =
     (codes "creator", Some Creator)
@@ -38,24 +39,24 @@ core_properties =
     ∷ program_properties
 
 -- the place of a property among all, in the order in which they are listed
-abbrev pub order_of : Property → ℕ
-order_of Creator = 0
-order_of LastModifiedBy = 1
-order_of Created = 2
-order_of Modified = 3
-order_of Title = 4
-order_of Subject = 5
-order_of Description = 6
-order_of Keywords = 7
-order_of Category = 8
-order_of ContentStatus = 9
-order_of Revision = 10
-order_of Version = 11
-order_of Application = 12
-order_of AppVersion = 13
-order_of Company = 14
-order_of Template = 15
-order_of Manager = 16
+abbrev pub property_place : Property → ℕ
+property_place Creator = 0
+property_place LastModifiedBy = 1
+property_place Created = 2
+property_place Modified = 3
+property_place Title = 4
+property_place Subject = 5
+property_place Description = 6
+property_place Keywords = 7
+property_place Category = 8
+property_place ContentStatus = 9
+property_place Revision = 10
+property_place Version = 11
+property_place Application = 12
+property_place AppVersion = 13
+property_place Company = 14
+property_place Template = 15
+property_place Manager = 16
 
 -- each property with the name of its field, in that order
 abbrev pub named_properties : List (List ℕ × Property)
@@ -79,6 +80,6 @@ named_properties =
     ∷ (codes "manager", Manager)
     ∷ []
 
--- two properties are the same
+-- two properties of a workbook are one
 abbrev pub is_same : Property → Property → Bool
-is_same wanted own = order_of wanted == order_of own
+is_same wanted own = property_place wanted == property_place own

@@ -1,12 +1,9 @@
 -- What a part says of a workbook's properties: the texts of its listed starts, of each the last.
 use Rattle.std.specs.Prelude.{◌≡◌, ℕ, ◌+◌, ◌-◌, List, [], ◌∷◌, ◌++◌, length, Bool, true, false}
 use Rattle.std.specs.Prelude.{refl, if◌then◌else◌, Option, Some, None, Result, Ok, Err}
-use Rattle.attr_text.specs.Attributes.{local_name_of}
-use Rattle.part_events.specs.Event.{Tag, Event, start, end, leaf}
-use Rattle.part_events.specs.JoinedText.{joined_text, unknown_entity}
-use Rattle.xlsx_sections.specs.Answers.{or_later}
-use Rattle.xlsx_sections.specs.Names.{named}
-use Rattle.xlsx_sections.specs.Refusal.{Refusal, no_character}
+use Rattle.attr_text.specs.Words.{local_name_of}
+use Rattle.part_events.specs.Words.{Tag, Event, start, end, leaf, joined_text, unknown_entity}
+use Rattle.xlsx_sections.specs.Words.{or_later, named, Refusal, no_character}
 use Rattle.xlsx_properties.specs.Property.{is_same, core_properties, program_properties}
 use Rattle.xlsx_properties.specs.declared.open_property.PropertyPart.{PropertyPart}
 use Rattle.xlsx_properties.specs.declared.open_property.PropertyPart.TheVariants.{Core, Program}
@@ -39,7 +36,7 @@ ends_next (start tag ∷ events) = false
 ends_next (end name ∷ events) = true
 ends_next (leaf kind ∷ events) = ends_next events
 
--- an empty text says nothing
+-- a text, unless it is empty and so says nothing
 abbrev pub if_written : List ℕ → Option (List ℕ)
 if_written [] = None
 if_written (byte ∷ text) = Some (byte ∷ text)
@@ -53,8 +50,8 @@ text_or_refused earlier ends beyond own None =
 text_or_refused earlier ends beyond own (Some behind) = Err (no_character (behind + beyond))
 
 -- the text of a listed start, of which this one was there before these events
-abbrev pub text_behind : List ℕ → List Event → Result (Option (List ℕ)) Refusal
-text_behind earlier events =
+abbrev pub property_text_behind : List ℕ → List Event → Result (Option (List ℕ)) Refusal
+property_text_behind earlier events =
     text_or_refused earlier (ends_next events) (length events - length (leaves events))
     (leaves events) (unknown_entity (leaves events))
 
@@ -66,7 +63,7 @@ if_wanted wanted (Err refusal) = Err refusal
 -- the text of a property, if it is the wanted one
 abbrev pub text_if : Property → Option Property → List Event → Result (Option (List ℕ)) Refusal
 text_if wanted None events = Ok None
-text_if wanted (Some own) events = if_wanted (is_same wanted own) (text_behind [] events)
+text_if wanted (Some own) events = if_wanted (is_same wanted own) (property_text_behind [] events)
 
 -- What the events of a part say of a property, of which the last text stands. A reference without a
 -- character refuses the text of any.
@@ -78,34 +75,34 @@ property_in listed wanted (end name ∷ events) = property_in listed wanted even
 property_in listed wanted (leaf kind ∷ events) = property_in listed wanted events
 
 -- the property whose start was taken last, with its text so far
-pub record OpenText : Type 0 where
+pub record PropertySoFar : Type 0 where
   pub property : Property
   pub text : List ℕ
 
 -- a property as it begins
-abbrev pub opened : Option Property → Option OpenText
-opened None = None
-opened (Some own) = Some (record { property = own; text = [] })
+abbrev pub property_begun : Option Property → Option PropertySoFar
+property_begun None = None
+property_begun (Some own) = Some (record { property = own; text = [] })
 
 -- an open property with more of its text
-abbrev pub with_text : List ℕ → OpenText → OpenText
+abbrev pub with_text : List ℕ → PropertySoFar → PropertySoFar
 with_text more own = record { property = own.property; text = own.text ++ more }
 
 -- the text that an end keeps of a property
-abbrev pub text_kept : Property → Option OpenText → Option (List ℕ)
+abbrev pub text_kept : Property → Option PropertySoFar → Option (List ℕ)
 text_kept wanted None = None
 text_kept wanted (Some own) = if is_same wanted own.property then if_written own.text else None
 
 -- what these events say of a property behind those that were taken
-abbrev pub continued : Listed → Property → Option OpenText → List Event
+abbrev pub continued : Listed → Property → Option PropertySoFar → List Event
     → Result (Option (List ℕ)) Refusal
 continued listed wanted None events = property_in listed wanted events
 continued listed wanted (Some own) events =
-    or_later (if_wanted (is_same wanted own.property) (text_behind own.text events))
+    or_later (if_wanted (is_same wanted own.property) (property_text_behind own.text events))
     (property_in listed wanted events)
 
 -- where no event follows, nothing more is said
-pub said_at_end : (listed : Listed) (wanted : Property) (started : Option OpenText)
+pub said_at_end : (listed : Listed) (wanted : Property) (started : Option PropertySoFar)
     → continued listed wanted started [] ≡ Ok None
 said_at_end listed wanted None = refl
 said_at_end listed wanted (Some own) =

@@ -1,14 +1,10 @@
 ghost use Rattle.std.specs.Prelude.{◌≡◌, ◌∷◌, ℕ, List, [], length, true, Option, None, Ok, Err};
 ghost use Rattle.std.specs.Prelude.{OnOk, IfErr};
-ghost use Rattle.part_events.specs.Event.{Event, event_of};
-ghost use Rattle.part_events.specs.Nesting.{whole};
-ghost use Rattle.part_events.specs.Package.{Uses, CountsUp, part_of, event_count};
-ghost use Rattle.part_events.specs.Reading.{events_of, IsReading, ReadsPart};
+ghost use Rattle.part_events.specs.Words.{Event, event_of, whole, Uses, CountsUp, part_of};
+ghost use Rattle.part_events.specs.Words.{event_count, events_of, IsReading, ReadsPart};
 ghost use Rattle.xlsx_error.specs.declared.error.XlsxError.TheVariants.{Io};
-ghost use Rattle.xlsx_sections.specs.Answers.{or_earlier};
-ghost use Rattle.xlsx_sections.specs.Failing.{FailsBy};
-ghost use Rattle.xlsx_sections.specs.Refusal.{RefusedAt};
-ghost use Rattle.xlsx_parts.specs.WholePart.{WholePartFails};
+ghost use Rattle.xlsx_sections.specs.Words.{or_earlier, FailsBy, RefusedAt};
+ghost use Rattle.xlsx_parts.specs.Words.{WholePartFails};
 ghost use Rattle.xlsx_properties.specs.Errors.{IsPropertyError};
 ghost use Rattle.xlsx_properties.specs.Parts.{said_by, SaidCause, IsWholeIfThere};
 ghost use Rattle.xlsx_properties.specs.Said.{Saying, AreRefused};
@@ -56,11 +52,11 @@ fn keep_texts<P: Package, K: KeepsTexts>(
     requires reading { IsReading xml.old }
     requires first { xml.old.at ≡ 0 }
     ensures reads { ReadsPart Io result xml.old xml.new }
-    ensures ends { xml.old.source.is_told ≡ true →
+    ensures ends { xml.old.source.is_visible ≡ true →
         OnOk result (xml.new.at ≡ length (events_of xml.old)) }
-    ensures whole { xml.old.source.is_told ≡ true →
+    ensures whole { xml.old.source.is_visible ≡ true →
         OnOk result (whole (events_of xml.old) ≡ events_of xml.old) }
-    ensures said { xml.old.source.is_told ≡ true → OnOk result ((key : K.Key) →
+    ensures said { xml.old.source.is_visible ≡ true → OnOk result ((key : K.Key) →
         or_earlier (K.held keeper.old key) (K.following keeper.old key (events_of xml.old))
         ≡ Ok (K.held keeper.new key)) }
     ensures beside { (other : K.Other) →
@@ -84,11 +80,11 @@ pub(crate) fn keep_part<P: Package, K: KeepsTexts>(
     ensures uses { Uses (event_count xml.old.source.parts path.now) Io result
         xml.old.source xml.new.source }
     ensures to_end { let old = xml.old.source in
-        old.is_told ≡ true →
+        old.is_visible ≡ true →
         OnOk result (CountsUp (event_count old.parts path.now) old.taken xml.new.source.taken) }
-    ensures whole { xml.old.source.is_told ≡ true →
+    ensures whole { xml.old.source.is_visible ≡ true →
         OnOk result (IsWholeIfThere (part_of xml.old.source.parts path.now)) }
-    ensures said { xml.old.source.is_told ≡ true →
+    ensures said { xml.old.source.is_visible ≡ true →
         OnOk result ((key : K.Key) → or_earlier (K.held keeper.old key)
         (said_by (K.following keeper.old) key (part_of xml.old.source.parts path.now))
         ≡ Ok (K.held keeper.new key)) }

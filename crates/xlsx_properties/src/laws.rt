@@ -1,7 +1,7 @@
 //! Laws of properties.
 
 ghost use Rattle.std.specs.Prelude.{ℕ, List, Option};
-ghost use Rattle.part_events.specs.Package.{Part};
+ghost use Rattle.part_events.specs.Words.{Part};
 ghost use Rattle.xlsx_error.specs.declared.error.XlsxError.{XlsxError};
 ghost use Rattle.xlsx_properties.specs.Parts.{SayProperties, PropertiesCause};
 ghost use Rattle.xlsx_properties.specs.declared.property.Property.{Property};

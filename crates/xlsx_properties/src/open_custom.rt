@@ -1,11 +1,9 @@
-ghost use Rattle.std.specs.Prelude.{◌≡◌, ◌∷◌, ℕ, List, length, Ok, Err, true, false};
-ghost use Rattle.std.specs.Prelude.{option_map, string_bytes, OnOk, IfErr, refl};
+ghost use Rattle.std.specs.Prelude.{◌≡◌, ◌∷◌, ℕ, List, length, Ok, Err, true, false, option_map};
+ghost use Rattle.std.specs.Prelude.{string_bytes, OnOk, IfErr, refl};
 ghost use Rattle.std.specs.Option.{option_or};
-ghost use Rattle.part_events.specs.Event.{Event, event_of, tag_of, start, end};
-ghost use Rattle.part_events.specs.JoinedText.{is_unknown};
+ghost use Rattle.part_events.specs.Words.{Event, event_of, tag_of, start, end, is_unknown};
 ghost use Rattle.xlsx_error.specs.declared.error.XlsxError.TheVariants.{OutOfMemory};
-ghost use Rattle.xlsx_sections.specs.Answers.{or_earlier};
-ghost use Rattle.xlsx_sections.specs.Refusal.{RefusedAt, no_character};
+ghost use Rattle.xlsx_sections.specs.Words.{or_earlier, RefusedAt, no_character};
 ghost use Rattle.xlsx_properties.specs.CustomProperties.{custom_in, text_named, behind_leaf};
 ghost use Rattle.xlsx_properties.specs.CustomProperties.{is_taken, custom_opened};
 ghost use Rattle.xlsx_properties.specs.Errors.{IsPropertyError};

@@ -1,12 +1,12 @@
-ghost use Rattle.std.specs.Prelude.{◌≡◌, ℕ, List, Some, option_map, OnOk, IfErr};
-ghost use Rattle.std.specs.Prelude.{true, false, IsSome};
+ghost use Rattle.std.specs.Prelude.{◌≡◌, ℕ, List, Some, option_map, OnOk, IfErr, true, false};
+ghost use Rattle.std.specs.Prelude.{IsSome};
 ghost use Rattle.std.specs.Option.{option_or};
-ghost use Rattle.part_events.specs.JoinedText.{event_text, is_unknown};
-ghost use Rattle.part_events.specs.Event.{event_of, tag_of};
-ghost use Rattle.xlsx_sections.specs.Refusal.{RefusedAt, IsDecodeError, no_character};
+ghost use Rattle.part_events.specs.Words.{event_text, is_unknown, event_of, tag_of};
+ghost use Rattle.xlsx_sections.specs.Words.{RefusedAt, IsDecodeError, no_character};
 ghost use Rattle.xlsx_properties.specs.Kept.{held, custom_held};
-ghost use Rattle.xlsx_properties.specs.PropertyTexts.{listed_in, property_of, opened, text_kept};
-ghost use Rattle.xlsx_properties.specs.PropertyTexts.{property_in, with_text, said_at_end};
+ghost use Rattle.xlsx_properties.specs.PropertyTexts.{listed_in, property_of, property_begun};
+ghost use Rattle.xlsx_properties.specs.PropertyTexts.{text_kept, property_in, with_text};
+ghost use Rattle.xlsx_properties.specs.PropertyTexts.{said_at_end};
 ghost use Rattle.xlsx_properties.specs.Open.{open_in, property_behind};
 ghost use Rattle.xlsx_properties.specs.declared.property.Property.{Property};
 
@@ -44,7 +44,7 @@ struct OpenProperty {
 }
 
 fn opened(alloc: Global, property: Option<Property>) -> Option<OpenProperty>
-    ensures { open_in result ≡ opened property }
+    ensures { open_in result ≡ property_begun property }
 {
     Some(OpenProperty {
         property: property?,

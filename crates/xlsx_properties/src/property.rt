@@ -1,7 +1,7 @@
 ghost use Rattle.std.specs.Prelude.{◌≡◌, map, slice_get, None, Some};
-ghost use Rattle.xlsx_sections.specs.Names.{named};
+ghost use Rattle.xlsx_sections.specs.Words.{named};
 ghost use Rattle.xlsx_properties.specs.Property.{core_properties, program_properties};
-ghost use Rattle.xlsx_properties.specs.Property.{named_properties, order_of};
+ghost use Rattle.xlsx_properties.specs.Property.{named_properties, property_place};
 
 /// A property that the core part of a workbook may have; from `Application` on those that the
 /// program's part may have, too.
@@ -88,7 +88,7 @@ const NAMED: [(&str, Property); 17] = [
 pub fn named_properties() -> &'static [(&'static str, Property)]
     ensures named { map (λ own. (own.0.now, own.1)) result.now ≡ named_properties }
     ensures all { (own : Property) →
-        slice_get (map (λ one. one.1) named_properties) (order_of own) ≡ Some own }
+        slice_get (map (λ one. one.1) named_properties) (property_place own) ≡ Some own }
 {
     &NAMED
 }

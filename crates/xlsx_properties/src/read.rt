@@ -1,7 +1,7 @@
 ghost use Rattle.std.specs.Prelude.{◌≡◌, ℕ, List, true, Ok, OnOk, IfOk, IfErr};
-ghost use Rattle.part_events.specs.Package.{Uses, CountsUp};
+ghost use Rattle.part_events.specs.Words.{Uses, CountsUp};
 ghost use Rattle.xlsx_error.specs.declared.error.XlsxError.TheVariants.{Io};
-ghost use Rattle.xlsx_sections.specs.Failing.{FailsBy};
+ghost use Rattle.xlsx_sections.specs.Words.{FailsBy};
 ghost use Rattle.xlsx_properties.specs.Errors.{IsPropertyError};
 ghost use Rattle.xlsx_properties.specs.Kept.{held, custom_held};
 ghost use Rattle.xlsx_properties.specs.Parts.{property_said, custom_said, PropertiesCause};
@@ -26,13 +26,13 @@ pub fn read_properties<P: Package>(xml: &mut XlReader<P>) -> Result<WorkbookProp
     ensures uses { Uses (property_events xml.old.source.parts) Io result
         xml.old.source xml.new.source }
     ensures to_end { let old = xml.old.source in
-        old.is_told ≡ true →
+        old.is_visible ≡ true →
         OnOk result (CountsUp (property_events old.parts) old.taken xml.new.source.taken) }
-    ensures whole { xml.old.source.is_told ≡ true → OnOk result (AreWhole xml.old.source.parts) }
-    ensures properties { xml.old.source.is_told ≡ true →
+    ensures whole { xml.old.source.is_visible ≡ true → OnOk result (AreWhole xml.old.source.parts) }
+    ensures properties { xml.old.source.is_visible ≡ true →
         IfOk result (λ properties. (wanted : Property) →
         property_said xml.old.source.parts wanted ≡ Ok (held wanted properties)) }
-    ensures custom { xml.old.source.is_told ≡ true → IfOk result (λ properties. (name : List ℕ) →
+    ensures custom { xml.old.source.is_visible ≡ true → IfOk result (λ properties. (name : List ℕ) →
         custom_said xml.old.source.parts name ≡ Ok (custom_held name properties)) }
     ensures err { IfErr result
         (FailsBy (PropertiesCause xml.old.source.parts) xml.old.source xml.new.source) }

@@ -1,5 +1,5 @@
-ghost use Rattle.std.specs.Prelude.{◌≡◌, Some, None, string_bytes, option_map, if◌then◌else◌};
-ghost use Rattle.std.specs.Prelude.{ℕ, List, OnOk, IfOk, IfErr};
+ghost use Rattle.std.specs.Prelude.{◌≡◌, Some, None, string_bytes, option_map, if◌then◌else◌, ℕ};
+ghost use Rattle.std.specs.Prelude.{List, OnOk, IfOk, IfErr};
 ghost use Rattle.std.specs.Str.{bytes_eq};
 ghost use Rattle.xlsx_error.specs.declared.error.XlsxError.TheVariants.{OutOfMemory};
 ghost use Rattle.std.specs.Option.{option_copied};

@@ -9,7 +9,7 @@ use Rattle.std.specs.Str.Pattern.{FindsTextPrefix}
 use Rattle.std.specs.Prelude.{nat_eq}
 use Rattle.std.proofs.lemmas.Str.Pattern.{starts_text}
 use Rattle.xlsx_error.specs.declared.error.XlsxError.{XlsxError}
-use Rattle.xlsx_sections.specs.Refusal.{Refusal, ElementFails}
+use Rattle.xlsx_sections.specs.Words.{Refusal, ElementFails}
 use Rattle.xlsx_sections.proofs.Refused.{refused_at_weaker}
 use Rattle.xlsx_relationships.specs.Paths.{last_piece}
 use Rattle.xlsx_relationships.specs.RelatedParts.{before_slash, behind_dots, led_to}

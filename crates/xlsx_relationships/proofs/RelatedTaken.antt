@@ -1,14 +1,13 @@
 -- How the parts are asked that the relationships of a part lead to.
-use Rattle.std.proofs.Common.{◌≡◌, ℕ, List, [], Option, Some, Ok, arith, sym, ap, ◌∙◌}
-use Rattle.std.proofs.Common.{append-nil, inr}
+use Rattle.std.proofs.Common.{◌≡◌, ℕ, List, [], Option, Some, Ok, arith, sym, ap, ◌∙◌, append-nil}
+use Rattle.std.proofs.Common.{inr}
 use Rattle.std.specs.List.{sum_by}
 use Rattle.std.specs.Option.{option_map_or}
 use Rattle.std.specs.Prelude.{option_and_then}
-use Rattle.part_events.specs.Package.{PackageState}
+use Rattle.part_events.specs.Words.{PackageState}
 use Rattle.xlsx_error.specs.declared.error.XlsxError.{XlsxError}
-use Rattle.xlsx_sections.specs.Asking.{Ask, Answers}
-use Rattle.xlsx_parts.specs.ManyAsked.{Leads, each}
-use Rattle.xlsx_parts.specs.PartSaid.{all_said}
+use Rattle.xlsx_sections.specs.Words.{Ask, Answers}
+use Rattle.xlsx_parts.specs.Words.{Leads, each, all_said}
 use Rattle.xlsx_parts.proofs.ManySaid.{said_before}
 use Rattle.xlsx_relationships.specs.RelatedAsked.{related_ask, each_related}
 use Rattle.xlsx_relationships.specs.RelatedParts.{related_parts}

@@ -3,8 +3,7 @@ use Rattle.std.proofs.Common.{codes}
 use Rattle.part_events.specs.declared.fault.XmlFault.TheVariants.{Break, Entity}
 use Rattle.xlsx_error.specs.declared.error.XlsxError.{XlsxError}
 use Rattle.xlsx_error.specs.declared.error.XlsxError.TheVariants.{OutOfMemory, Io, Xml, XmlEof}
-use Rattle.xlsx_sections.specs.PartSection.{IsStepError}
-use Rattle.xlsx_sections.specs.Refusal.{IsDecodeError}
+use Rattle.xlsx_sections.specs.Words.{IsStepError, IsDecodeError}
 use Rattle.xlsx_relationships.specs.RelationshipErrors.{IsRelationshipsError, IsRelatedError}
 
 pub relationships_step : (error : XlsxError) → IsStepError (codes "Relationships") error

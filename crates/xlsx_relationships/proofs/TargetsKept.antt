@@ -1,23 +1,20 @@
 -- Where hyperlinks lead is kept start by start, of an Id the last.
-use Rattle.std.proofs.Common.{◌≡◌, ℕ, List, [], ◌∷◌, Bool, true, false, Option, Some, None}
-use Rattle.std.proofs.Common.{Result, Ok, Err, refl, ap, sym, ◌∙◌, codes}
+use Rattle.std.proofs.Common.{◌≡◌, ℕ, List, [], ◌∷◌, Bool, true, false, Option, Some, None, Result}
+use Rattle.std.proofs.Common.{Ok, Err, refl, ap, sym, ◌∙◌, codes}
 use Rattle.std.specs.BTreeMap.{BTreeMap}
 use Rattle.std.specs.Option.{option_or}
 use Rattle.std.specs.Prelude.{if◌then◌else◌, String}
 use Rattle.std.specs.Str.{bytes_eq}
 use Rattle.std.specs.declared.alloc.Global.{Global}
-use Rattle.part_events.specs.Event.{Tag, Event}
-use Rattle.part_events.specs.Section.{PlacedTag, is_named}
+use Rattle.part_events.specs.Words.{Tag, Event, PlacedTag, is_named}
 use Rattle.xlsx_error.specs.declared.error.XlsxError.{XlsxError}
-use Rattle.xlsx_sections.specs.Answers.{some_answers, and_others_if}
-use Rattle.xlsx_sections.specs.Changes.{all_changes, changed_by}
-use Rattle.xlsx_sections.specs.Keeping.{changed_in}
-use Rattle.xlsx_sections.specs.Refusal.{Refusal, ElementFails}
+use Rattle.xlsx_sections.specs.Words.{some_answers, and_others_if, all_changes, changed_by}
+use Rattle.xlsx_sections.specs.Words.{changed_in, Refusal, ElementFails}
 use Rattle.xlsx_sections.proofs.Refused.{refused_at_weaker}
 use Rattle.xlsx_relationships.specs.LinkTargets.{LinkTarget, link_target_of, later_target}
-use Rattle.xlsx_relationships.specs.LinkTargets.{target_in, target_held, HoldsTargets}
-use Rattle.xlsx_relationships.specs.LinkTargets.{later_of, put_later, link_targets_in}
-use Rattle.xlsx_relationships.specs.LinkTargets.{without_escapes, leading_to}
+use Rattle.xlsx_relationships.specs.LinkTargets.{target_in, target_held, HoldsTargets, later_of}
+use Rattle.xlsx_relationships.specs.LinkTargets.{put_later, link_targets_in, without_escapes}
+use Rattle.xlsx_relationships.specs.LinkTargets.{leading_to}
 use Rattle.xlsx_relationships.specs.Relationships.{relationship_starts}
 
 -- where an Id leads by some targets, and else as it did before

@@ -5,3 +5,4 @@ pub mod RelatedAsked
 pub mod RelatedParts
 pub mod RelationshipErrors
 pub mod Relationships
+pub mod Words

@@ -7,18 +7,13 @@ use Rattle.std.specs.List.{ends_with}
 use Rattle.std.specs.Option.{option_or}
 use Rattle.std.specs.Str.{bytes_eq}
 use Rattle.std.specs.declared.alloc.Global.{Global}
-use Rattle.attr_text.specs.Attributes.{lookup}
-use Rattle.attr_text.specs.Text.{unescaped}
+use Rattle.attr_text.specs.Words.{lookup, unescaped}
 use Rattle.attr_text.specs.declared.fault.AttrFault.{AttrFault}
-use Rattle.part_events.specs.Event.{Event}
-use Rattle.part_events.specs.Package.{Part, part_of}
-use Rattle.part_events.specs.Section.{PlacedTag}
+use Rattle.part_events.specs.Words.{Event, Part, part_of, PlacedTag}
 use Rattle.xlsx_error.specs.declared.error.XlsxError.{XlsxError}
-use Rattle.xlsx_sections.specs.Answers.{some_answers, with_three}
-use Rattle.xlsx_sections.specs.Elements.{IsInsideRefused}
-use Rattle.xlsx_sections.specs.PartSection.{always, OptionalPartCause}
-use Rattle.xlsx_sections.specs.Refusal.{Refusal, plain, lookup_fault, decoded_at}
-use Rattle.xlsx_parts.specs.PartSaid.{part_said, unless_absent}
+use Rattle.xlsx_sections.specs.Words.{some_answers, with_three, IsInsideRefused, always}
+use Rattle.xlsx_sections.specs.Words.{OptionalPartCause, Refusal, plain, lookup_fault, decoded_at}
+use Rattle.xlsx_parts.specs.Words.{part_said, unless_absent}
 use Rattle.xlsx_relationships.specs.Paths.{relationships_beside}
 use Rattle.xlsx_relationships.specs.Relationships.{relationship_starts}
 
@@ -31,7 +26,7 @@ without_escapes (Err refusal) = Err refusal
 abbrev pub link_text : ℕ → List ℕ → Result (List ℕ) Refusal
 link_text behind text = without_escapes (decoded_at behind text)
 
--- where the hyperlinks lead that name this Id
+-- an Id, and where the hyperlinks lead that name it
 pub record LinkTarget : Type 0 where
   pub id : List ℕ
   pub target : List ℕ
@@ -67,11 +62,11 @@ link_target_of start =
     link_target_by start.behind
     (lookup (codes "Id" ∷ codes "Type" ∷ codes "Target" ∷ []) start.tag.attributes)
 
--- where those in a section lead, in order
+-- where the relationships of hyperlinks in a section lead, in order
 abbrev pub link_targets_in : List Event → Result (List LinkTarget) Refusal
 link_targets_in inside = some_answers link_target_of (relationship_starts inside)
 
--- where an Id leads by one of them, and else as it did before
+-- where an Id leads by a link's target, if that is its own, and else as it did before
 abbrev pub later_target : List ℕ → Option LinkTarget → Option (List ℕ) → Option (List ℕ)
 later_target id None earlier = earlier
 later_target id (Some own) earlier = if bytes_eq id own.id then Some own.target else earlier
@@ -82,22 +77,23 @@ abbrev pub later_of : List ℕ → Option (List ℕ) → Result (Option LinkTarg
 later_of id earlier (Ok own) = Ok (later_target id own earlier)
 later_of id earlier (Err refusal) = Err refusal
 
--- the same of a start
+-- where an Id leads by what the start of a relationship says, and else as it did before
 abbrev pub put_later : List ℕ → PlacedTag → Option (List ℕ) → Result (Option (List ℕ)) Refusal
 put_later id start earlier = later_of id earlier (link_target_of start)
 
--- where an Id leads, of which the last stands
+-- where an Id leads by these targets, of which the last stands
 abbrev pub target_in : List LinkTarget → List ℕ → Option (List ℕ)
 target_in [] id = None
 target_in (first ∷ others) id = option_or (target_in others id) (later_target id (Some first) None)
 
--- where the relationships lead that are beside the part at a path; without any there is no target
+-- where the relationships of hyperlinks lead that are beside the part at a path; without any there
+-- is no target
 abbrev pub link_targets : List Part → List ℕ → Option (List LinkTarget)
 link_targets parts path =
     unless_absent [] (part_of parts (relationships_beside path))
     (part_said (codes "Relationships") link_targets_in parts (relationships_beside path))
 
--- why they can't be taken
+-- why the targets of hyperlinks in the relationships beside a part can't be taken
 abbrev pub LinkTargetsCause : List Part → List ℕ → XlsxError → Type 0
 LinkTargetsCause parts path error =
     let name = codes "Relationships" in
@@ -108,7 +104,7 @@ LinkTargetsCause parts path error =
 abbrev pub target_held : BTreeMap (String Global) (String Global) → List ℕ → Option (List ℕ)
 target_held kept id = option_map string_bytes (get_by_text kept id)
 
--- these targets are kept
+-- what is kept for each Id is where it leads by these targets
 abbrev pub HoldsTargets :
     List LinkTarget → BTreeMap (String Global) (String Global) → Type 0
 HoldsTargets targets kept = (id : List ℕ) → target_held kept id ≡ target_in targets id

@@ -4,7 +4,7 @@ use Rattle.std.specs.Prelude.{if◌then◌else◌, Option, Some, None, unwrap_or
 use Rattle.std.specs.List.{after_last}
 use Rattle.std.specs.Str.{bytes_eq}
 
--- a byte is `/`
+-- a byte is `/`, which parts the pieces of a path
 abbrev pub is_slash : ℕ → Bool
 is_slash byte = byte == 47
 
@@ -17,7 +17,7 @@ behind_slash (byte ∷ path) = if is_slash byte then Some path else None
 abbrev pub without_slash : List ℕ → List ℕ
 without_slash path = unwrap_or (behind_slash path) path
 
--- what follows the last slash, or all; and what stands before that
+-- what follows the last slash of a path, or all of it
 abbrev pub last_piece : List ℕ → List ℕ
 last_piece path = after_last is_slash path
 
@@ -35,7 +35,7 @@ abbrev pub part_folder : List ℕ → List ℕ
 part_folder path =
     if bytes_eq (front_pieces path) (codes "/") then [] else front_pieces path
 
--- where the relationships of the part at this path are
+-- the path of the relationships of the part at a path
 abbrev pub relationships_beside : List ℕ → List ℕ
 relationships_beside path =
     ((part_folder path ++ codes "_rels/") ++ last_piece path) ++ codes ".rels"

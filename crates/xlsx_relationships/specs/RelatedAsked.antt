@@ -1,16 +1,14 @@
 -- What is asked of the parts that the relationships of one type lead to.
 use Rattle.std.specs.Prelude.{◌⊎◌, ℕ, ◌+◌, List, codes, option_and_then, MatchOption}
-use Rattle.part_events.specs.Package.{event_count}
+use Rattle.part_events.specs.Words.{event_count}
 use Rattle.xlsx_error.specs.declared.error.XlsxError.{XlsxError}
-use Rattle.xlsx_sections.specs.Asking.{Ask}
-use Rattle.xlsx_sections.specs.SectionEvents.{section_events_of}
-use Rattle.xlsx_parts.specs.PartSaid.{all_said}
-use Rattle.xlsx_parts.specs.WholePart.{SomeCause}
+use Rattle.xlsx_sections.specs.Words.{Ask, section_events_of}
+use Rattle.xlsx_parts.specs.Words.{all_said, SomeCause}
 use Rattle.xlsx_relationships.specs.Paths.{relationships_beside}
 use Rattle.xlsx_relationships.specs.RelatedParts.{related_parts, sum_of_related, RelatedCause}
 use Rattle.xlsx_relationships.specs.RelationshipErrors.{IsRelatedError}
 
--- where those of the part at a path lead
+-- what is asked for where the relationships of one type lead that are beside the part at a path
 abbrev pub related_ask : List ℕ → List ℕ → Ask (List (List ℕ))
 related_ask wanted path = record {
   most = λ parts. event_count parts (relationships_beside path);
@@ -20,7 +18,8 @@ related_ask wanted path = record {
   kind = IsRelatedError;
 }
 
--- and what each part says that they lead to, one after the other
+-- what is asked for each part to which the relationships of one type lead that are beside the part
+-- at a path, one after the other
 abbrev pub each_related :
     {A : Type 0} → (XlsxError → Type 0) → (List ℕ → Ask (List A)) → List ℕ → List ℕ → Ask (List A)
 each_related kind ask wanted path = record {

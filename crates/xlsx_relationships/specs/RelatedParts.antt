@@ -1,22 +1,18 @@
 -- Where the relationships of a part lead (ECMA-376 part 2, section 9.3).
 use Rattle.std.specs.Prelude.{ℕ, ◌-◌, List, [], ◌∷◌, ◌++◌, length, take, drop, nat_eq, codes}
-use Rattle.std.specs.Prelude.{if◌then◌else◌, Option, Some, None, unwrap_or, option_and_then}
-use Rattle.std.specs.Prelude.{Result, Ok, Err}
+use Rattle.std.specs.Prelude.{if◌then◌else◌, Option, Some, None, unwrap_or, option_and_then, Result}
+use Rattle.std.specs.Prelude.{Ok, Err}
 use Rattle.std.specs.List.{starts_with, sum_by}
 use Rattle.std.specs.Option.{option_map_or}
 use Rattle.std.specs.Str.{bytes_eq}
-use Rattle.attr_text.specs.Attributes.{lookup}
+use Rattle.attr_text.specs.Words.{lookup}
 use Rattle.attr_text.specs.declared.fault.AttrFault.{AttrFault}
-use Rattle.part_events.specs.Event.{Event}
-use Rattle.part_events.specs.Package.{Part, part_of}
-use Rattle.part_events.specs.Section.{PlacedTag}
+use Rattle.part_events.specs.Words.{Event, Part, part_of, PlacedTag}
 use Rattle.xlsx_error.specs.declared.error.XlsxError.{XlsxError}
-use Rattle.xlsx_sections.specs.Answers.{some_answers, with_two}
-use Rattle.xlsx_sections.specs.Elements.{IsInsideRefused}
-use Rattle.xlsx_sections.specs.Names.{some_text}
-use Rattle.xlsx_sections.specs.PartSection.{OptionalPartCause, always}
-use Rattle.xlsx_sections.specs.Refusal.{Refusal, plain, lookup_fault, decoded_at}
-use Rattle.xlsx_parts.specs.PartSaid.{part_said, unless_absent}
+use Rattle.xlsx_sections.specs.Words.{some_answers, with_two, IsInsideRefused, some_text}
+use Rattle.xlsx_sections.specs.Words.{OptionalPartCause, always, Refusal, plain, lookup_fault}
+use Rattle.xlsx_sections.specs.Words.{decoded_at}
+use Rattle.xlsx_parts.specs.Words.{part_said, unless_absent}
 use Rattle.xlsx_relationships.specs.Paths.{last_piece, without_slash, part_folder}
 use Rattle.xlsx_relationships.specs.Paths.{relationships_beside}
 use Rattle.xlsx_relationships.specs.Relationships.{relationship_starts}
@@ -29,7 +25,7 @@ before_slash path = take (length path - length (last_piece path) - 1) path
 abbrev pub outer_folder : List ℕ → List ℕ
 outer_folder path = part_folder (before_slash path)
 
--- what follows `../` at the front
+-- what follows `../` at the front of a target
 abbrev pub behind_dots : List ℕ → Option (List ℕ)
 behind_dots target = if starts_with nat_eq target (codes "../") then Some (drop 3 target) else None
 
@@ -46,7 +42,8 @@ target_path path [] = None
 target_path path (byte ∷ target) =
     Some (led_from path (behind_dots (byte ∷ target)) (byte ∷ target))
 
--- A relationship of another type isn't decoded. One without a type or a target has the empty one.
+-- The target of a relationship of this type, by its texts; one of another type isn't decoded. One
+-- without a type or a target has the empty one.
 abbrev pub typed_from :
     List ℕ → ℕ → Option (List ℕ) → Option (List ℕ) → Result (Option (List ℕ)) Refusal
 typed_from wanted behind typ target =
@@ -75,22 +72,24 @@ led_to path (Err refusal) = Err refusal
 abbrev pub leads_to : List ℕ → List ℕ → PlacedTag → Result (Option (List ℕ)) Refusal
 leads_to path wanted start = led_to path (typed_target wanted start)
 
--- where all of that type lead, in order
+-- where all relationships of one type in a section lead, in order
 abbrev pub all_lead_to : List ℕ → List ℕ → List Event → Result (List (List ℕ)) Refusal
 all_lead_to path wanted inside = some_answers (leads_to path wanted) (relationship_starts inside)
 
--- where those of the part at a path lead; a part without relationships leads nowhere
+-- where the relationships of one type lead that are beside the part at a path; a part without
+-- relationships leads nowhere
 abbrev pub related_parts : List Part → List ℕ → List ℕ → Option (List (List ℕ))
 related_parts parts wanted path =
     unless_absent [] (part_of parts (relationships_beside path))
     (part_said (codes "Relationships") (all_lead_to path wanted) parts (relationships_beside path))
 
--- what a count of each part that they lead to comes to
+-- what a count of each part comes to in sum to which the relationships of one type lead that are
+-- beside the part at a path
 abbrev pub sum_of_related : (List ℕ → ℕ) → List Part → List ℕ → List ℕ → ℕ
 sum_of_related count parts wanted path =
     option_map_or (sum_by count) (related_parts parts wanted path) 0
 
--- why that can't be said
+-- why it can't be said where the relationships of one type lead that are beside a part
 abbrev pub RelatedCause : List Part → List ℕ → List ℕ → XlsxError → Type 0
 RelatedCause parts wanted path error =
     OptionalPartCause (codes "Relationships") (always (codes "Relationships"))

@@ -2,8 +2,8 @@
 use Rattle.std.specs.Prelude.{◌≡◌, ⊤, codes}
 use Rattle.part_events.specs.declared.fault.XmlFault.TheVariants.{Break, Entity}
 use Rattle.xlsx_error.specs.declared.error.XlsxError.{XlsxError}
-use Rattle.xlsx_error.specs.declared.error.XlsxError.TheVariants.{OutOfMemory, Io, Xml}
-use Rattle.xlsx_error.specs.declared.error.XlsxError.TheVariants.{XmlAttr, XmlEof, FileNotFound}
+use Rattle.xlsx_error.specs.declared.error.XlsxError.TheVariants.{OutOfMemory, Io, Xml, XmlAttr}
+use Rattle.xlsx_error.specs.declared.error.XlsxError.TheVariants.{XmlEof, FileNotFound}
 use Rattle.xlsx_error.specs.declared.error.XlsxError.TheVariants.{RelationshipNotFound}
 
 -- the refusals of relationships whose part may be absent, whatever the package tells
@@ -16,7 +16,7 @@ IsRelatedError (XmlAttr fault) = ⊤
 IsRelatedError (XmlEof element) = element.now ≡ codes "Relationships"
 IsRelatedError _ = ⊥
 
--- and of those of a part that has to be there, one of which is looked for
+-- the refusals that relationships can have whose part has to be there, one of which is looked for
 abbrev pub IsRelationshipsError : XlsxError → Type 0
 IsRelationshipsError (FileNotFound path) = ⊤
 IsRelationshipsError RelationshipNotFound = ⊤

@@ -3,14 +3,12 @@ use Rattle.std.specs.Prelude.{◌≡◌, ◌⊎◌, ℕ, List, [], ◌∷◌, Bo
 use Rattle.std.specs.Prelude.{Option, Some, None, unwrap_or, Result, Ok, Err}
 use Rattle.std.specs.List.{ends_with}
 use Rattle.std.specs.Str.{bytes_eq}
-use Rattle.attr_text.specs.Attributes.{lookup}
+use Rattle.attr_text.specs.Words.{lookup}
 use Rattle.attr_text.specs.declared.fault.AttrFault.{AttrFault}
-use Rattle.part_events.specs.Event.{Event}
-use Rattle.part_events.specs.Section.{PlacedTag, starts_by, is_named}
-use Rattle.xlsx_sections.specs.Answers.{last_answer, with_two, with_three}
-use Rattle.xlsx_sections.specs.Names.{some_text}
-use Rattle.xlsx_sections.specs.PartSection.{PartSection, inside_of, has_end}
-use Rattle.xlsx_sections.specs.Refusal.{Refusal, plain, lookup_fault, unrelated, decoded_at}
+use Rattle.part_events.specs.Words.{Event, PlacedTag, starts_by, is_named}
+use Rattle.xlsx_sections.specs.Words.{last_answer, with_two, with_three, some_text, PartSection}
+use Rattle.xlsx_sections.specs.Words.{inside_of, has_end, Refusal, plain, lookup_fault, unrelated}
+use Rattle.xlsx_sections.specs.Words.{decoded_at}
 
 -- the starts of relationships in a section
 abbrev pub relationship_starts : List Event → List PlacedTag
@@ -38,7 +36,7 @@ abbrev pub target_of : PlacedTag → Result (Option (List ℕ)) Refusal
 target_of start =
     target_by start.behind (lookup (codes "Type" ∷ codes "Target" ∷ []) start.tag.attributes)
 
--- the path of the workbook, by the last such relationship that has a target
+-- the path of the workbook, by the last relationship to an office document that has a target
 abbrev pub path_in : List Event → Result (Option (List ℕ)) Refusal
 path_in inside = last_answer target_of (relationship_starts inside)
 
@@ -82,6 +80,6 @@ IsPathRefused s refusal =
     IsTargetRefused s refusal
     ⊎ ((refusal ≡ plain unrelated) × (has_end s ≡ true) × (path_in (inside_of s) ≡ Ok None))
 
--- why a section gives no relationships
+-- why a section gives no relationships by their Ids
 unfoldable pub AreRelationshipsRefused : PartSection → Refusal → Type 0
 AreRelationshipsRefused s refusal = (id : List ℕ) → related_in (inside_of s) id ≡ Err refusal

@@ -1,18 +1,14 @@
 ghost use Rattle.std.proofs.Common.{rules};
-ghost use Rattle.std.specs.Prelude.{◌≡◌, ℕ, List, Ok, Some, codes, true};
-ghost use Rattle.std.specs.Prelude.{if◌then◌else◌, option_map, string_bytes, Option};
-ghost use Rattle.std.specs.Prelude.{IfOk, OnOk, IfErr, IsSomeAnd};
+ghost use Rattle.std.specs.Prelude.{◌≡◌, ℕ, List, Ok, Some, codes, true, if◌then◌else◌, option_map};
+ghost use Rattle.std.specs.Prelude.{string_bytes, Option, IfOk, OnOk, IfErr, IsSomeAnd};
 ghost use Rattle.std.specs.Str.{bytes_eq};
-ghost use Rattle.part_events.specs.Event.{tag_of};
-ghost use Rattle.part_events.specs.Package.{Uses, event_count};
+ghost use Rattle.part_events.specs.Words.{tag_of, Uses, event_count};
 ghost use Rattle.xlsx_error.specs.declared.error.XlsxError.TheVariants.{OutOfMemory, Io};
-ghost use Rattle.xlsx_sections.specs.Failing.{FailsBy};
-ghost use Rattle.xlsx_sections.specs.Refusal.{ElementFails, IsDecodeError, placed_at};
-ghost use Rattle.xlsx_sections.specs.SectionEvents.{ReadsToEnd};
+ghost use Rattle.xlsx_sections.specs.Words.{FailsBy, ElementFails, IsDecodeError, placed_at};
+ghost use Rattle.xlsx_sections.specs.Words.{ReadsToEnd};
 ghost use Rattle.xlsx_relationships.specs.LinkTargets.{link_text, is_hyperlink_type};
-ghost use Rattle.xlsx_relationships.specs.LinkTargets.{link_target_of, put_later};
-ghost use Rattle.xlsx_relationships.specs.LinkTargets.{link_targets, LinkTargetsCause};
-ghost use Rattle.xlsx_relationships.specs.LinkTargets.{target_held, HoldsTargets};
+ghost use Rattle.xlsx_relationships.specs.LinkTargets.{link_target_of, put_later, link_targets};
+ghost use Rattle.xlsx_relationships.specs.LinkTargets.{LinkTargetsCause, target_held, HoldsTargets};
 ghost use Rattle.xlsx_relationships.specs.LinkTargets.{link_target_said};
 ghost use Rattle.xlsx_relationships.specs.Paths.{relationships_beside};
 ghost use Rattle.xlsx_relationships.specs.RelationshipErrors.{IsRelatedError};
@@ -150,7 +146,7 @@ pub fn read_sheet_hyperlink_rels<P: Package>(
         Uses (event_count xml.old.source.parts part) Io result xml.old.source xml.new.source }
     ensures to_end { let part = relationships_beside sheet_path.now in
         ReadsToEnd (codes "Relationships") part result xml.old.source xml.new.source }
-    ensures targets { xml.old.source.is_told ≡ true → IfOk result (λ kept.
+    ensures targets { xml.old.source.is_visible ≡ true → IfOk result (λ kept.
         IsSomeAnd (link_targets xml.old.source.parts sheet_path.now) (λ targets.
         HoldsTargets targets kept)) }
     ensures err { IfErr result

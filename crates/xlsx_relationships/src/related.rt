@@ -1,9 +1,8 @@
 ghost use Rattle.std.proofs.Common.{rules};
 ghost use Rattle.std.specs.Prelude.{◌≡◌, ℕ, List, Ok, Some, codes, map, option_map, string_bytes};
 ghost use Rattle.std.specs.Prelude.{IfOk, IfErr};
-ghost use Rattle.part_events.specs.Event.{tag_of};
-ghost use Rattle.xlsx_sections.specs.Asking.{Answers};
-ghost use Rattle.xlsx_sections.specs.Refusal.{ElementFails, placed_at};
+ghost use Rattle.part_events.specs.Words.{tag_of};
+ghost use Rattle.xlsx_sections.specs.Words.{Answers, ElementFails, placed_at};
 ghost use Rattle.xlsx_relationships.specs.RelatedAsked.{related_ask};
 ghost use Rattle.xlsx_relationships.specs.RelatedParts.{typed_target, leads_to};
 ghost use Rattle.xlsx_relationships.specs.RelationshipErrors.{IsRelatedError};

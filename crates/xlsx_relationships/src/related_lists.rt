@@ -1,7 +1,7 @@
 ghost use Rattle.std.specs.Prelude.{◌≡◌, ◌++◌, ℕ, List, map};
 ghost use Rattle.xlsx_error.specs.declared.error.XlsxError.{XlsxError};
-ghost use Rattle.xlsx_sections.specs.Asking.{Ask};
-ghost use Rattle.xlsx_parts.specs.ManyAsked.{Appends};
+ghost use Rattle.xlsx_sections.specs.Words.{Ask};
+ghost use Rattle.xlsx_parts.specs.Words.{Appends};
 ghost use Rattle.xlsx_relationships.specs.RelatedAsked.{each_related};
 ghost use Rattle.xlsx_relationships.specs.RelationshipErrors.{IsRelatedError};
 

@@ -1,12 +1,11 @@
-ghost use Rattle.std.specs.Prelude.{◌≡◌, ℕ, List, Ok, Some, codes, true, string_bytes};
-ghost use Rattle.std.specs.Prelude.{IfOk, IfErr, IsSomeAnd};
-ghost use Rattle.part_events.specs.Package.{Uses, event_count};
+ghost use Rattle.std.specs.Prelude.{◌≡◌, ℕ, List, Ok, Some, codes, true, string_bytes, IfOk, IfErr};
+ghost use Rattle.std.specs.Prelude.{IsSomeAnd};
+ghost use Rattle.part_events.specs.Words.{Uses, event_count};
 ghost use Rattle.xlsx_error.specs.declared.error.XlsxError.TheVariants.{Io};
-ghost use Rattle.xlsx_sections.specs.PartSection.{always, PartFails, closed_section_of};
-ghost use Rattle.xlsx_sections.specs.SectionEvents.{ReadsToEnd};
+ghost use Rattle.xlsx_sections.specs.Words.{always, PartFails, closed_section_of, ReadsToEnd};
 ghost use Rattle.xlsx_relationships.specs.KeptRelationships.{related_by_id};
-ghost use Rattle.xlsx_relationships.specs.Relationships.{path_in, related_in};
-ghost use Rattle.xlsx_relationships.specs.Relationships.{IsPathRefused, AreRelationshipsRefused};
+ghost use Rattle.xlsx_relationships.specs.Relationships.{path_in, related_in, IsPathRefused};
+ghost use Rattle.xlsx_relationships.specs.Relationships.{AreRelationshipsRefused};
 ghost use Rattle.xlsx_relationships.specs.RelationshipErrors.{IsRelationshipsError};
 
 use crate::relationships::{KeepsRelated, OfficeTargets, Relationship};
@@ -29,7 +28,7 @@ pub fn read_path<P: Package>(xml: &mut XlReader<P>, part: &str) -> Result<String
         xml.old.source xml.new.source }
     ensures path { let old = xml.old.source in
         let inside = closed_section_of (codes "Relationships") part.now old.parts in
-        old.is_told ≡ true → IfOk result (λ path.
+        old.is_visible ≡ true → IfOk result (λ path.
         IsSomeAnd inside (λ inside. path_in inside ≡ Ok (Some (string_bytes path)))) }
     ensures err { let name = codes "Relationships" in
         IfErr result (PartFails name (always name) IsPathRefused part.now
@@ -63,7 +62,7 @@ pub fn read_relationships<P: Package>(
         xml.old.source xml.new.source }
     ensures related { let old = xml.old.source in
         let inside = closed_section_of (codes "Relationships") part.now old.parts in
-        old.is_told ≡ true → IfOk result (λ map. IsSomeAnd inside (λ inside. (id : List ℕ) →
+        old.is_visible ≡ true → IfOk result (λ map. IsSomeAnd inside (λ inside. (id : List ℕ) →
         related_in inside id ≡ Ok (related_by_id map id))) }
     ensures err { let name = codes "Relationships" in
         IfErr result (PartFails name (always name) AreRelationshipsRefused part.now

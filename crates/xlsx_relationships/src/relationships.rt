@@ -1,14 +1,11 @@
 ghost use Rattle.std.proofs.Common.{rules};
 ghost use Rattle.std.specs.Prelude.{◌≡◌, ℕ, List, Ok, Some, Option, codes, option_map, unwrap_or};
-ghost use Rattle.std.specs.Prelude.{string_bytes};
-ghost use Rattle.std.specs.Prelude.{if◌then◌else◌, IfOk, OnOk, IfErr};
+ghost use Rattle.std.specs.Prelude.{string_bytes, if◌then◌else◌, IfOk, OnOk, IfErr};
 ghost use Rattle.std.specs.Option.{option_copied};
 ghost use Rattle.std.specs.Str.{bytes_eq};
-ghost use Rattle.part_events.specs.Event.{tag_of};
+ghost use Rattle.part_events.specs.Words.{tag_of};
 ghost use Rattle.xlsx_error.specs.declared.error.XlsxError.TheVariants.{OutOfMemory};
-ghost use Rattle.xlsx_sections.specs.Answers.{or_earlier};
-ghost use Rattle.xlsx_sections.specs.Keeping.{or_before};
-ghost use Rattle.xlsx_sections.specs.Refusal.{ElementFails, placed_at};
+ghost use Rattle.xlsx_sections.specs.Words.{or_earlier, or_before, ElementFails, placed_at};
 ghost use Rattle.xlsx_relationships.specs.KeptRelationships.{relationship_of, related_by_id};
 ghost use Rattle.xlsx_relationships.specs.Relationships.{is_office_document, target_of, related_of};
 ghost use Rattle.xlsx_relationships.specs.Relationships.{Related};

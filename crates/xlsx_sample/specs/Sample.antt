@@ -3,33 +3,32 @@
 use Rattle.std.specs.Prelude.{ℕ, zero, suc, ◌*◌, ◌%◌, ◌==◌, List, [], ◌∷◌, ◌++◌, codes}
 use Rattle.std.specs.Prelude.{if◌then◌else◌}
 use Rattle.std.specs.Fmt.{decimal}
-use Rattle.part_events.specs.Event.{Event}
-use Rattle.part_events.specs.Package.{Part}
-use Rattle.written_markup.specs.Markup.{element, attribute, words}
+use Rattle.part_events.specs.Words.{Event, Part}
+use Rattle.written_markup.specs.Words.{element, attribute, words}
 
 -- ---- the rows
 
--- `<v>7</v>`
+-- the value of a cell of the sample, as `<v>7</v>`
 abbrev pub sample_value : ℕ → List Event
 sample_value number = element (codes "v") [] (words (decimal number))
 
--- `<c r="A7"><v>7</v></c>`
+-- the first cell of a row, as `<c r="A7"><v>7</v></c>`
 abbrev pub number_cell : ℕ → List Event
 number_cell row =
     element (codes "c") (attribute (codes "r") (codes "A" ++ decimal row)) (sample_value row)
 
 -- the attributes of the first formula of the sample, which the others share
-abbrev pub master_attributes : ℕ → List ℕ
-master_attributes rows =
+abbrev pub sample_master_attributes : ℕ → List ℕ
+sample_master_attributes rows =
     attribute (codes "t") (codes "shared")
     ++ (attribute (codes "ref") (codes "B1:B" ++ decimal rows)
     ++ attribute (codes "si") (codes "0"))
 
 -- the formula of the first row of so many: the master, `<f t="shared" ref="B1:B9" si="0">A1*2</f>`
 abbrev pub master_formula : ℕ → List Event
-master_formula rows = element (codes "f") (master_attributes rows) (words (codes "A1*2"))
+master_formula rows = element (codes "f") (sample_master_attributes rows) (words (codes "A1*2"))
 
--- that of each other row, `<f t="shared" si="0"/>`
+-- the formula of each row but the first, derived from the master: `<f t="shared" si="0"/>`
 abbrev pub derived_formula : List Event
 derived_formula =
     element (codes "f")
@@ -39,17 +38,17 @@ derived_formula =
 abbrev pub formula_element : ℕ → ℕ → List Event
 formula_element rows row = if row == 1 then master_formula rows else derived_formula
 
--- `<c r="B7"><f t="shared" si="0"/><v>14</v></c>`
+-- the second cell of a row, as `<c r="B7"><f t="shared" si="0"/><v>14</v></c>`
 abbrev pub doubled_cell : ℕ → ℕ → List Event
 doubled_cell rows row =
     element (codes "c") (attribute (codes "r") (codes "B" ++ decimal row))
     (formula_element rows row ++ sample_value (2 * row))
 
--- where the row is odd, ` s="1"`
+-- the style of a row's third cell, ` s="1"` where the row is odd
 abbrev pub style_attribute : ℕ → List ℕ
 style_attribute row = if row % 2 == 1 then attribute (codes "s") (codes "1") else []
 
--- `<c r="C7" s="1" t="s"><v>1</v></c>`
+-- the third cell of a row, as `<c r="C7" s="1" t="s"><v>1</v></c>`
 abbrev pub string_cell : ℕ → List Event
 string_cell row =
     element (codes "c")
@@ -63,14 +62,14 @@ row_element rows row =
     element (codes "row") (attribute (codes "r") (decimal row))
     (number_cell row ++ (doubled_cell rows row ++ string_cell row))
 
--- the first rows of so many
+-- the elements of the first rows of the sample, so many of them
 abbrev pub first_rows : ℕ → ℕ → List Event
 first_rows rows zero = []
 first_rows rows (suc count) = first_rows rows count ++ row_element rows (suc count)
 
 -- ---- the parts
 
--- the type of a relationship
+-- the type of a relationship that leads to a part of this kind
 abbrev pub relationship_type : List ℕ → List ℕ
 relationship_type kind =
     codes "http://schemas.openxmlformats.org/officeDocument/2006/relationships/" ++ kind
@@ -109,7 +108,7 @@ sheet_element =
 abbrev pub sheets_element : List Event
 sheets_element = element (codes "sheets") [] sheet_element
 
--- the workbook's own part
+-- the workbook's own part in the sample
 abbrev pub sample_workbook : Part
 sample_workbook = record {
   name = codes "xl/workbook.xml";
@@ -140,7 +139,7 @@ sample_strings = record {
       ++ (string_element (codes "green") ++ string_element (codes "blue")));
 }
 
--- the attribute of a pattern
+-- the attribute `patternType`, which names the pattern of a fill
 abbrev pub pattern : List ℕ → List ℕ
 pattern name = attribute (codes "patternType") name
 
@@ -155,7 +154,7 @@ yellow_pattern =
     element (codes "patternFill") (pattern (codes "solid"))
     (element (codes "fgColor") (attribute (codes "rgb") (codes "FFFFFF00")) [])
 
--- a fill that is yellow
+-- the element `fill` of a fill that is yellow
 abbrev pub yellow_fill : List Event
 yellow_fill = element (codes "fill") [] yellow_pattern
 

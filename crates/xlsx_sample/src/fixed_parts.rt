@@ -1,13 +1,13 @@
 ghost use Rattle.std.specs.Prelude.{◌≡◌, ◌++◌, ◌∷◌, [], IfOk, OnOk};
-ghost use Rattle.part_events.specs.Memory.{closed};
-ghost use Rattle.written_markup.specs.Markup.{with_events};
+ghost use Rattle.part_events.specs.Words.{closed};
+ghost use Rattle.written_markup.specs.Words.{with_events};
 ghost use Rattle.xlsx_sample.specs.Sample.{root_part, sample_relationships, sample_workbook};
 ghost use Rattle.xlsx_sample.specs.Sample.{sheets_element, string_element, sample_strings};
 ghost use Rattle.xlsx_sample.specs.Sample.{plain_fill, yellow_pattern, yellow_fill, fills_element};
 ghost use Rattle.xlsx_sample.specs.Sample.{formats_element, sample_styles};
 
 use std::alloc::{AllocError, Global};
-use written_markup::Draft;
+use written_markup::PackageBuilder;
 
 /// The attributes of the relationship to the workbook.
 const TO_WORKBOOK: &str = " Id=\"rId1\" \
@@ -20,122 +20,122 @@ const TO_SHEET: &str = " Id=\"rId1\" \
     Target=\"worksheets/sheet1.xml\"";
 
 /// A package of the part of its relationships.
-pub fn with_root(alloc: Global) -> Result<Draft, AllocError>
-    ensures { IfOk result (λ draft. draft ≡ closed (root_part ∷ []) 0) }
+pub fn with_root(alloc: Global) -> Result<PackageBuilder, AllocError>
+    ensures { IfOk result (λ builder. builder ≡ closed (root_part ∷ []) 0) }
 {
-    let mut draft = Draft::new(alloc, "_rels/.rels", "Relationships", "")?;
-    draft.push_empty("Relationship", TO_WORKBOOK)?;
-    draft.close("Relationships")?;
-    Ok(draft)
+    let mut builder = PackageBuilder::new(alloc, "_rels/.rels", "Relationships", "")?;
+    builder.push_empty("Relationship", TO_WORKBOOK)?;
+    builder.close("Relationships")?;
+    Ok(builder)
 }
 
 /// Appends the part of the workbook's relationships.
-pub fn add_relationships(draft: &mut Draft) -> Result<(), AllocError>
-    ensures { OnOk result (draft.new
-        ≡ closed (draft.old.parts ++ sample_relationships ∷ []) draft.old.taken) }
+pub fn add_relationships(builder: &mut PackageBuilder) -> Result<(), AllocError>
+    ensures { OnOk result (builder.new
+        ≡ closed (builder.old.parts ++ sample_relationships ∷ []) builder.old.taken) }
 {
-    draft.begin_part("xl/_rels/workbook.xml.rels", "Relationships", "")?;
-    draft.push_empty("Relationship", TO_SHEET)?;
-    draft.close("Relationships")
+    builder.begin_part("xl/_rels/workbook.xml.rels", "Relationships", "")?;
+    builder.push_empty("Relationship", TO_SHEET)?;
+    builder.close("Relationships")
 }
 
 /// Appends the list of sheets.
-fn push_sheets(draft: &mut Draft) -> Result<(), AllocError>
-    ensures { OnOk result (draft.new ≡ with_events draft.old sheets_element) }
+fn push_sheets(builder: &mut PackageBuilder) -> Result<(), AllocError>
+    ensures { OnOk result (builder.new ≡ with_events builder.old sheets_element) }
 {
-    draft.open("sheets", "")?;
-    draft.push_empty("sheet", " name=\"Sample\" sheetId=\"1\" r:id=\"rId1\"")?;
-    draft.close("sheets")
+    builder.open("sheets", "")?;
+    builder.push_empty("sheet", " name=\"Sample\" sheetId=\"1\" r:id=\"rId1\"")?;
+    builder.close("sheets")
 }
 
 /// Appends the workbook's own part.
-pub fn add_workbook(draft: &mut Draft) -> Result<(), AllocError>
-    ensures { OnOk result (draft.new
-        ≡ closed (draft.old.parts ++ sample_workbook ∷ []) draft.old.taken) }
+pub fn add_workbook(builder: &mut PackageBuilder) -> Result<(), AllocError>
+    ensures { OnOk result (builder.new
+        ≡ closed (builder.old.parts ++ sample_workbook ∷ []) builder.old.taken) }
 {
-    draft.begin_part("xl/workbook.xml", "workbook", "")?;
-    push_sheets(draft)?;
-    draft.close("workbook")
+    builder.begin_part("xl/workbook.xml", "workbook", "")?;
+    push_sheets(builder)?;
+    builder.close("workbook")
 }
 
 /// Appends a shared string.
-fn push_string(draft: &mut Draft, content: &str) -> Result<(), AllocError>
+fn push_string(builder: &mut PackageBuilder, content: &str) -> Result<(), AllocError>
     ensures { let string = string_element content.now in
-        OnOk result (draft.new ≡ with_events draft.old string) }
+        OnOk result (builder.new ≡ with_events builder.old string) }
 {
-    draft.open("si", "")?;
-    draft.push_text("t", "", content)?;
-    draft.close("si")
+    builder.open("si", "")?;
+    builder.push_text("t", "", content)?;
+    builder.close("si")
 }
 
 /// Appends the part of the shared strings.
-pub fn add_strings(draft: &mut Draft) -> Result<(), AllocError>
-    ensures { OnOk result (draft.new
-        ≡ closed (draft.old.parts ++ sample_strings ∷ []) draft.old.taken) }
+pub fn add_strings(builder: &mut PackageBuilder) -> Result<(), AllocError>
+    ensures { OnOk result (builder.new
+        ≡ closed (builder.old.parts ++ sample_strings ∷ []) builder.old.taken) }
 {
-    draft.begin_part("xl/sharedStrings.xml", "sst", "")?;
-    push_string(draft, "red")?;
-    push_string(draft, "green")?;
-    push_string(draft, "blue")?;
-    draft.close("sst")
+    builder.begin_part("xl/sharedStrings.xml", "sst", "")?;
+    push_string(builder, "red")?;
+    push_string(builder, "green")?;
+    push_string(builder, "blue")?;
+    builder.close("sst")
 }
 
 /// Appends a fill without a color, by the attributes of its pattern.
-fn push_plain_fill(draft: &mut Draft, attributes: &str) -> Result<(), AllocError>
+fn push_plain_fill(builder: &mut PackageBuilder, attributes: &str) -> Result<(), AllocError>
     ensures { let fill = plain_fill attributes.now in
-        OnOk result (draft.new ≡ with_events draft.old fill) }
+        OnOk result (builder.new ≡ with_events builder.old fill) }
 {
-    draft.open("fill", "")?;
-    draft.push_empty("patternFill", attributes)?;
-    draft.close("fill")
+    builder.open("fill", "")?;
+    builder.push_empty("patternFill", attributes)?;
+    builder.close("fill")
 }
 
 /// Appends the pattern of the yellow fill.
-fn push_yellow_pattern(draft: &mut Draft) -> Result<(), AllocError>
-    ensures { OnOk result (draft.new ≡ with_events draft.old yellow_pattern) }
+fn push_yellow_pattern(builder: &mut PackageBuilder) -> Result<(), AllocError>
+    ensures { OnOk result (builder.new ≡ with_events builder.old yellow_pattern) }
 {
-    draft.open("patternFill", " patternType=\"solid\"")?;
-    draft.push_empty("fgColor", " rgb=\"FFFFFF00\"")?;
-    draft.close("patternFill")
+    builder.open("patternFill", " patternType=\"solid\"")?;
+    builder.push_empty("fgColor", " rgb=\"FFFFFF00\"")?;
+    builder.close("patternFill")
 }
 
 /// Appends the yellow fill.
-fn push_yellow_fill(draft: &mut Draft) -> Result<(), AllocError>
-    ensures { OnOk result (draft.new ≡ with_events draft.old yellow_fill) }
+fn push_yellow_fill(builder: &mut PackageBuilder) -> Result<(), AllocError>
+    ensures { OnOk result (builder.new ≡ with_events builder.old yellow_fill) }
 {
-    draft.open("fill", "")?;
-    push_yellow_pattern(draft)?;
-    draft.close("fill")
+    builder.open("fill", "")?;
+    push_yellow_pattern(builder)?;
+    builder.close("fill")
 }
 
 /// Appends the fills.
-fn push_fills(draft: &mut Draft) -> Result<(), AllocError>
-    ensures { OnOk result (draft.new ≡ with_events draft.old fills_element) }
+fn push_fills(builder: &mut PackageBuilder) -> Result<(), AllocError>
+    ensures { OnOk result (builder.new ≡ with_events builder.old fills_element) }
 {
-    draft.open("fills", "")?;
-    push_plain_fill(draft, " patternType=\"none\"")?;
-    push_plain_fill(draft, " patternType=\"gray125\"")?;
-    push_yellow_fill(draft)?;
-    draft.close("fills")
+    builder.open("fills", "")?;
+    push_plain_fill(builder, " patternType=\"none\"")?;
+    push_plain_fill(builder, " patternType=\"gray125\"")?;
+    push_yellow_fill(builder)?;
+    builder.close("fills")
 }
 
 /// Appends the formats of cells.
-fn push_formats(draft: &mut Draft) -> Result<(), AllocError>
-    ensures { OnOk result (draft.new ≡ with_events draft.old formats_element) }
+fn push_formats(builder: &mut PackageBuilder) -> Result<(), AllocError>
+    ensures { OnOk result (builder.new ≡ with_events builder.old formats_element) }
 {
-    draft.open("cellXfs", "")?;
-    draft.push_empty("xf", " fillId=\"0\"")?;
-    draft.push_empty("xf", " fillId=\"2\"")?;
-    draft.close("cellXfs")
+    builder.open("cellXfs", "")?;
+    builder.push_empty("xf", " fillId=\"0\"")?;
+    builder.push_empty("xf", " fillId=\"2\"")?;
+    builder.close("cellXfs")
 }
 
 /// Appends the part of the styles.
-pub fn add_styles(draft: &mut Draft) -> Result<(), AllocError>
-    ensures { OnOk result (draft.new
-        ≡ closed (draft.old.parts ++ sample_styles ∷ []) draft.old.taken) }
+pub fn add_styles(builder: &mut PackageBuilder) -> Result<(), AllocError>
+    ensures { OnOk result (builder.new
+        ≡ closed (builder.old.parts ++ sample_styles ∷ []) builder.old.taken) }
 {
-    draft.begin_part("xl/styles.xml", "styleSheet", "")?;
-    push_fills(draft)?;
-    push_formats(draft)?;
-    draft.close("styleSheet")
+    builder.begin_part("xl/styles.xml", "styleSheet", "")?;
+    push_fills(builder)?;
+    push_formats(builder)?;
+    builder.close("styleSheet")
 }

@@ -1,13 +1,10 @@
 -- What is left of a section where its part ends in it, or where the nesting breaks.
-use Rattle.std.proofs.Common.{◌≡◌, ℕ, zero, suc, List, [], ◌∷◌, Bool, true, false, Some}
-use Rattle.std.proofs.Common.{None, refl}
+use Rattle.std.proofs.Common.{◌≡◌, ℕ, zero, suc, List, [], ◌∷◌, Bool, true, false, Some, None, refl}
 use Rattle.std.specs.Prelude.{if◌then◌else◌}
-use Rattle.part_events.specs.Event.{Tag, Event, start, end, leaf}
-use Rattle.part_events.specs.Package.{PackageState}
-use Rattle.part_events.specs.Reading.{Reading, ahead}
-use Rattle.part_events.specs.Section.{element_of, content, is_closed, behind_start, outermost}
-use Rattle.part_events.specs.Section.{outermost_from, unclosed, unclosed_from}
-use Rattle.part_events.specs.Walk.{inside, section_ahead, WalkFails}
+use Rattle.part_events.specs.Words.{Tag, Event, start, end, leaf, PackageState, Reading, ahead}
+use Rattle.part_events.specs.Words.{element_of, content, is_closed, behind_start, outermost}
+use Rattle.part_events.specs.Words.{outermost_from, unclosed, unclosed_from, inside, section_ahead}
+use Rattle.part_events.specs.Words.{WalkFails}
 use Rattle.part_events.specs.declared.fault.StreamError.{StreamError}
 use Rattle.part_events.specs.declared.fault.StreamError.TheVariants as stream
 use Rattle.part_events.specs.declared.fault.XmlFault.TheVariants.{Break, Unclosed, Entity}
@@ -28,7 +25,7 @@ cut_weaker after before error weaker is = tt
 -- where a section is cut off, no end closes it
 pub cut_open : (base : ℕ) (old new : Reading) (ending : Ending) (refused : Refusing)
     (error : XlsxError) → SectionFails ending refused base old new error
-    → IfCutOff (old.source.is_told ≡ true → has_end (section_left base old) ≡ false) error
+    → IfCutOff (old.source.is_visible ≡ true → has_end (section_left base old) ≡ false) error
 cut_open base old new ending refused (Xml (Break at why)) fails = λ told. (fails told).1
 cut_open base old new ending refused (Xml (Unclosed at)) fails = λ told. (fails told).0.1
 cut_open base old new ending refused (XmlEof element) fails = λ told. (fails told).0.1
@@ -37,7 +34,7 @@ cut_open base old new ending refused error fails = tt
 -- a call is refused for a cause, and tells that it is cut off only where something is lacking
 pub fails_cut_off : (cause : XlsxError → Type 0) (lacks : Type 0) (old new : PackageState)
     (error : XlsxError) → FailsBy cause old new error
-    → IfCutOff (old.is_told ≡ true → lacks) error
+    → IfCutOff (old.is_visible ≡ true → lacks) error
     → FailsBy (λ own. cause own × IfCutOff lacks own) old new error
 fails_cut_off cause lacks old new Io fails cut = fails
 fails_cut_off cause lacks old new OutOfMemory fails cut = tt
@@ -82,7 +79,7 @@ none_open wanted (leaf kind ∷ events) none = none_open wanted events none
 -- the nesting breaks before a wanted start is found
 pub walk_cut : (wanted : Tag → Bool) (base : ℕ) (old new : Reading) (error : StreamError)
     → WalkFails wanted base old new error
-    → IfCutOff (old.source.is_told ≡ true → outermost wanted (section_ahead base old) ≡ [])
+    → IfCutOff (old.source.is_visible ≡ true → outermost wanted (section_ahead base old) ≡ [])
     (of_stream error)
 walk_cut wanted base old new stream.Io fails = tt
 walk_cut wanted base old new stream.OutOfMemory fails = tt

@@ -1,27 +1,23 @@
 -- How the elements of a section are read, and how one that is refused makes the section refused.
 use Rattle.std.proofs.Common.{◌≡◌, ℕ, zero, suc, ◌+◌, ◌-◌, ◌≤◌, ◌<◌, List, [], ◌∷◌, ◌++◌, length}
-use Rattle.std.proofs.Common.{Bool, true, false, Some, Option, refl, sym, ◌∙◌, ap, subst}
-use Rattle.std.proofs.Common.{arith}
+use Rattle.std.proofs.Common.{Bool, true, false, Some, Option, refl, sym, ◌∙◌, ap, subst, arith}
 use Rattle.std.proofs.lemmas.List.{length-append, length-reverse}
 use Rattle.std.specs.Prelude.{reverse, if◌then◌else◌}
-use Rattle.part_events.specs.Event.{Tag, Event, start, end, leaf, IsStartAnd}
-use Rattle.part_events.specs.Nesting.{whole}
-use Rattle.part_events.specs.Reading.{Reading, IsReading, ReadsOn, Skips, PassesElement, IsAtEnd}
-use Rattle.part_events.specs.Reading.{ahead, events_of}
-use Rattle.part_events.specs.Section.{Element, content, is_closed, behind, outermost, unclosed}
-use Rattle.part_events.specs.Walk.{inside, element_at, section_ahead, section_behind}
-use Rattle.part_events.specs.Walk.{is_closed_ahead, behind_section, IsNextElement, StandsAt}
-use Rattle.part_events.specs.Walk.{FindsElement}
+use Rattle.part_events.specs.Words.{Tag, Event, start, end, leaf, IsStartAnd, whole, Reading}
+use Rattle.part_events.specs.Words.{IsReading, ReadsOn, Skips, PassesElement, IsAtEnd, ahead}
+use Rattle.part_events.specs.Words.{events_of, Element, content, is_closed, behind, outermost}
+use Rattle.part_events.specs.Words.{unclosed, inside, element_at, section_ahead, section_behind}
+use Rattle.part_events.specs.Words.{is_closed_ahead, behind_section, IsNextElement, StandsAt}
+use Rattle.part_events.specs.Words.{FindsElement}
 use Rattle.part_events.specs.declared.walk.Step.TheVariants.{Found}
 use Rattle.part_events.proofs.Nested.{whole_split}
 use Rattle.part_events.proofs.Onward.{reads_nothing}
 use Rattle.part_events.proofs.Sections.{GoesOnBehind, goes_on_behind}
 use Rattle.xlsx_error.specs.declared.error.XlsxError.{XlsxError}
-use Rattle.xlsx_sections.specs.Elements.{KeepsElements, FindsElementIn, end_outside}
-use Rattle.xlsx_sections.specs.Elements.{end_among}
+use Rattle.xlsx_sections.specs.Elements.{KeepsElements, FindsElementIn, end_outside, end_among}
 use Rattle.xlsx_sections.specs.PartSection.{Ending, Refusing, KeepsSection, SectionFails}
 use Rattle.xlsx_sections.specs.PartSection.{StandsAtStart, section_left, has_end, inside_of}
-use Rattle.xlsx_sections.specs.Refusal.{Refusal, further, events_behind}
+use Rattle.xlsx_sections.specs.Refusal.{Refusal, further, count_behind}
 pub use Rattle.xlsx_sections.specs.Steps.{IsElementFound}
 use Rattle.xlsx_sections.specs.Steps.{StepsToElement}
 use Rattle.xlsx_sections.proofs.Refused.{refused_in}
@@ -50,11 +46,12 @@ own_end new = ap (λ (n : ℕ). is_closed n (ahead new)) (omega arith)
 
 -- a reader that stands behind an element took as many events as the element has
 pub skips_element : {old new : Reading} → IsReading old → ReadsOn old new
-    → old.source.is_told ≡ true → is_closed 0 (ahead old) ≡ true → ahead new ≡ behind 0 (ahead old)
+    → old.source.is_visible ≡ true → is_closed 0 (ahead old) ≡ true → ahead new
+    ≡ behind 0 (ahead old)
     → Skips old new
 skips_element {old = old} {new = new} is reads told closed left =
     let before = is.tracked told in
-    let after = reads.stays.reading.tracked (reads.moves.parts.is_told ∙ told) in
+    let after = reads.stays.reading.tracked (reads.moves.parts.is_visible ∙ told) in
     let first : whole (events_of old) ≡ reverse old.source.past ++ ahead old =
     whole_split old.source.past old.source.rest before.whole in
     let second : whole (events_of new) ≡ reverse new.source.past ++ ahead new =
@@ -80,10 +77,10 @@ skips_element {old = old} {new = new} is reads told closed left =
     }
 
 -- a reader at its part's end took all events of the part
-pub at_end : {old new : Reading} → ReadsOn old new → IsAtEnd new → old.source.is_told ≡ true
+pub at_end : {old new : Reading} → ReadsOn old new → IsAtEnd new → old.source.is_visible ≡ true
     → new.at ≡ length (events_of old)
 at_end {old = old} {new = new} reads ended told =
-    let tracked = reads.stays.reading.tracked (reads.moves.parts.is_told ∙ told) in
+    let tracked = reads.stays.reading.tracked (reads.moves.parts.is_visible ∙ told) in
     omega (
       arith,
       tracked.at,
@@ -115,16 +112,16 @@ goes_on base new deep =
 pub element_found : {base place : ℕ} {tag : Tag} {first old new : Reading} (wanted : Tag → Bool)
     → start tag ≡ new.source.current → KeepsElements wanted base first old → ReadsOn old new
     → StandsAtStart wanted base (Some place) old new
-    → (old.source.is_told ≡ true → FindsElementIn wanted base (Some place) old new)
+    → (old.source.is_visible ≡ true → FindsElementIn wanted base (Some place) old new)
     → IsElementFound wanted base tag place first old new
 element_found {base = base} {place = place} {tag = tag} {first = first} {old = old} {new =
     new} wanted current before reads stands finds =
-    let next : old.source.is_told ≡ true → IsNextElement wanted base tag old new = λ told.
+    let next : old.source.is_visible ≡ true → IsNextElement wanted base tag old new = λ told.
     subst (λ (event : Event). IsStartAnd event (λ own. IsNextElement wanted base own old new))
     (sym current) (finds told)
     in
-    let still : first.source.is_told ≡ true → old.source.is_told ≡ true =
-    λ told. before.section.reads.moves.parts.is_told ∙ told in
+    let still : first.source.is_visible ≡ true → old.source.is_visible ≡ true =
+    λ told. before.section.reads.moves.parts.is_visible ∙ told in
     let here : KeepsSection base first new =
     section_further before.section reads (omega (arith, stands.1))
     (λ told. ((goes_on base new stands.1).closed ∙ sym (next told).closed, sym (next told).ends))
@@ -140,7 +137,7 @@ element_found {base = base} {place = place} {tag = tag} {first = first} {old = o
 -- a step to the next wanted element found one
 pub element_step_found : {base at : ℕ} {old new : Reading} (wanted : Tag → Bool) → suc at ≡ new.at
     → ReadsOn old new → StandsAt wanted base Found old new
-    → (old.source.is_told ≡ true → FindsElement wanted base Found old new) → (first : Reading)
+    → (old.source.is_visible ≡ true → FindsElement wanted base Found old new) → (first : Reading)
     → KeepsElements wanted base first old → StepsToElement wanted base (Some at) first old new
 element_step_found {base = base} {at = at} {old = old} {new =
     new} wanted place reads stands finds first before =
@@ -154,7 +151,7 @@ element_step_found {base = base} {at = at} {old = old} {new =
 pub element_there : {base place : ℕ} {first old new : Reading} {wanted : Tag → Bool}
     {step : Option ℕ} → step ≡ Some place → KeepsElements wanted base first old → ReadsOn old new
     → StandsAtStart wanted base step old new
-    → (old.source.is_told ≡ true → FindsElementIn wanted base step old new)
+    → (old.source.is_visible ≡ true → FindsElementIn wanted base step old new)
     → (tag : Tag) × (start tag ≡ new.source.current)
     × IsElementFound wanted base tag place first old new
 element_there {base = base} {place = place} {old = old} {new = new} {wanted =
@@ -167,9 +164,9 @@ element_there {base = base} {place = place} {old = old} {new = new} {wanted =
 pub record IsElementPassed
     (wanted : Tag → Bool) (base : ℕ) (tag : Tag) (first old new after : Reading) : Type 0 where
   pub keeps : KeepsElements wanted base first after
-  pub left : first.source.is_told ≡ true → section_ahead base after ≡ section_behind base new
+  pub left : first.source.is_visible ≡ true → section_ahead base after ≡ section_behind base new
   pub elements :
-      first.source.is_told ≡ true →
+      first.source.is_visible ≡ true →
       outermost wanted (section_ahead base old)
       ≡ element_at base tag new ∷ outermost wanted (section_ahead base after)
 
@@ -178,16 +175,17 @@ pub element_passed : {base place : ℕ} {tag : Tag} {first old new after : Readi
     → PassesElement new after → IsElementPassed wanted base tag first old new after
 element_passed {base = base} {tag = tag} {first = first} {old = old} {new = new} {after =
     after} {wanted = wanted} found passes =
-    let still : first.source.is_told ≡ true → new.source.is_told ≡ true =
-    λ told. found.read.reads.moves.parts.is_told ∙ told in
+    let still : first.source.is_visible ≡ true → new.source.is_visible ≡ true =
+    λ told. found.read.reads.moves.parts.is_visible ∙ told in
     let way = goes_on base new found.deep in
-    let left : new.source.is_told ≡ true → section_ahead base after ≡ section_behind base new =
+    let left : new.source.is_visible ≡ true → section_ahead base after ≡ section_behind base new =
     λ told. ap (λ (n : ℕ). content n (ahead after)) (omega (arith, passes.depth))
     ∙ ap (content (inside base new - 1)) (passes.skips told).ahead in
-    let closed : new.source.is_told ≡ true → is_closed_ahead base after ≡ is_closed_ahead base new =
+    let closed : new.source.is_visible ≡ true → is_closed_ahead base after
+    ≡ is_closed_ahead base new =
     λ told. ap (λ (n : ℕ). is_closed n (ahead after)) (omega (arith, passes.depth))
     ∙ ap (is_closed (inside base new - 1)) (passes.skips told).ahead ∙ sym way.closed in
-    let behind_it : new.source.is_told ≡ true → behind_section base after
+    let behind_it : new.source.is_visible ≡ true → behind_section base after
     ≡ behind_section base new =
     λ told. ap (λ (n : ℕ). behind n (ahead after)) (omega (arith, passes.depth))
     ∙ ap (behind (inside base new - 1)) (passes.skips told).ahead ∙ sym way.left in
@@ -222,7 +220,7 @@ element_passed {base = base} {tag = tag} {first = first} {old = old} {new = new}
 
 -- a section is open where an element is that lies in it
 is_open : {base place : ℕ} {tag : Tag} {first old new : Reading} {wanted : Tag → Bool}
-    → first.source.is_told ≡ true → IsElementFound wanted base tag place first old new
+    → first.source.is_visible ≡ true → IsElementFound wanted base tag place first old new
     → has_end (section_left (length new.names) new) ≡ false
     → has_end (section_left base first) ≡ false
 is_open {base = base} {new = new} told found ends =
@@ -230,7 +228,7 @@ is_open {base = base} {new = new} told found ends =
     ∙ (goes_on base new found.deep).open_too (sym (own_end new) ∙ ends)
 
 unclosed_there : {base place : ℕ} {tag : Tag} {first old new : Reading} {wanted : Tag → Bool}
-    → first.source.is_told ≡ true → IsElementFound wanted base tag place first old new
+    → first.source.is_visible ≡ true → IsElementFound wanted base tag place first old new
     → has_end (section_left (length new.names) new) ≡ false
     → unclosed wanted (section_ahead base first) ≡ Some (element_at base tag new)
 unclosed_there {base = base} {tag = tag} {new = new} {wanted = wanted} told found ends =
@@ -243,19 +241,19 @@ pub element_refused : {base place : ℕ} {tag : Tag} {first old new : Reading} {
     (name : List ℕ) (inner : Element → Option (List ℕ)) (ending : Ending)
     (after before : Refusing) (last : Reading) (error : XlsxError)
     → IsElementFound wanted base tag place first old new
-    → (first.source.is_told ≡ true
+    → (first.source.is_visible ≡ true
     → inner (element_at base tag new) ≡ ending (content 0 (ahead new)))
-    → (first.source.is_told ≡ true → (refusal : Refusal)
+    → (first.source.is_visible ≡ true → (refusal : Refusal)
     → after (section_left (length new.names) new) refusal
     → before (section_left base first)
-    (further (events_behind (element_at base tag new)) refusal))
+    (further (count_behind (element_at base tag new)) refusal))
     → SectionFails ending after (length new.names) new last error
     → SectionFails (end_among wanted name inner) before base first last error
 element_refused {base = base} {tag = tag} {first = first} {new = new} {wanted = wanted} name inner
     ending after before last error found ends weaker fails =
     let way = goes_on base new found.deep in
     refused_in ending (end_among wanted name inner) after before
-    (events_behind (element_at base tag new)) (section_left (length new.names) new)
+    (count_behind (element_at base tag new)) (section_left (length new.names) new)
     (section_left base first) last.source error found.read.reads.moves.parts
     (λ told. record {
       events = sym (found.read.reads.stays.part told);

@@ -1,11 +1,8 @@
 -- What the elements of a section say is kept element by element.
 use Rattle.std.proofs.Common.{◌≡◌, ℕ, List, ◌∷◌, length, Bool, true, Option, Some, Result, Ok, Err}
 use Rattle.std.proofs.Common.{refl, sym, ◌∙◌, ap}
-use Rattle.part_events.specs.Event.{Tag, Event, start}
-use Rattle.part_events.specs.Package.{PackageState}
-use Rattle.part_events.specs.Reading.{Reading, PassesElement, ahead}
-use Rattle.part_events.specs.Section.{Element, content, outermost}
-use Rattle.part_events.specs.Walk.{section_ahead, element_at}
+use Rattle.part_events.specs.Words.{Tag, Event, start, PackageState, Reading, PassesElement, ahead}
+use Rattle.part_events.specs.Words.{Element, content, outermost, section_ahead, element_at}
 use Rattle.xlsx_error.specs.declared.error.XlsxError.{XlsxError}
 use Rattle.xlsx_sections.specs.Changes.{all_changes, changed_by}
 use Rattle.xlsx_sections.specs.Elements.{KeepsElements, IsInsideRefused, end_among}
@@ -48,7 +45,7 @@ pub record KeepsElementsSaid {K A : Type 0} (wanted : Tag → Bool)
     (base : ℕ) (kept : K) (first now : Reading) : Type 0 where
   pub keeps : KeepsElements wanted base first now
   pub same :
-      first.source.is_told ≡ true →
+      first.source.is_visible ≡ true →
       said kept (outermost wanted (section_ahead base now)) ≡ meaning (section_ahead base first)
 
 -- one more element is kept
@@ -58,7 +55,7 @@ pub elements_further : {K A : Type 0} {wanted : Tag → Bool}
     (said : K → List Element → Result A Refusal)
     → KeepsElementsSaid wanted said meaning base kept first old
     → IsElementFound wanted base tag place first old new → PassesElement new after
-    → (new.source.is_told ≡ true → (rest : List Element)
+    → (new.source.is_visible ≡ true → (rest : List Element)
     → said next rest ≡ said kept (element_at base tag new ∷ rest))
     → KeepsElementsSaid wanted said meaning base next first after
 elements_further {wanted = wanted} {base = base} {kept = kept} {after =
@@ -67,7 +64,7 @@ elements_further {wanted = wanted} {base = base} {kept = kept} {after =
     record {
       keeps = passed.keeps;
       same = λ told.
-          says (found.read.reads.moves.parts.is_told ∙ told)
+          says (found.read.reads.moves.parts.is_visible ∙ told)
           (outermost wanted (section_ahead base after))
           ∙ sym (ap (said kept) (passed.elements told)) ∙ list.same told;
     }
@@ -103,7 +100,7 @@ pub element_changed : {A : Type 0} {wanted : Tag → Bool} {meaning : List Event
     (change : Element → A → Result A Refusal)
     → KeepsElementsSaid wanted (changes_behind change) meaning base kept first old
     → IsElementFound wanted base tag place first old new → PassesElement new after
-    → (new.source.is_told ≡ true → change (element_at base tag new) kept ≡ Ok next)
+    → (new.source.is_visible ≡ true → change (element_at base tag new) kept ≡ Ok next)
     → KeepsElementsSaid wanted (changes_behind change) meaning base next first after
 element_changed change list found passes is =
     elements_further (changes_behind change) list found passes

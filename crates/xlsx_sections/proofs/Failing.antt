@@ -2,8 +2,7 @@
 use Rattle.std.proofs.Common.{◌≡◌, true, List, refl, ◌∙◌, arith, ℕ, length, inr, Result, Ok, Err}
 use Rattle.std.proofs.Common.{subst, sym}
 use Rattle.std.specs.Prelude.{IsErrAnd, IfErr}
-use Rattle.part_events.specs.Package.{PackageState, SameParts, part_of}
-use Rattle.part_events.specs.Reading.{Reading}
+use Rattle.part_events.specs.Words.{PackageState, SameParts, part_of, Reading}
 use Rattle.xlsx_error.specs.declared.error.XlsxError.{XlsxError}
 use Rattle.xlsx_error.specs.declared.error.XlsxError.TheVariants.{OutOfMemory, Io}
 use Rattle.xlsx_sections.specs.Failing.{FailsBy}
@@ -15,12 +14,12 @@ use Rattle.xlsx_sections.specs.PartSection.{PartCause, PartFails, section_left}
 -- of memory need none.
 pub fails_by_weaker : {old mid : PackageState} (before after : XlsxError → Type 0)
     (new : PackageState) (error : XlsxError) → SameParts old mid
-    → (old.is_told ≡ true → after error → before error) → FailsBy after mid new error
+    → (old.is_visible ≡ true → after error → before error) → FailsBy after mid new error
     → FailsBy before old new error
 fails_by_weaker before after new Io same weaker fails = omega (arith, same.faults, fails)
 fails_by_weaker before after new OutOfMemory same weaker fails = tt
 fails_by_weaker before after new error same weaker fails = λ told.
-    weaker told (fails (same.is_told ∙ told))
+    weaker told (fails (same.is_visible ∙ told))
 
 -- what a `?` gives back is refused as its error is
 pub given_back : {T E : Type 0} (P : E → Type 0) (result : Result T E) {error : E}
@@ -30,7 +29,7 @@ given_back P (Err own) is holds = subst P (sym is) holds
 
 pub same_parts : (state : PackageState) → SameParts state state
 same_parts state = record {
-  is_told = refl;
+  is_visible = refl;
   parts = refl;
   faults = omega arith;
   takes_memory = refl;

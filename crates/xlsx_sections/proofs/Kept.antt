@@ -3,8 +3,7 @@ use Rattle.std.proofs.Common.{◌≡◌, List, [], ◌∷◌, ◌++◌, Option, 
 use Rattle.std.proofs.Common.{sym, ◌∙◌, ap, append_assoc, append-nil}
 use Rattle.xlsx_sections.specs.Changes.{all_changes, changed_by}
 use Rattle.xlsx_sections.specs.Refusal.{Refusal}
-use Rattle.xlsx_sections.specs.Answers.{or_earlier, or_later, with_first, and_others}
-use Rattle.xlsx_sections.specs.Answers.{and_others_if}
+use Rattle.xlsx_sections.specs.Answers.{or_earlier, or_later, with_first, and_others, and_others_if}
 use Rattle.xlsx_sections.specs.Answers.{prepended, last_answer, some_answers}
 
 -- what the last of some gives, with one before them

@@ -1,23 +1,17 @@
 -- How a list is read element by element.
-use Rattle.std.proofs.Common.{◌≡◌, ℕ, List, [], ◌∷◌, ◌++◌, length, true, Bool, Option, Result}
-use Rattle.std.proofs.Common.{Some, Ok, ap}
-use Rattle.part_events.specs.Event.{Tag, Event, start}
-use Rattle.part_events.specs.Package.{PackageState}
-use Rattle.part_events.specs.Reading.{Reading, PassesElement, ahead}
-use Rattle.part_events.specs.Section.{Element, content}
-use Rattle.part_events.specs.Walk.{section_ahead, element_at}
+use Rattle.std.proofs.Common.{◌≡◌, ℕ, List, [], ◌∷◌, ◌++◌, length, true, Bool, Option, Result, Some}
+use Rattle.std.proofs.Common.{Ok, ap}
+use Rattle.part_events.specs.Words.{Tag, Event, start, PackageState, Reading, PassesElement, ahead}
+use Rattle.part_events.specs.Words.{Element, content, section_ahead, element_at}
 use Rattle.xlsx_error.specs.declared.error.XlsxError.{XlsxError}
 use Rattle.xlsx_sections.specs.Answers.{prepended, all_answers, and_others}
-use Rattle.xlsx_sections.specs.ElementLists.{element_said, list_said, end_inside}
-use Rattle.xlsx_sections.specs.ElementLists.{end_in_elements}
-use Rattle.xlsx_sections.specs.Elements.{KeepsElements, IsInsideRefused}
-use Rattle.xlsx_sections.specs.Elements.{end_among}
+use Rattle.xlsx_sections.specs.ElementLists.{element_said, list_said, end_inside, end_in_elements}
+use Rattle.xlsx_sections.specs.Elements.{KeepsElements, IsInsideRefused, end_among}
 use Rattle.xlsx_sections.specs.PartSection.{Ending, Never, inside_of, section_left}
 use Rattle.xlsx_sections.specs.Refusal.{Refusal, in_element}
 use Rattle.xlsx_sections.proofs.ElementsSaid.{KeepsElementsSaid, StepsFrom, elements_further}
 use Rattle.xlsx_sections.proofs.ElementsSaid.{elements_refused, found_there}
-use Rattle.xlsx_sections.proofs.Kept.{behind_refused}
-use Rattle.xlsx_sections.proofs.Kept.{prepended-and_others}
+use Rattle.xlsx_sections.proofs.Kept.{behind_refused, prepended-and_others}
 use Rattle.xlsx_sections.proofs.Refused.{refused_as}
 use Rattle.xlsx_sections.proofs.StartsSaid.{FailsFrom, section_stopped}
 
@@ -27,7 +21,7 @@ pub record KeepsList {A : Type 0} (wanted : Tag → Bool) (meaning : Tag → Lis
     → Result A Refusal) (base : ℕ) (before kept : List A) (first now : Reading) : Type 0 where
   pub keeps : KeepsElements wanted base first now
   pub said :
-      first.source.is_told ≡ true →
+      first.source.is_visible ≡ true →
       prepended kept (list_said wanted meaning (section_ahead base now))
       ≡ prepended before (list_said wanted meaning (section_ahead base first))
 
@@ -53,7 +47,7 @@ pub list_added : {A : Type 0} {wanted : Tag → Bool} {meaning : Tag → List Ev
     {base place : ℕ} {step : Option ℕ} {before kept : List A} {first old new after : Reading}
     (own : A) → step ≡ Some place → KeepsList wanted meaning base before kept first old
     → StepsFrom wanted base step old new → PassesElement new after
-    → (new.source.is_told ≡ true → (tag : Tag) → start tag ≡ new.source.current
+    → (new.source.is_visible ≡ true → (tag : Tag) → start tag ≡ new.source.current
     → meaning tag (content 0 (ahead new)) ≡ Ok own)
     → KeepsList wanted meaning base before (kept ++ own ∷ []) first after
 list_added {wanted = wanted} {meaning = meaning} {base = base} {kept = kept} {new =
@@ -71,12 +65,14 @@ list_added {wanted = wanted} {meaning = meaning} {base = base} {kept = kept} {ne
 -- one of them is refused, and so is the list
 pub list_refused : {A : Type 0} {wanted : Tag → Bool}
     {meaning : Tag → List Event → Result A Refusal} {base place : ℕ} {step : Option ℕ}
-    {before kept : List A} {first old : Reading} (name : List ℕ) (ending : Tag → Ending) (new : Reading)
+    {before kept : List A} {first old : Reading} (name : List ℕ) (ending : Tag → Ending)
+    (new : Reading)
     (last : PackageState) (error : XlsxError) → step ≡ Some place
     → KeepsList wanted meaning base before kept first old → StepsFrom wanted base step old new
     → ((tag : Tag) → start tag ≡ new.source.current
     → FailsFrom (ending tag) (IsInsideRefused (meaning tag)) (length new.names) new last error)
-    → FailsFrom (end_in_elements wanted name ending) (IsInsideRefused (list_said wanted meaning)) base
+    → FailsFrom (end_in_elements wanted name ending)
+    (IsInsideRefused (list_said wanted meaning)) base
     first last error
 list_refused {wanted = wanted} {meaning = meaning} {base = base} {before = before} {kept =
     kept} {first = first} name ending new last error is list steps fails =
@@ -99,7 +95,8 @@ pub list_stopped : {A : Type 0} {wanted : Tag → Bool}
     (error : XlsxError) → KeepsList wanted meaning base before kept first old
     → ((from : Reading) (inner : Element → Option (List ℕ)) → KeepsElements wanted base from old
     → FailsFrom (end_among wanted name inner) Never base from last error)
-    → FailsFrom (end_in_elements wanted name ending) (IsInsideRefused (list_said wanted meaning)) base
+    → FailsFrom (end_in_elements wanted name ending)
+    (IsInsideRefused (list_said wanted meaning)) base
     first last error
 list_stopped {wanted = wanted} {meaning = meaning} {base = base} {first =
     first} name ending last error list fails =

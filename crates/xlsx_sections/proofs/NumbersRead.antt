@@ -1,6 +1,6 @@
 -- A text of digits is read as the number that it writes.
-use Rattle.std.proofs.Common.{◌≡◌, ◌<◌, ℕ, List, [], ◌∷◌, length, Bool, true, false}
-use Rattle.std.proofs.Common.{refl, ap, sym, subst, ◌∙◌, arith, Some, None}
+use Rattle.std.proofs.Common.{◌≡◌, ◌<◌, ℕ, List, [], ◌∷◌, length, Bool, true, false, refl, ap, sym}
+use Rattle.std.proofs.Common.{subst, ◌∙◌, arith, Some, None}
 use Rattle.std.specs.Prelude.{◌&&◌, ◌^◌, nat_lt, ◌==◌, if◌then◌else◌}
 use Rattle.std.specs.Char.{is_ascii_digit}
 use Rattle.std.specs.Int.{IsInRange}

@@ -1,10 +1,8 @@
 -- How a refusal passes from an event or an element to the section in which it lies.
-use Rattle.std.proofs.Common.{◌≡◌, ℕ, suc, ◌+◌, true, false, Option, Some, None, refl}
-use Rattle.std.proofs.Common.{Result, Err}
+use Rattle.std.proofs.Common.{◌≡◌, ℕ, suc, ◌+◌, true, false, Option, Some, None, refl, Result, Err}
 use Rattle.std.proofs.Common.{◌∙◌, sym, subst, arith, ap}
 use Rattle.std.specs.Prelude.{IsSomeAnd}
-use Rattle.part_events.specs.Package.{PackageState, SameParts}
-use Rattle.part_events.specs.Reading.{Reading}
+use Rattle.part_events.specs.Words.{PackageState, SameParts, Reading}
 use Rattle.part_events.specs.declared.fault.XmlFault.TheVariants.{Break, Unclosed, Entity}
 use Rattle.xlsx_error.specs.declared.error.XlsxError.{XlsxError}
 use Rattle.xlsx_error.specs.declared.error.XlsxError.TheVariants.{OutOfMemory, Io, Xml, XmlEof}
@@ -13,8 +11,7 @@ use Rattle.xlsx_sections.specs.PartSection.{PartSection, KeepsSection, inside_of
 use Rattle.xlsx_sections.specs.PartSection.{Ending, Refusing, section_left, SectionCause}
 use Rattle.xlsx_sections.specs.PartSection.{SectionFails}
 use Rattle.xlsx_sections.specs.Refusal.{Refusal, PlainRefusal, RefusedAs, RefusedAt, further}
-use Rattle.xlsx_sections.specs.Refusal.{ElementFails}
-use Rattle.xlsx_sections.specs.Refusal.{no_character, plain, plain_told}
+use Rattle.xlsx_sections.specs.Refusal.{ElementFails, no_character, plain, plain_told}
 use Rattle.xlsx_sections.proofs.Failing.{fails_by_weaker, same_parts}
 
 -- a plain refusal of which an error tells
@@ -118,7 +115,8 @@ cause_outside {after = after} {before = before} {more = more} {inner = inner} {o
 
 pub refused_in : {old mid : PackageState} (first second : Ending) (after before : Refusing)
     (more : ℕ) (inner outer : PartSection) (new : PackageState) (error : XlsxError)
-    → SameParts old mid → (old.is_told ≡ true → LiesIn first second after before more inner outer)
+    → SameParts old mid → (old.is_visible ≡ true → LiesIn first second after before more
+    inner outer)
     → FailsBy (SectionCause first after inner) mid new error
     → FailsBy (SectionCause second before outer) old new error
 refused_in first second after before more inner outer new error same lies fails =
@@ -129,9 +127,9 @@ refused_in first second after before more inner outer new error same lies fails 
 -- a section is refused behind what was read of it
 pub refused_later : (base : ℕ) (first mid : Reading) (ending : Ending) (after before : Refusing)
     (new : Reading) (error : XlsxError) → KeepsSection base first mid
-    → (first.source.is_told ≡ true → ending (inside_of (section_left base mid))
+    → (first.source.is_visible ≡ true → ending (inside_of (section_left base mid))
     ≡ ending (inside_of (section_left base first)))
-    → (first.source.is_told ≡ true → (refusal : Refusal) → after (section_left base mid) refusal
+    → (first.source.is_visible ≡ true → (refusal : Refusal) → after (section_left base mid) refusal
     → before (section_left base first) refusal) → SectionFails ending after base mid new error
     → SectionFails ending before base first new error
 refused_later base first mid ending after before new error read ends weaker fails =
@@ -149,9 +147,9 @@ refused_later base first mid ending after before new error read ends weaker fail
 -- a section whose end is told in another way, and of which more is refused
 pub refused_by : (base : ℕ) (old : Reading) (first second : Ending) (after before : Refusing)
     (new : Reading) (error : XlsxError)
-    → (old.source.is_told ≡ true → second (inside_of (section_left base old))
+    → (old.source.is_visible ≡ true → second (inside_of (section_left base old))
     ≡ first (inside_of (section_left base old)))
-    → (old.source.is_told ≡ true → (refusal : Refusal) → after (section_left base old) refusal
+    → (old.source.is_visible ≡ true → (refusal : Refusal) → after (section_left base old) refusal
     → before (section_left base old) refusal) → SectionFails first after base old new error
     → SectionFails second before base old new error
 refused_by base old first second after before new error ends weaker fails =
@@ -183,8 +181,8 @@ told_cause ending refused s error refuses = refuses
 
 pub event_refused : (base at behind : ℕ) (first : Reading) (ending : Ending)
     (own : Refusal → Type 0) (refused : Refusing) (new : Reading) (error : XlsxError)
-    → (first.source.is_told ≡ true → at + suc behind ≡ last_of (section_left base first))
-    → (first.source.is_told ≡ true → (refusal : Refusal) → own refusal
+    → (first.source.is_visible ≡ true → at + suc behind ≡ last_of (section_left base first))
+    → (first.source.is_visible ≡ true → (refusal : Refusal) → own refusal
     → refused (section_left base first) refusal) → RefusedAt own at behind error
     → SectionFails ending refused base first new error
 event_refused base at behind first ending own refused new Io there weaker fails = absurd fails

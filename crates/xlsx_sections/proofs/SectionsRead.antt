@@ -1,26 +1,21 @@
 -- How a section is read on.
-use Rattle.std.proofs.Common.{◌≡◌, ℕ, ◌-◌, ◌≤◌, List, [], ◌∷◌, length, Bool, true, Some}
-use Rattle.std.proofs.Common.{Option, refl, sym, ◌∙◌, ap, arith}
+use Rattle.std.proofs.Common.{◌≡◌, ℕ, ◌-◌, ◌≤◌, List, [], ◌∷◌, length, Bool, true, Some, Option}
+use Rattle.std.proofs.Common.{refl, sym, ◌∙◌, ap, arith}
 use Rattle.std.specs.Option.{option_map_or}
 use Rattle.std.proofs.lemmas.List.{length-append, length-reverse}
 use Rattle.std.specs.Prelude.{option_map, reverse, ◌++◌}
-use Rattle.part_events.specs.Event.{Tag, Event, start, end, leaf, IsStartAnd}
-use Rattle.part_events.specs.Nesting.{whole, whole_rest}
-use Rattle.part_events.specs.Package.{PackageState, SameParts, OpenCounts, Opens, part_of}
-use Rattle.part_events.specs.Package.{event_count}
-use Rattle.part_events.specs.Reading.{Reading, IsReading, ReadsOn, IsTracked, IsAtElement}
-use Rattle.part_events.specs.Reading.{LeavesPart}
-use Rattle.part_events.specs.Reading.{TakesEvent, StepsAhead, ahead, events_of}
-use Rattle.part_events.specs.Section.{behind}
-use Rattle.part_events.specs.Section.{behind_start, is_named}
-use Rattle.part_events.specs.Walk.{inside, section_ahead, is_closed_ahead}
-use Rattle.part_events.specs.Walk.{TakesInside}
+use Rattle.part_events.specs.Words.{Tag, Event, start, end, leaf, IsStartAnd, whole, whole_rest}
+use Rattle.part_events.specs.Words.{PackageState, SameParts, OpenCounts, Opens, part_of}
+use Rattle.part_events.specs.Words.{event_count, Reading, IsReading, ReadsOn, IsTracked}
+use Rattle.part_events.specs.Words.{IsAtElement, LeavesPart, TakesEvent, StepsAhead, ahead}
+use Rattle.part_events.specs.Words.{events_of, behind, behind_start, is_named, inside}
+use Rattle.part_events.specs.Words.{section_ahead, is_closed_ahead, TakesInside}
 use Rattle.part_events.proofs.Nested.{whole_split}
 use Rattle.part_events.proofs.Onward.{reads_further, moves_further}
 use Rattle.part_events.proofs.Walking.{takes_inside}
 use Rattle.xlsx_sections.specs.PartSection.{PartSection, KeepsSection, EntersSection, section_left}
-use Rattle.xlsx_sections.specs.PartSection.{section_from, section_in, last_of}
-use Rattle.xlsx_sections.specs.PartSection.{StandsAtEvent, FindsEvent}
+use Rattle.xlsx_sections.specs.PartSection.{section_from, section_in, last_of, StandsAtEvent}
+use Rattle.xlsx_sections.specs.PartSection.{FindsEvent}
 use Rattle.xlsx_sections.specs.Steps.{IsEventInside}
 
 -- an event is the start of one tag
@@ -44,14 +39,14 @@ leaves_further reads leaves = record {
 
 pub section_further : {base : ℕ} {first old new : Reading} → KeepsSection base first old
     → ReadsOn old new → base ≤ length new.names
-    → (old.source.is_told ≡ true → (is_closed_ahead base new ≡ is_closed_ahead base old)
+    → (old.source.is_visible ≡ true → (is_closed_ahead base new ≡ is_closed_ahead base old)
     × (last_of (section_left base new) ≡ last_of (section_left base old)))
     → KeepsSection base first new
 section_further before reads within same = record {
   reads = reads_further before.reads reads;
   within = within;
-  closed = λ told. (same (before.reads.moves.parts.is_told ∙ told)).0 ∙ before.closed told;
-  last = λ told. (same (before.reads.moves.parts.is_told ∙ told)).1 ∙ before.last told;
+  closed = λ told. (same (before.reads.moves.parts.is_visible ∙ told)).0 ∙ before.closed told;
+  last = λ told. (same (before.reads.moves.parts.is_visible ∙ told)).1 ∙ before.last told;
 }
 
 pub keeps_further : {base : ℕ} {first mid last : Reading} → KeepsSection base first mid
@@ -62,7 +57,7 @@ keeps_further before after =
 -- so it was behind an event that lies in it
 pub section_taken : {base : ℕ} {first old new : Reading} → KeepsSection base first old
     → ReadsOn old new → TakesEvent old new → base ≤ length new.names
-    → (old.source.is_told ≡ true → StepsAhead true old new) → KeepsSection base first new
+    → (old.source.is_visible ≡ true → StepsAhead true old new) → KeepsSection base first new
 section_taken {base = base} {old = old} {new = new} before reads takes is steps =
     section_further before reads is
     (λ told. let taken = takes_inside base old new takes (steps told) before.within is in
@@ -72,13 +67,13 @@ section_taken {base = base} {old = old} {new = new} before reads takes is steps 
 pub event_inside : {base place : ℕ} {event : Event} {first old new : Reading} → event
     ≡ new.source.current → KeepsSection base first old → ReadsOn old new
     → StandsAtEvent base (Some place) old new
-    → (old.source.is_told ≡ true → FindsEvent base (Some place) old new)
+    → (old.source.is_visible ≡ true → FindsEvent base (Some place) old new)
     → IsEventInside base event place first old new
 event_inside {base = base} {place = place} {event = event} {first = first} {old = old} {new =
     new} current before reads stands finds =
-    let still : first.source.is_told ≡ true → old.source.is_told ≡ true =
-    λ told. before.reads.moves.parts.is_told ∙ told in
-    let events : first.source.is_told ≡ true → section_ahead base old
+    let still : first.source.is_visible ≡ true → old.source.is_visible ≡ true =
+    λ told. before.reads.moves.parts.is_visible ∙ told in
+    let events : first.source.is_visible ≡ true → section_ahead base old
     ≡ event ∷ section_ahead base new = λ told.
     (finds (still told)).events ∙ ap (λ (next : Event). next ∷ section_ahead base new) (sym current)
     in
@@ -103,7 +98,7 @@ empty_by_length [] none = refl
 empty_by_length (event ∷ events) none = absurd (omega (arith, none))
 
 -- a reader that took nothing has nothing behind it
-pub nothing_past : (r : Reading) → IsReading r → r.at ≡ 0 → r.source.is_told ≡ true
+pub nothing_past : (r : Reading) → IsReading r → r.at ≡ 0 → r.source.is_visible ≡ true
     → r.source.past ≡ []
 nothing_past r is first told =
     empty_by_length r.source.past (omega (arith, (is.tracked told).at, first))
@@ -158,23 +153,24 @@ part_opened is opened opens =
 -- the part was opened, and read on behind the start of its first section of this name
 pub section_entered : {name path : List ℕ} {found : Bool} {old : PackageState}
     {opened entered : Reading} → found ≡ true → SameParts old opened.source
-    → OpenCounts found old opened.source → (old.is_told ≡ true → Opens path found old opened.source)
+    → OpenCounts found old opened.source → (old.is_visible ≡ true
+    → Opens path found old opened.source)
     → opened.at ≡ 0 → ReadsOn opened entered → IsAtElement entered
-    → (opened.source.is_told ≡ true → behind_start (is_named (name ∷ [])) (ahead opened)
+    → (opened.source.is_visible ≡ true → behind_start (is_named (name ∷ [])) (ahead opened)
     ≡ Some (ahead entered)) → EntersSection name path old entered
 section_entered {name = name} {path = path} {old = old} {opened = opened} {entered =
     entered} is same counted opens first reads element behind =
     let counts : OpenCounts true old opened.source = rw is at counted in
-    let opening : old.is_told ≡ true → Opens path true old opened.source =
+    let opening : old.is_visible ≡ true → Opens path true old opened.source =
     λ told. rw is at (opens told) in
-    let there : old.is_told ≡ true → part_of old.parts path ≡ Some (events_of opened) = λ told.
+    let there : old.is_visible ≡ true → part_of old.parts path ≡ Some (events_of opened) = λ told.
     part_opened is opened (opens told)
     in
     record {
       reading = reads.stays.reading;
       element = reads.stays.reading.element element;
       parts = record {
-        is_told = reads.moves.parts.is_told ∙ same.is_told;
+        is_visible = reads.moves.parts.is_visible ∙ same.is_visible;
         parts = reads.moves.parts.parts ∙ same.parts;
         faults = omega (arith, reads.moves.parts.faults, same.faults);
         takes_memory = reads.moves.parts.takes_memory ∙ same.takes_memory;
@@ -185,13 +181,13 @@ section_entered {name = name} {path = path} {old = old} {opened = opened} {enter
           let size : event_count old.parts path ≡ length opened.source.rest =
           ap (λ (part : Option (List Event)). option_map_or length part 0)
           (opening told).part in
-          omega (arith, reads.moves.within (same.is_told ∙ told), counts.taken, size);
+          omega (arith, reads.moves.within (same.is_visible ∙ told), counts.taken, size);
       part = λ told. there told
           ∙ ap (λ (events : List Event). Some events)
-          (sym (reads.stays.part (same.is_told ∙ told)));
+          (sym (reads.stays.part (same.is_visible ∙ told)));
       section = λ told.
-          let told_there = same.is_told ∙ told in
+          let told_there = same.is_visible ∙ told in
           first_section_left name opened entered (opening told).past
-          (reads.stays.reading.tracked (reads.moves.parts.is_told ∙ told_there))
+          (reads.stays.reading.tracked (reads.moves.parts.is_visible ∙ told_there))
           (reads.stays.part told_there) (behind told_there);
     }

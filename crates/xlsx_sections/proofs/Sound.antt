@@ -2,10 +2,8 @@
 use Rattle.std.proofs.Common.{◌≡◌, ◌⊎◌, ℕ, List, [], ◌∷◌, Bool, true, false, Option, Some, None}
 use Rattle.std.proofs.Common.{refl, subst, inl, inr}
 use Rattle.std.specs.Prelude.{option_map, option_and_then, IsSomeAnd, MatchOption, if◌then◌else◌}
-use Rattle.part_events.specs.Event.{Event}
-use Rattle.part_events.specs.Nesting.{whole}
-use Rattle.part_events.specs.Package.{Part, part_of}
-use Rattle.part_events.specs.Section.{content, is_closed, behind_start, is_named}
+use Rattle.part_events.specs.Words.{Event, whole, Part, part_of, content, is_closed, behind_start}
+use Rattle.part_events.specs.Words.{is_named}
 use Rattle.part_events.specs.declared.fault.XmlFault.TheVariants.{Break, Unclosed}
 use Rattle.xlsx_error.specs.declared.error.XlsxError.{XlsxError}
 use Rattle.xlsx_error.specs.declared.error.XlsxError.TheVariants.{Xml, XmlEof, FileNotFound}

@@ -1,16 +1,14 @@
 -- What is kept of the starts of a section is what they give.
 use Rattle.std.proofs.Common.{◌≡◌, ℕ, List, [], ◌∷◌, ◌++◌, Bool, Option, Some, None, Result, Ok}
-use Rattle.std.proofs.Common.{Err, map, map-id, option_map}
-use Rattle.std.proofs.Common.{refl, sym, ◌∙◌, ap, append-nil, subst, arith}
+use Rattle.std.proofs.Common.{Err, map, map-id, option_map, refl, sym, ◌∙◌, ap, append-nil, subst}
+use Rattle.std.proofs.Common.{arith}
 use Rattle.std.specs.Prelude.{IsSomeAnd}
-use Rattle.part_events.specs.Event.{Tag, Event}
-use Rattle.part_events.specs.Reading.{Reading}
-use Rattle.part_events.specs.Section.{PlacedTag, starts_by}
+use Rattle.part_events.specs.Words.{Tag, Event, Reading, PlacedTag, starts_by}
 use Rattle.part_events.specs.declared.fault.XmlFault.TheVariants.{Break, Unclosed, Entity}
 use Rattle.xlsx_error.specs.declared.error.XlsxError.{XlsxError}
 use Rattle.xlsx_error.specs.declared.error.XlsxError.TheVariants.{OutOfMemory, Io, Xml, XmlEof}
-use Rattle.xlsx_sections.specs.Answers.{or_earlier, or_later, last_answer, some_answers}
-use Rattle.xlsx_sections.specs.Answers.{prepended, and_others_if}
+use Rattle.xlsx_sections.specs.Answers.{or_earlier, or_later, last_answer, some_answers, prepended}
+use Rattle.xlsx_sections.specs.Answers.{and_others_if}
 use Rattle.xlsx_sections.specs.Changes.{all_changes, changed_by}
 use Rattle.xlsx_sections.specs.Elements.{IsInsideRefused}
 use Rattle.xlsx_sections.specs.Keeping.{changed_in, some_in, last_in, put_behind, or_before}

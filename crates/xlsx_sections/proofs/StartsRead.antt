@@ -1,6 +1,6 @@
 -- How an element is read start by start, to its end.
 use Rattle.std.proofs.Common.{ℕ, ◌≤◌, length, refl}
-use Rattle.part_events.specs.Reading.{Reading, IsReading}
+use Rattle.part_events.specs.Words.{Reading, IsReading}
 use Rattle.part_events.proofs.Onward.{reads_nothing}
 use Rattle.xlsx_sections.specs.Elements.{KeepsStarts}
 

@@ -1,11 +1,8 @@
 -- What the starts of a section say is kept start by start.
-use Rattle.std.proofs.Common.{◌≡◌, ℕ, List, ◌∷◌, length, Bool, true, Result, Err, ap}
-use Rattle.std.proofs.Common.{Ok, Option, ◌∙◌, sym, subst}
-use Rattle.part_events.specs.Event.{Tag, Event, start, IsStartAnd}
-use Rattle.part_events.specs.Package.{PackageState}
-use Rattle.part_events.specs.Reading.{Reading}
-use Rattle.part_events.specs.Section.{PlacedTag, starts_by}
-use Rattle.part_events.specs.Walk.{section_ahead}
+use Rattle.std.proofs.Common.{◌≡◌, ℕ, List, ◌∷◌, length, Bool, true, Result, Err, ap, Ok, Option}
+use Rattle.std.proofs.Common.{◌∙◌, sym, subst}
+use Rattle.part_events.specs.Words.{Tag, Event, start, IsStartAnd, PackageState, Reading, PlacedTag}
+use Rattle.part_events.specs.Words.{starts_by, section_ahead}
 use Rattle.xlsx_error.specs.declared.error.XlsxError.{XlsxError}
 use Rattle.xlsx_sections.specs.Answers.{or_earlier, or_later, last_answer}
 use Rattle.xlsx_sections.specs.Changes.{all_changes, changed_by}
@@ -30,7 +27,7 @@ pub record KeepsSaid {K A : Type 0} (wanted : Tag → Bool)
     (base : ℕ) (kept : K) (first now : Reading) : Type 0 where
   pub keeps : KeepsStarts base first now
   pub same :
-      first.source.is_told ≡ true →
+      first.source.is_visible ≡ true →
       said kept (starts_by wanted (section_ahead base now)) ≡ meaning (section_ahead base first)
 
 -- one more start is kept

@@ -1,11 +1,9 @@
 -- How a text that can't be read makes its element refused.
-use Rattle.std.proofs.Common.{◌≡◌, ℕ, suc, ◌+◌, List, length, Bool, Some, None, Option, sym}
-use Rattle.std.proofs.Common.{◌∙◌, ap, subst, refl}
+use Rattle.std.proofs.Common.{◌≡◌, ℕ, suc, ◌+◌, List, length, Bool, Some, None, Option, sym, ◌∙◌}
+use Rattle.std.proofs.Common.{ap, subst, refl}
 use Rattle.std.specs.Prelude.{Result, Err, IsSomeAnd}
-use Rattle.part_events.specs.Event.{Event}
-use Rattle.part_events.specs.JoinedText.{TextFails, joined_text, unknown_entity}
-use Rattle.part_events.specs.Reading.{Reading, BreaksAt, ahead}
-use Rattle.part_events.specs.Section.{content}
+use Rattle.part_events.specs.Words.{Event, TextFails, joined_text, unknown_entity, Reading}
+use Rattle.part_events.specs.Words.{BreaksAt, ahead, content}
 use Rattle.part_events.specs.declared.fault.StreamError.{StreamError}
 use Rattle.part_events.specs.declared.fault.StreamError.TheVariants as stream
 use Rattle.part_events.specs.declared.fault.XmlFault.TheVariants.{Break, Unclosed, Entity}

@@ -13,12 +13,12 @@ abbrev pub and_others : {A : Type 0} → Result A Refusal → Result (List A) Re
 and_others (Ok first) others = with_first first others
 and_others (Err refusal) others = Err refusal
 
--- what each gives, or the first refusal
+-- what each of a list gives, in order, or the first refusal
 abbrev pub all_answers : {X A : Type 0} → (X → Result A Refusal) → List X → Result (List A) Refusal
 all_answers answer [] = Ok []
 all_answers answer (x ∷ xs) = and_others (answer x) (all_answers answer xs)
 
--- the same, where the first may say nothing
+-- a list of answers, the first in front of the others, where the first may say nothing
 abbrev pub and_others_if : {A : Type 0} → Result (Option A) Refusal → Result (List A) Refusal
     → Result (List A) Refusal
 and_others_if (Ok (Some first)) others = with_first first others
@@ -38,7 +38,7 @@ or_earlier earlier (Ok (Some later)) = Ok (Some later)
 or_earlier earlier (Ok None) = Ok earlier
 or_earlier earlier (Err refusal) = Err refusal
 
--- of two answers the later that says something; the first refusal counts
+-- of two answers the later one that says something; the first refusal counts
 abbrev pub or_later : {A : Type 0} → Result (Option A) Refusal → Result (Option A) Refusal
     → Result (Option A) Refusal
 or_later (Ok earlier) later = or_earlier earlier later
@@ -50,12 +50,12 @@ abbrev pub last_answer : {X A : Type 0} → (X → Result (Option A) Refusal) �
 last_answer answer [] = Ok None
 last_answer answer (x ∷ xs) = or_later (answer x) (last_answer answer xs)
 
--- what was given before, and what the others give
+-- what was given before, and behind it what the others give, or their refusal
 abbrev pub prepended : {A : Type 0} → List A → Result (List A) Refusal → Result (List A) Refusal
 prepended kept (Ok others) = Ok (kept ++ others)
 prepended kept (Err refusal) = Err refusal
 
--- the two or three values of a lookup
+-- two values that were looked up, handed on; another number of them never comes
 abbrev pub with_two : {A : Type 0} → (Option (List ℕ) → Option (List ℕ) → A) → A
     → List (Option (List ℕ)) → A
 with_two f other [] = other

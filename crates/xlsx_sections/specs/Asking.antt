@@ -1,6 +1,6 @@
 -- A call on a package, as a value.
 use Rattle.std.specs.Prelude.{◌≡◌, ℕ, List, true, Option, Some, Result, IfOk, OnOk, IfErr}
-use Rattle.part_events.specs.Package.{Part, PackageState, Uses, CountsUp}
+use Rattle.part_events.specs.Words.{Part, PackageState, Uses, CountsUp}
 use Rattle.xlsx_error.specs.declared.error.XlsxError.{XlsxError}
 use Rattle.xlsx_error.specs.declared.error.XlsxError.TheVariants.{Io}
 use Rattle.xlsx_sections.specs.Failing.{FailsBy}
@@ -20,7 +20,7 @@ pub record Answers {A B : Type 0} (ask : Ask B) (view : A → B) (result : Resul
     (old new : PackageState) : Type 0 where
   pub uses : Uses (ask.most old.parts) Io result old new
   pub to_end :
-      old.is_told ≡ true → OnOk result (CountsUp (ask.exact old.parts) old.taken new.taken)
-  pub said : old.is_told ≡ true → IfOk result (λ a. ask.said old.parts ≡ Some (view a))
+      old.is_visible ≡ true → OnOk result (CountsUp (ask.exact old.parts) old.taken new.taken)
+  pub said : old.is_visible ≡ true → IfOk result (λ a. ask.said old.parts ≡ Some (view a))
   pub err : IfErr result (FailsBy (ask.cause old.parts) old new)
   pub kind : IfErr result ask.kind

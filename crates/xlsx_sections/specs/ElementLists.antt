@@ -1,7 +1,6 @@
 -- What the elements of a list say, and how the end of its part is told.
 use Rattle.std.specs.Prelude.{ℕ, List, Bool, Option, Result}
-use Rattle.part_events.specs.Event.{Tag, Event}
-use Rattle.part_events.specs.Section.{Element, outermost}
+use Rattle.part_events.specs.Words.{Tag, Event, Element, outermost}
 use Rattle.xlsx_sections.specs.Answers.{all_answers}
 use Rattle.xlsx_sections.specs.Elements.{end_among}
 use Rattle.xlsx_sections.specs.Refusal.{Refusal, in_element}
@@ -28,7 +27,7 @@ abbrev pub end_in_elements :
     (Tag → Bool) → List ℕ → (Tag → List Event → Option (List ℕ)) → List Event → Option (List ℕ)
 end_in_elements wanted name ending inside = end_among wanted name (end_inside ending) inside
 
--- and where all its elements tell it in one way
+-- how the end of the part is told in a list of this name whose elements all tell it in one way
 abbrev pub end_in_list :
     (Tag → Bool) → List ℕ → (List Event → Option (List ℕ)) → List Event → Option (List ℕ)
 end_in_list wanted name ending inside = end_in_elements wanted name (λ tag. ending) inside

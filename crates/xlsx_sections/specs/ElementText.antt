@@ -1,7 +1,6 @@
 -- The text of an element, or why it can't be had.
 use Rattle.std.specs.Prelude.{ℕ, List, Bool, Option, Some, None, Result, Ok, Err}
-use Rattle.part_events.specs.Event.{Event}
-use Rattle.part_events.specs.JoinedText.{joined_text, unknown_entity}
+use Rattle.part_events.specs.Words.{Event, joined_text, unknown_entity}
 use Rattle.xlsx_sections.specs.Refusal.{Refusal, no_character}
 
 -- a text, or the refusal that a reference in it has no character

@@ -1,12 +1,10 @@
 -- How the elements of a section are read one by one, and where its part ends.
-use Rattle.std.specs.Prelude.{◌≡◌, ⊤, ℕ, suc, List, length, Bool, true, Option, Some, None}
-use Rattle.std.specs.Prelude.{Result, Err, map}
+use Rattle.std.specs.Prelude.{◌≡◌, ⊤, ℕ, suc, List, length, Bool, true, Option, Some, None, Result}
+use Rattle.std.specs.Prelude.{Err, map}
 use Rattle.std.specs.Borrow.{Bor}
-use Rattle.part_events.specs.Event.{Tag, Event, IsStartAnd}
-use Rattle.part_events.specs.Reading.{Reading, ahead}
-use Rattle.part_events.specs.Section.{Element, unclosed, is_named}
-use Rattle.part_events.specs.Walk.{IsNextElement, ClosesSection, section_ahead, is_closed_ahead}
-use Rattle.part_events.specs.Walk.{behind_section, section_end}
+use Rattle.part_events.specs.Words.{Tag, Event, IsStartAnd, Reading, ahead, Element, unclosed}
+use Rattle.part_events.specs.Words.{is_named, IsNextElement, ClosesSection, section_ahead}
+use Rattle.part_events.specs.Words.{is_closed_ahead, behind_section, section_end}
 use Rattle.part_events.specs.declared.fault.XmlFault.TheVariants.{Break, Unclosed, Entity}
 use Rattle.xlsx_error.specs.declared.error.XlsxError.{XlsxError}
 use Rattle.xlsx_error.specs.declared.error.XlsxError.TheVariants.{OutOfMemory, Io, Xml, XmlEof}
@@ -17,7 +15,7 @@ use Rattle.xlsx_sections.specs.Refusal.{Refusal}
 abbrev pub named_among : List (Bor (List ℕ)) → Tag → Bool
 named_among names = is_named (map (λ name. name.now) names)
 
--- the end of the part in this element is told by `inner`, and outside all of them by this name
+-- how the end of the part is told in an element, by `inner`, and outside all of them by this name
 abbrev pub end_outside : List ℕ → (Element → Option (List ℕ)) → Option Element → Option (List ℕ)
 end_outside name inner None = Some name
 end_outside name inner (Some element) = inner element
@@ -53,16 +51,16 @@ FindsElementIn wanted base (Some at) old new =
 pub record KeepsElements (wanted : Tag → Bool) (base : ℕ) (first now : Reading) : Type 0 where
   pub section : KeepsSection base first now
   pub unclosed :
-      first.source.is_told ≡ true →
+      first.source.is_visible ≡ true →
       unclosed wanted (section_ahead base now) ≡ unclosed wanted (section_ahead base first)
   pub behind :
-      first.source.is_told ≡ true → behind_section base now ≡ behind_section base first
+      first.source.is_visible ≡ true → behind_section base now ≡ behind_section base first
 
--- the starts of a section were read up to here, and the same stands behind it
+-- the starts of a section were read up to here, and behind the section stands what stood there
 pub record KeepsStarts (base : ℕ) (first now : Reading) : Type 0 where
   pub section : KeepsSection base first now
   pub behind :
-      first.source.is_told ≡ true → behind_section base now ≡ behind_section base first
+      first.source.is_visible ≡ true → behind_section base now ≡ behind_section base first
 
 -- the refusals that reading the text of an element of this name can have, whatever the package
 -- tells
@@ -74,7 +72,7 @@ IsTextError name (Xml (Entity at)) = ⊤
 IsTextError name (XmlEof element) = element.now ≡ name
 IsTextError name _ = ⊥
 
--- and those of reading on to the end of one
+-- the refusals that reading on to the end of an element can have, whose name is told or not
 abbrev pub IsEndError : Option (List ℕ) → XlsxError → Type 0
 IsEndError name Io = ⊤
 IsEndError name OutOfMemory = ⊤
@@ -89,7 +87,7 @@ pub record ReachesEnd (base : ℕ) (old new : Reading) : Type 0 where
   pub behind : behind_section base old ≡ ahead new
   pub ends : new.at ≡ suc (section_end base old)
 
--- where an error tells of the part's end, or of an end that breaks the nesting
+-- a fact, where an error tells of the part's end, or of an end that breaks the nesting
 abbrev pub IfCutOff : Type 0 → XlsxError → Type 0
 IfCutOff lacks (Xml (Break at why)) = lacks
 IfCutOff lacks (Xml (Unclosed at)) = lacks

@@ -1,7 +1,6 @@
 -- What the starts of a section make of what is kept.
 use Rattle.std.specs.Prelude.{List, [], Bool, Option, Result, Ok}
-use Rattle.part_events.specs.Event.{Tag, Event}
-use Rattle.part_events.specs.Section.{PlacedTag, starts_by}
+use Rattle.part_events.specs.Words.{Tag, Event, PlacedTag, starts_by}
 use Rattle.xlsx_sections.specs.Answers.{some_answers, last_answer, prepended, and_others_if}
 use Rattle.xlsx_sections.specs.Answers.{or_earlier}
 use Rattle.xlsx_sections.specs.Changes.{all_changes}
@@ -13,13 +12,13 @@ abbrev pub changed_in :
     Result A Refusal
 changed_in wanted change a events = all_changes change (starts_by wanted events) a
 
--- what those of them give that give something
+-- what the wanted starts in a list of events give, of those that give something
 abbrev pub some_in :
     {A : Type 0} → (Tag → Bool) → (PlacedTag → Result (Option A) Refusal) → List Event →
     Result (List A) Refusal
 some_in wanted answer events = some_answers answer (starts_by wanted events)
 
--- what the last of them gives that gives something
+-- what the last of the wanted starts in a list of events gives that gives something
 abbrev pub last_in :
     {A : Type 0} → (Tag → Bool) → (PlacedTag → Result (Option A) Refusal) → List Event →
     Result (Option A) Refusal

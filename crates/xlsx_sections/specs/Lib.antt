@@ -13,3 +13,4 @@ pub mod Placed
 pub mod Refusal
 pub mod SectionEvents
 pub mod Steps
+pub mod Words

@@ -1,10 +1,10 @@
 -- The names that starts give their elements, and what names stand for.
-use Rattle.std.specs.Prelude.{⊤, ℕ, List, [], ◌∷◌, if◌then◌else◌, codes, Option, Some, None}
-use Rattle.std.specs.Prelude.{Result, Ok, Err}
+use Rattle.std.specs.Prelude.{⊤, ℕ, List, [], ◌∷◌, if◌then◌else◌, codes, Option, Some, None, Result}
+use Rattle.std.specs.Prelude.{Ok, Err}
 use Rattle.std.specs.Str.{bytes_eq}
-use Rattle.attr_text.specs.Attributes.{value_of}
+use Rattle.attr_text.specs.Words.{value_of}
 use Rattle.attr_text.specs.declared.fault.AttrFault.{AttrFault}
-use Rattle.part_events.specs.Section.{PlacedTag}
+use Rattle.part_events.specs.Words.{PlacedTag}
 use Rattle.part_events.specs.declared.fault.XmlFault.TheVariants.{Entity}
 use Rattle.xlsx_error.specs.declared.error.XlsxError.{XlsxError}
 use Rattle.xlsx_error.specs.declared.error.XlsxError.TheVariants.{OutOfMemory, Xml, XmlAttr}
@@ -26,7 +26,7 @@ name_from behind (Err fault) = Err (plain (lookup_fault fault))
 abbrev pub name_by : PlacedTag → Result (Option (List ℕ)) Refusal
 name_by start = name_from start.behind (value_of (codes "name") start.tag.attributes)
 
--- the refusals that reading such a name can have
+-- the refusals that reading the decoded name of a start can have
 abbrev pub IsNameError : XlsxError → Type 0
 IsNameError OutOfMemory = ⊤
 IsNameError (Xml (Entity at)) = ⊤

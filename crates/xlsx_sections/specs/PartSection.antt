@@ -1,17 +1,12 @@
 -- When a section of a part can't be taken.
 use Rattle.std.specs.Prelude.{◌≡◌, ◌⊎◌, ⊤, ℕ, suc, ◌+◌, ◌-◌, ◌<◌, ◌≤◌, List, [], ◌∷◌, length, Bool}
-use Rattle.std.specs.Prelude.{true}
-use Rattle.std.specs.Prelude.{false, if◌then◌else◌, Option, Some, None, option_map, option_and_then}
-use Rattle.std.specs.Prelude.{MatchOption, string_bytes}
-use Rattle.part_events.specs.Event.{Tag, Event, IsStartAnd}
-use Rattle.part_events.specs.Nesting.{whole}
-use Rattle.part_events.specs.Package.{Part, PackageState, SameParts, part_of, event_count}
-use Rattle.part_events.specs.Package.{CountsUp, UsesPackage}
-use Rattle.part_events.specs.Reading.{Reading, ReadsOn, IsReading, TakesEvent, IsAtElement}
-use Rattle.part_events.specs.Reading.{BreaksAt, ahead, events_of}
-use Rattle.part_events.specs.Section.{content, is_closed, behind_start, is_named}
-use Rattle.part_events.specs.Walk.{is_closed_ahead, TakesInside, TakesLastEnd, IsNextStart}
-use Rattle.part_events.specs.Walk.{ClosesSection, inside}
+use Rattle.std.specs.Prelude.{true, false, if◌then◌else◌, Option, Some, None, option_map}
+use Rattle.std.specs.Prelude.{option_and_then, MatchOption, string_bytes}
+use Rattle.part_events.specs.Words.{Tag, Event, IsStartAnd, whole, Part, PackageState, SameParts}
+use Rattle.part_events.specs.Words.{part_of, event_count, CountsUp, UsesPackage, Reading, ReadsOn}
+use Rattle.part_events.specs.Words.{IsReading, TakesEvent, IsAtElement, BreaksAt, ahead, events_of}
+use Rattle.part_events.specs.Words.{content, is_closed, behind_start, is_named, is_closed_ahead}
+use Rattle.part_events.specs.Words.{TakesInside, TakesLastEnd, IsNextStart, ClosesSection, inside}
 use Rattle.part_events.specs.declared.fault.XmlFault.TheVariants.{Break, Unclosed}
 use Rattle.xlsx_error.specs.declared.error.XlsxError.{XlsxError}
 use Rattle.xlsx_error.specs.declared.error.XlsxError.TheVariants.{OutOfMemory, Io, Xml, XmlEof}
@@ -28,7 +23,7 @@ pub record PartSection : Type 0 where
   pub within : ℕ
   pub ahead : List Event
 
--- what stands in it, whether an end closes it, and the number of that end
+-- the events that are left in a section, up to the end that closes it
 abbrev pub inside_of : PartSection → List Event
 inside_of s = content s.within s.ahead
 
@@ -67,9 +62,10 @@ section_in name events =
 pub record KeepsSection (base : ℕ) (first now : Reading) : Type 0 where
   pub reads : ReadsOn first now
   pub within : base ≤ length now.names
-  pub closed : first.source.is_told ≡ true → is_closed_ahead base now ≡ is_closed_ahead base first
+  pub closed : first.source.is_visible ≡ true → is_closed_ahead base now
+      ≡ is_closed_ahead base first
   pub last :
-      first.source.is_told ≡ true →
+      first.source.is_visible ≡ true →
       last_of (section_left base now) ≡ last_of (section_left base first)
 
 -- the part ends in the section, whose nesting isn't broken
@@ -81,7 +77,7 @@ EndsOpenIn s = (whole s.events ≡ s.events) × (has_end s ≡ false)
 abbrev pub Ending : Type 0
 Ending = List Event → Option (List ℕ)
 
--- which refusals a section has
+-- which refusals a section of a part has
 abbrev pub Refusing : Type 1
 Refusing = PartSection → Refusal → Type 0
 
@@ -108,17 +104,17 @@ SectionFails ending refused base old new error =
 abbrev pub always : List ℕ → List Event → Option (List ℕ)
 always name events = Some name
 
--- no element is refused
+-- a section's elements are skipped, so that none is refused
 abbrev pub Never : PartSection → Refusal → Type 0
 Never s refusal = ⊥
 
--- why the start of a section isn't found
+-- why the start of a section of this name isn't found in a part
 abbrev pub StartCause : List ℕ → List Event → XlsxError → Type 0
 StartCause name events (Xml (Break at why)) = BreaksAt events at why
 StartCause name events (XmlEof element) = (element.now ≡ name) × (whole events ≡ events)
 StartCause name events _ = ⊥
 
--- when it isn't found in what is ahead of a reader
+-- when the start of a section isn't found in what is ahead of a reader
 abbrev pub IsStartLacking : List ℕ → Reading → XlsxError → Type 0
 IsStartLacking name old error =
     (behind_start (is_named (name ∷ [])) (ahead old) ≡ None) × StartCause name (events_of old) error
@@ -130,7 +126,7 @@ StartFails name old new error = FailsBy (IsStartLacking name old) old.source new
 -- there is no part of this name, and nothing was taken
 pub record HasNoPart (path : List ℕ) (old new : PackageState) : Type 0 where
   pub uses : UsesPackage 0 old new
-  pub absent : old.is_told ≡ true → part_of old.parts path ≡ None
+  pub absent : old.is_visible ≡ true → part_of old.parts path ≡ None
 
 -- the part at this path was opened, and is read on behind the start of its first section of this
 -- name
@@ -141,14 +137,14 @@ pub record EntersSection (name path : List ℕ) (old : PackageState) (new : Read
   pub faults : new.source.faults ≡ old.faults
   pub begins : CountsUp new.at old.taken new.source.taken
   pub taken :
-      old.is_told ≡ true →
+      old.is_visible ≡ true →
       new.source.taken + length new.source.rest ≤ old.taken + event_count old.parts path
-  pub part : old.is_told ≡ true → part_of old.parts path ≡ Some (events_of new)
+  pub part : old.is_visible ≡ true → part_of old.parts path ≡ Some (events_of new)
   pub section :
-      old.is_told ≡ true →
+      old.is_visible ≡ true →
       section_in name (events_of new) ≡ Some (section_left (length new.names) new)
 
--- the part has no such section
+-- a part that is there has no section of this name, and the refusal tells so
 abbrev pub LacksSection : List ℕ → Option (List Event) → XlsxError → Type 0
 LacksSection name None error = ⊥
 LacksSection name (Some events) error =
@@ -167,7 +163,7 @@ FirstSectionCause name ending refused events error =
     MatchOption (section_in name events) (StartCause name events error)
     (λ s. SectionCause ending refused s error)
 
--- why that section of a part can't be taken, where the part may be absent
+-- why the first section of a name of a part can't be taken, where the part may be absent
 abbrev pub OptionalPartCause :
     List ℕ → Ending → Refusing →
     Option (List Event) → XlsxError → Type 0
@@ -181,7 +177,7 @@ LacksPart parts path (FileNotFound wanted) =
     (string_bytes wanted ≡ path) × (part_of parts path ≡ None)
 LacksPart parts path _ = ⊥
 
--- and why that section can't be taken, where the part has to be there
+-- why the first section of a name can't be taken of the part at a path, which has to be there
 abbrev pub PartCause :
     List ℕ → Ending → Refusing → List Part → List ℕ → XlsxError → Type 0
 PartCause name ending refused parts path error =
@@ -195,7 +191,7 @@ abbrev pub OptionalPartFails :
 OptionalPartFails name ending refused path old new error =
     FailsBy (OptionalPartCause name ending refused (part_of old.parts path)) old new error
 
--- and in a part that has to be there
+-- when the reading of a section is refused, in a part that has to be there
 abbrev pub PartFails :
     List ℕ → Ending → Refusing → List ℕ →
     PackageState → PackageState → XlsxError → Type 0
@@ -211,12 +207,13 @@ abbrev pub closed_section : List ℕ → List Event → Option (List Event)
 closed_section name events =
     option_and_then if_closed (behind_start (is_named (name ∷ [])) (whole events))
 
--- the same of a part, if it is there
+-- the events of the first section of a name of a part, if the part is there and the section has its
+-- end
 abbrev pub closed_section_of : List ℕ → List ℕ → List Part → Option (List Event)
 closed_section_of name part parts = option_and_then (closed_section name) (part_of parts part)
 
--- Where a step in a section comes to: the next event is taken, and its number given, or the
--- section's end.
+-- where a step in a section comes to: the next event is taken, and its number given, or the
+-- section's end
 abbrev pub StandsAtEvent : ℕ → Option ℕ → Reading → Reading → Type 0
 StandsAtEvent base None old new = TakesEvent old new × (suc (length new.names) ≡ base)
 StandsAtEvent base (Some at) old new =

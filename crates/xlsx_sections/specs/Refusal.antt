@@ -1,20 +1,19 @@
 -- Why an element of a section can't be taken, and which error tells of it. A new section adds each
 -- of its refusals to `PlainRefusal` and to what an error tells.
-use Rattle.std.specs.Prelude.{◌≡◌, ⊤, ℕ, suc, ◌+◌, ◌-◌, List, [], ◌∷◌, length, if◌then◌else◌}
-use Rattle.std.specs.Prelude.{codes, string_bytes, Option, Some, None, IsSomeAnd, Result, Ok, Err}
+use Rattle.std.specs.Prelude.{◌≡◌, ⊤, ℕ, suc, ◌+◌, ◌-◌, List, [], ◌∷◌, length, if◌then◌else◌, codes}
+use Rattle.std.specs.Prelude.{string_bytes, Option, Some, None, IsSomeAnd, Result, Ok, Err}
 use Rattle.std.specs.Str.{bytes_eq}
-use Rattle.attr_text.specs.Text.{decoded}
+use Rattle.attr_text.specs.Words.{decoded}
 use Rattle.attr_text.specs.declared.fault.AttrFault.{AttrFault}
 use Rattle.cell_refs.specs.declared.error.RefError.{RefError}
 use Rattle.cell_refs.specs.declared.error.RefError.TheVariants as ref
-use Rattle.part_events.specs.Event.{Tag}
-use Rattle.part_events.specs.Section.{PlacedTag, Element}
+use Rattle.part_events.specs.Words.{Tag, PlacedTag, Element}
 use Rattle.part_events.specs.declared.fault.XmlFault.TheVariants.{Entity}
 use Rattle.xlsx_error.specs.declared.error.XlsxError.{XlsxError}
 use Rattle.xlsx_error.specs.declared.error.XlsxError.TheVariants.{OutOfMemory, Xml, XmlAttr}
 use Rattle.xlsx_error.specs.declared.error.XlsxError.TheVariants.{RelationshipNotFound}
-use Rattle.xlsx_error.specs.declared.error.XlsxError.TheVariants.{Unrecognized}
-use Rattle.xlsx_error.specs.declared.error.XlsxError.TheVariants.{Alphanumeric, DimensionCount}
+use Rattle.xlsx_error.specs.declared.error.XlsxError.TheVariants.{Unrecognized, Alphanumeric}
+use Rattle.xlsx_error.specs.declared.error.XlsxError.TheVariants.{DimensionCount}
 use Rattle.xlsx_error.specs.declared.error.XlsxError.TheVariants.{RangeWithoutRowComponent}
 use Rattle.xlsx_error.specs.declared.error.XlsxError.TheVariants.{RangeWithoutColumnComponent}
 use Rattle.xlsx_error.specs.declared.error.XlsxError.TheVariants.{ColumnNumberOverflow}
@@ -43,7 +42,7 @@ pub data PlainRefusal : Type 0 where
   wrong_index : PlainRefusal
   -- a cell names a shared string that isn't there
   lacks_string : PlainRefusal
-  -- this text is no truth value, no error, or no number
+  -- this text is no boolean, no error, or no number
   wrong_truth : List ℕ → PlainRefusal
   wrong_error : List ℕ → PlainRefusal
   wrong_number : List ℕ → PlainRefusal
@@ -144,7 +143,7 @@ abbrev pub RefusedAt : (Refusal → Type 0) → ℕ → ℕ → XlsxError → Ty
 RefusedAt refused at behind OutOfMemory = ⊤
 RefusedAt refused at behind error = RefusedAs (at + suc behind) refused error
 
--- the same refusal in a longer list of events, `more` of which stand behind the shorter one
+-- a refusal in a longer list of events, `more` of which stand behind the shorter one
 abbrev pub further : ℕ → Refusal → Refusal
 further more (no_character behind) = no_character (behind + more)
 further more (plain own) = plain own
@@ -155,14 +154,14 @@ answer_further more (Ok a) = Ok a
 answer_further more (Err refusal) = Err (further more refusal)
 
 -- how many events of its list stand behind what is in an element
-abbrev pub events_behind : Element → ℕ
-events_behind element = element.behind - length element.inside
+abbrev pub count_behind : Element → ℕ
+count_behind element = element.behind - length element.inside
 
 -- what is said of what is in an element, with the place of a refusal in the element's list
 abbrev pub in_element : {A : Type 0} → Element → Result A Refusal → Result A Refusal
-in_element element answer = answer_further (events_behind element) answer
+in_element element answer = answer_further (count_behind element) answer
 
--- that event has no answer but a refusal
+-- the answer to an element is a refusal, told at event number `at` of its part
 abbrev pub ElementFails : {A : Type 0} → Result A Refusal → ℕ → ℕ → XlsxError → Type 0
 ElementFails answer at behind error = RefusedAt (λ refusal. answer ≡ Err refusal) at behind error
 

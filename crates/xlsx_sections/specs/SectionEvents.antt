@@ -1,8 +1,7 @@
 -- How many events are taken where a section is read to its end and no further.
 use Rattle.std.specs.Prelude.{◌≡◌, ℕ, suc, List, length, true, Result, OnOk}
 use Rattle.std.specs.Option.{option_map_or}
-use Rattle.part_events.specs.Event.{Event}
-use Rattle.part_events.specs.Package.{Part, PackageState, CountsUp, part_of}
+use Rattle.part_events.specs.Words.{Event, Part, PackageState, CountsUp, part_of}
 use Rattle.xlsx_sections.specs.PartSection.{PartSection, section_in, last_of}
 
 -- how many events a part has up to the end of its first section of this name, with that end; all
@@ -11,7 +10,8 @@ abbrev pub section_events : List ℕ → List Event → ℕ
 section_events name events =
     option_map_or (λ (s : PartSection). suc (last_of s)) (section_in name events) (length events)
 
--- those of the part at a path, and none where the part is absent
+-- how many events the part at a path has up to the end of its first section of a name, none where
+-- the part is absent
 abbrev pub section_events_of : List ℕ → List Part → List ℕ → ℕ
 section_events_of name parts path = option_map_or (section_events name) (part_of parts path) 0
 
@@ -19,5 +19,5 @@ section_events_of name parts path = option_map_or (section_events name) (part_of
 abbrev pub ReadsToEnd :
     {A E : Type 0} → List ℕ → List ℕ → Result A E → PackageState → PackageState → Type 0
 ReadsToEnd name path result old new =
-    old.is_told ≡ true →
+    old.is_visible ≡ true →
     OnOk result (CountsUp (section_events_of name old.parts path) old.taken new.taken)

@@ -1,12 +1,11 @@
-ghost use Rattle.std.specs.Prelude.{◌≡◌, ◌++◌, ℕ, Ok, true, false, string_bytes, option_map};
-ghost use Rattle.std.specs.Prelude.{IfOk, OnOk, IfErr};
-ghost use Rattle.part_events.specs.Event.{event_of, tag_of};
-ghost use Rattle.part_events.specs.JoinedText.{event_text, is_unknown};
+ghost use Rattle.std.specs.Prelude.{◌≡◌, ◌++◌, ℕ, Ok, true, false, string_bytes, option_map, IfOk};
+ghost use Rattle.std.specs.Prelude.{OnOk, IfErr};
+ghost use Rattle.part_events.specs.Words.{event_of, tag_of, event_text, is_unknown};
 ghost use Rattle.part_events.specs.declared.fault.XmlFault.TheVariants.{Entity};
 ghost use Rattle.xlsx_error.specs.declared.error.XlsxError.TheVariants.{Xml};
 ghost use Rattle.xlsx_sections.specs.Names.{name_by, IsNameError};
-ghost use Rattle.xlsx_sections.specs.Refusal.{ElementFails, RefusedAt, IsDecodeError};
-ghost use Rattle.xlsx_sections.specs.Refusal.{decoded_at, no_character, placed_at};
+ghost use Rattle.xlsx_sections.specs.Refusal.{ElementFails, RefusedAt, IsDecodeError, decoded_at};
+ghost use Rattle.xlsx_sections.specs.Refusal.{no_character, placed_at};
 
 use attr_text::{RawAttributes, TextFault, decode_attr};
 use part_events::{PartEvent, StartTag, XmlFault, push_text};

@@ -1,10 +1,8 @@
-ghost use Rattle.std.specs.Prelude.{◌≡◌, ◌≤◌, ℕ, List, length, map, suc, true, Ok, Result};
-ghost use Rattle.std.specs.Prelude.{Option, IfOk, OnOk, IfErr};
-ghost use Rattle.part_events.specs.Event.{Tag, Event, start};
-ghost use Rattle.part_events.specs.Reading.{IsReading, ReadsPart};
-ghost use Rattle.part_events.specs.Reading.{IsReadingElement, ReadsElement, ahead};
-ghost use Rattle.part_events.specs.Section.{content};
-ghost use Rattle.part_events.specs.Walk.{section_ahead};
+ghost use Rattle.std.specs.Prelude.{◌≡◌, ◌≤◌, ℕ, List, length, map, suc, true, Ok, Result, Option};
+ghost use Rattle.std.specs.Prelude.{IfOk, OnOk, IfErr};
+ghost use Rattle.part_events.specs.Words.{Tag, Event, start, IsReading, ReadsPart};
+ghost use Rattle.part_events.specs.Words.{IsReadingElement, ReadsElement, ahead, content};
+ghost use Rattle.part_events.specs.Words.{section_ahead};
 ghost use Rattle.xlsx_error.specs.declared.error.XlsxError.{XlsxError};
 ghost use Rattle.xlsx_error.specs.declared.error.XlsxError.TheVariants.{Io};
 ghost use Rattle.xlsx_sections.specs.Answers.{prepended};
@@ -38,7 +36,7 @@ pub trait ReadsEach {
     fn read<P: Package>(&self, xml: &mut XlReader<P>) -> Result<Self::Item, XlsxError>
         requires element { IsReadingElement xml.old }
         ensures reads { ReadsElement Io result xml.old xml.new }
-        ensures said { xml.old.source.is_told ≡ true → IfOk result (λ item. (tag : Tag) →
+        ensures said { xml.old.source.is_visible ≡ true → IfOk result (λ item. (tag : Tag) →
             start tag ≡ xml.old.source.current →
             meaning self.now tag (content 0 (ahead xml.old)) ≡ Ok (said item)) }
         ensures err { IfErr result (λ error. (tag : Tag) → start tag ≡ xml.old.source.current →
@@ -66,11 +64,11 @@ pub fn keep_elements_in<P: Package, R: ReadsEach>(
     requires section { section.now ≡ R.section }
     ensures reads { ReadsPart Io result xml.old xml.new }
     ensures depth { OnOk result (suc (length xml.new.names) ≡ base) }
-    ensures reaches { xml.old.source.is_told ≡ true →
+    ensures reaches { xml.old.source.is_visible ≡ true →
         OnOk result (ReachesEnd base xml.old xml.new) }
     ensures kept { let list = list_said (named_among names.now) (R.meaning by.now) (section_ahead
         base xml.old) in
-        xml.old.source.is_told ≡ true → OnOk result
+        xml.old.source.is_visible ≡ true → OnOk result
         (prepended (map R.said items.old.items) list ≡ Ok (map R.said items.new.items)) }
     ensures err { let wanted = named_among names.now in
         IfErr result (SectionFails (end_in_elements wanted section.now R.ending)
@@ -97,7 +95,7 @@ pub fn keep_elements<P: Package, R: ReadsEach>(
     ensures reads { ReadsElement Io result xml.old xml.new }
     ensures kept { let list = list_said (named_among names.now) (R.meaning by.now) (content 0 (ahead
         xml.old)) in
-        xml.old.source.is_told ≡ true → OnOk result
+        xml.old.source.is_visible ≡ true → OnOk result
         (prepended (map R.said items.old.items) list ≡ Ok (map R.said items.new.items)) }
     ensures err { let wanted = named_among names.now in
         IfErr result (ElementReadFails (end_in_elements wanted section.now R.ending)

@@ -1,17 +1,15 @@
-ghost use Rattle.std.specs.Prelude.{◌≡◌, ◌≤◌, ◌++◌, List, [], ℕ, suc, length, true, Ok};
-ghost use Rattle.std.specs.Prelude.{Option, option_map, string_bytes, IfOk, OnOk, IfErr, OnErr};
-ghost use Rattle.part_events.specs.JoinedText.{joined_text, IsFrontOf, PutsFront};
-ghost use Rattle.part_events.specs.Reading.{Reading, IsReading};
-ghost use Rattle.part_events.specs.Reading.{IsReadingElement, ReadsElement, ReadsPart, ahead};
-ghost use Rattle.part_events.specs.Section.{Element, content, outermost, is_any};
-ghost use Rattle.part_events.specs.Walk.{section_ahead};
+ghost use Rattle.std.specs.Prelude.{◌≡◌, ◌≤◌, ◌++◌, List, [], ℕ, suc, length, true, Ok, Option};
+ghost use Rattle.std.specs.Prelude.{option_map, string_bytes, IfOk, OnOk, IfErr, OnErr};
+ghost use Rattle.part_events.specs.Words.{joined_text, IsFrontOf, PutsFront, Reading, IsReading};
+ghost use Rattle.part_events.specs.Words.{IsReadingElement, ReadsElement, ReadsPart, ahead};
+ghost use Rattle.part_events.specs.Words.{Element, content, outermost, is_any, section_ahead};
 ghost use Rattle.xlsx_error.specs.declared.error.XlsxError.TheVariants.{Io};
 ghost use Rattle.xlsx_sections.specs.Elements.{end_among, named_end, ElementReadFails, named_among};
 ghost use Rattle.xlsx_sections.specs.Elements.{FindsElementIn, IsTextError, IsEndError, ReachesEnd};
+ghost use Rattle.xlsx_sections.specs.Elements.{KeepsElements, IfCutOff};
 ghost use Rattle.xlsx_sections.specs.ElementText.{element_text};
 ghost use Rattle.xlsx_sections.specs.PartSection.{always, Never, IsStepError, SectionFails};
 ghost use Rattle.xlsx_sections.specs.PartSection.{StandsAtStart};
-ghost use Rattle.xlsx_sections.specs.Elements.{KeepsElements, IfCutOff};
 ghost use Rattle.xlsx_sections.specs.Steps.{StepsToElement, StepsFromAny, ElementStepFails};
 ghost use Rattle.xlsx_sections.specs.Steps.{ElementStepRefused};
 
@@ -38,7 +36,7 @@ pub fn next_element_in<P: Package>(
     ensures reads { ReadsPart Io result xml.old xml.new }
     ensures stands { IfOk result (λ found. StandsAtStart (named_among names.now) base found xml.old
         xml.new) }
-    ensures found { xml.old.source.is_told ≡ true → IfOk result
+    ensures found { xml.old.source.is_visible ≡ true → IfOk result
         (λ found. FindsElementIn (named_among names.now) base found xml.old xml.new) }
     ensures err { IfErr result (ElementStepFails (named_among names.now) section.now base xml.old
         xml.new) }
@@ -47,7 +45,7 @@ pub fn next_element_in<P: Package>(
     ensures refused { IfErr result (ElementStepRefused (named_among names.now) section.now base
         xml.old xml.new) }
     ensures cut { let left = outermost (named_among names.now) (section_ahead base xml.old) in
-        IfErr result (IfCutOff (xml.old.source.is_told ≡ true → left ≡ [])) }
+        IfErr result (IfCutOff (xml.old.source.is_visible ≡ true → left ≡ [])) }
     ensures kind { IfErr result (IsStepError section.now) }
 {
     match xml.next_element(base, names)? {
@@ -73,7 +71,7 @@ pub fn next_child_in<P: Package>(
     requires within { base ≤ length xml.old.names }
     ensures reads { ReadsPart Io result xml.old xml.new }
     ensures stands { IfOk result (λ found. StandsAtStart is_any base found xml.old xml.new) }
-    ensures found { xml.old.source.is_told ≡ true → IfOk result
+    ensures found { xml.old.source.is_visible ≡ true → IfOk result
         (λ found. FindsElementIn is_any base found xml.old xml.new) }
     ensures err { IfErr result (λ error. (inner : Element → Option (List ℕ)) →
         SectionFails (end_among is_any section.now inner) Never base xml.old xml.new error) }
@@ -110,11 +108,11 @@ pub fn read_element_text<P: Package>(
     ensures reads { ReadsElement Io result xml.old xml.new }
     ensures text { let inside = content 0 (ahead xml.old) in
         let text = joined_text char_data inside in
-        xml.old.source.is_told ≡ true → OnOk result ((element_text char_data inside ≡ Ok text)
+        xml.old.source.is_visible ≡ true → OnOk result ((element_text char_data inside ≡ Ok text)
         × (string_bytes out.new ≡ string_bytes out.old ++ text)) }
     ensures kept { IsFrontOf (string_bytes out.old) (string_bytes out.new) }
     ensures front { let texts : List ℕ × List ℕ = (string_bytes out.old, string_bytes out.new) in
-        xml.old.source.is_told ≡ true → OnErr result
+        xml.old.source.is_visible ≡ true → OnErr result
         (PutsFront char_data (content 0 (ahead xml.old)) texts) }
     ensures err { IfErr result (ElementReadFails (always name.now) (element_text char_data) xml.old
         xml.new) }
@@ -139,7 +137,7 @@ pub fn read_to_end<P: Package>(
     requires within { base ≤ length xml.old.names }
     ensures reads { ReadsPart Io result xml.old xml.new }
     ensures depth { OnOk result (suc (length xml.new.names) ≡ base) }
-    ensures reaches { xml.old.source.is_told ≡ true →
+    ensures reaches { xml.old.source.is_visible ≡ true →
         OnOk result (ReachesEnd base xml.old xml.new) }
     ensures err { let ending = named_end (option_map (λ n. n.now) name.entry) in
         IfErr result (SectionFails ending Never base xml.old xml.new) }

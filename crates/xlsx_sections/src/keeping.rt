@@ -1,10 +1,8 @@
-ghost use Rattle.std.specs.Prelude.{◌≡◌, ◌≤◌, ℕ, List, length, map, suc, true, Ok, Result};
-ghost use Rattle.std.specs.Prelude.{OnOk, IfErr};
-ghost use Rattle.part_events.specs.Event.{tag_of};
-ghost use Rattle.part_events.specs.Reading.{IsReading, ReadsPart};
-ghost use Rattle.part_events.specs.Reading.{IsReadingElement, ReadsElement, ahead};
-ghost use Rattle.part_events.specs.Section.{PlacedTag, is_named, content};
-ghost use Rattle.part_events.specs.Walk.{section_ahead};
+ghost use Rattle.std.specs.Prelude.{◌≡◌, ◌≤◌, ℕ, List, length, map, suc, true, Ok, Result, OnOk};
+ghost use Rattle.std.specs.Prelude.{IfErr};
+ghost use Rattle.part_events.specs.Words.{tag_of, IsReading, ReadsPart, IsReadingElement};
+ghost use Rattle.part_events.specs.Words.{ReadsElement, ahead, PlacedTag, is_named, content};
+ghost use Rattle.part_events.specs.Words.{section_ahead};
 ghost use Rattle.xlsx_error.specs.declared.error.XlsxError.{XlsxError};
 ghost use Rattle.xlsx_error.specs.declared.error.XlsxError.TheVariants.{Io};
 ghost use Rattle.xlsx_sections.specs.Elements.{IsInsideRefused, ReachesEnd, ElementReadFails};
@@ -63,10 +61,10 @@ pub fn keep_starts<P: Package, K: Keeps>(
     requires section { section.now ≡ K.section }
     ensures reads { ReadsPart Io result xml.old xml.new }
     ensures depth { OnOk result (suc (length xml.new.names) ≡ base) }
-    ensures reaches { xml.old.source.is_told ≡ true →
+    ensures reaches { xml.old.source.is_visible ≡ true →
         OnOk result (ReachesEnd base xml.old xml.new) }
     ensures kept { let wanted = is_named (map (λ name. name.now) names.now) in
-        xml.old.source.is_told ≡ true → OnOk result ((i : K.Index) →
+        xml.old.source.is_visible ≡ true → OnOk result ((i : K.Index) →
         changed_in wanted (K.change keeper.old i) (K.held keeper.old i) (section_ahead base xml.old)
         ≡ Ok (K.held keeper.new i)) }
     ensures err { let wanted = is_named (map (λ name. name.now) names.now) in
@@ -94,7 +92,7 @@ pub fn keep_in_element<P: Package, K: Keeps>(
     requires section { section.now ≡ K.section }
     ensures reads { ReadsElement Io result xml.old xml.new }
     ensures kept { let wanted = is_named (map (λ name. name.now) names.now) in
-        xml.old.source.is_told ≡ true → OnOk result ((i : K.Index) →
+        xml.old.source.is_visible ≡ true → OnOk result ((i : K.Index) →
         changed_in wanted (K.change keeper.old i) (K.held keeper.old i) (content 0 (ahead xml.old))
         ≡ Ok (K.held keeper.new i)) }
     ensures err { let wanted = is_named (map (λ name. name.now) names.now) in

@@ -1,9 +1,7 @@
 ghost use Rattle.std.specs.Prelude.{◌≡◌, ◌≤◌, ℕ, List, ⊤, length, map, suc, true, Ok, Result};
 ghost use Rattle.std.specs.Prelude.{Option, IfOk, OnOk, IfErr, option_map};
-ghost use Rattle.part_events.specs.Event.{tag_of};
-ghost use Rattle.part_events.specs.Reading.{IsReading, ReadsPart};
-ghost use Rattle.part_events.specs.Section.{PlacedTag, is_named};
-ghost use Rattle.part_events.specs.Walk.{section_ahead};
+ghost use Rattle.part_events.specs.Words.{tag_of, IsReading, ReadsPart, PlacedTag, is_named};
+ghost use Rattle.part_events.specs.Words.{section_ahead};
 ghost use Rattle.xlsx_error.specs.declared.error.XlsxError.{XlsxError};
 ghost use Rattle.xlsx_error.specs.declared.error.XlsxError.TheVariants.{Io};
 ghost use Rattle.xlsx_sections.specs.Elements.{IsInsideRefused, ReachesEnd};
@@ -84,10 +82,10 @@ pub fn keep_all<P: Package, R: Reads + Drop>(
     requires section { section.now ≡ R.section }
     ensures reads { ReadsPart Io result xml.old xml.new }
     ensures depth { OnOk result (suc (length xml.new.names) ≡ base) }
-    ensures reaches { xml.old.source.is_told ≡ true →
+    ensures reaches { xml.old.source.is_visible ≡ true →
         OnOk result (ReachesEnd base xml.old xml.new) }
     ensures kept { let wanted = is_named (map (λ name. name.now) names.now) in
-        xml.old.source.is_told ≡ true → IfOk result (λ items.
+        xml.old.source.is_visible ≡ true → IfOk result (λ items.
         some_in wanted (R.meaning by) (section_ahead base xml.old) ≡ Ok (map R.said items.items)) }
     ensures err { let meaning = some_in (is_named (map (λ name. name.now) names.now)) (R.meaning by)
         in
@@ -147,10 +145,10 @@ pub fn keep_last<P: Package, R: Reads + Drop>(
     requires section { section.now ≡ R.section }
     ensures reads { ReadsPart Io result xml.old xml.new }
     ensures depth { OnOk result (suc (length xml.new.names) ≡ base) }
-    ensures reaches { xml.old.source.is_told ≡ true →
+    ensures reaches { xml.old.source.is_visible ≡ true →
         OnOk result (ReachesEnd base xml.old xml.new) }
     ensures kept { let wanted = is_named (map (λ name. name.now) names.now) in
-        xml.old.source.is_told ≡ true → IfOk result (λ item.
+        xml.old.source.is_visible ≡ true → IfOk result (λ item.
         last_in wanted (R.meaning by) (section_ahead base xml.old) ≡ Ok (option_map R.said item)) }
     ensures err { let meaning = last_in (is_named (map (λ name. name.now) names.now)) (R.meaning by)
         in

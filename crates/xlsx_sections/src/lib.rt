@@ -15,8 +15,8 @@
 //! makes of what is held, and `keep_starts` is the one loop over starts. `Reads` says what one
 //! start gives: of these `keep_all` keeps all, and `keep_last` the last. `ReadsEach` says what one
 //! element says, and `keep_elements_in` is the loop over these. A loop that keeps more than that
-//! asks for the next start, event or element, hands it on, and has one invariant: what is kept, with
-//! what the rest says, is what the whole says.
+//! asks for the next start, event or element, hands it on, and has one invariant: what is kept,
+//! with what the rest says, is what the whole says.
 //!
 //! **Where a part ends is told by what stands in the section.** The text of `XmlEof` is a function
 //! of that (`Ending`): the name of the section, or, inside an element that is read, the text that

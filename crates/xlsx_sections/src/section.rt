@@ -1,15 +1,11 @@
 ghost use Rattle.std.specs.Prelude.{◌≡◌, ◌≤◌, [], ◌∷◌, length, map, true, false, Some, IfOk, OnOk};
 ghost use Rattle.std.specs.Prelude.{IfErr};
-ghost use Rattle.part_events.specs.Event.{tag_of, start, is_start};
-ghost use Rattle.part_events.specs.Package.{LeavesPackage, event_count};
-ghost use Rattle.part_events.specs.Reading.{Reading, IsReading};
-ghost use Rattle.part_events.specs.Reading.{IsAtElement};
-ghost use Rattle.part_events.specs.Reading.{ReadsPart, ahead};
-ghost use Rattle.part_events.specs.Section.{is_named, behind_start};
+ghost use Rattle.part_events.specs.Words.{tag_of, start, is_start, LeavesPackage, event_count};
+ghost use Rattle.part_events.specs.Words.{Reading, IsReading, IsAtElement, ReadsPart, ahead};
+ghost use Rattle.part_events.specs.Words.{is_named, behind_start};
 ghost use Rattle.xlsx_error.specs.declared.error.XlsxError.TheVariants.{Io};
 ghost use Rattle.xlsx_sections.specs.PartSection.{always, Never, IsStepError, EntersSection};
-ghost use Rattle.xlsx_sections.specs.PartSection.{HasNoPart};
-ghost use Rattle.xlsx_sections.specs.PartSection.{EnterFails, SectionFails, StartFails};
+ghost use Rattle.xlsx_sections.specs.PartSection.{HasNoPart, EnterFails, SectionFails, StartFails};
 ghost use Rattle.xlsx_sections.specs.PartSection.{StandsAtEvent, FindsEvent, StandsAtStart};
 ghost use Rattle.xlsx_sections.specs.PartSection.{FindsStartIn};
 ghost use Rattle.xlsx_sections.specs.Elements.{KeepsStarts};
@@ -38,7 +34,7 @@ pub fn enter<P: Package>(xml: &mut XlReader<P>, name: &'static str) -> Result<()
     requires reading { IsReading xml.old }
     ensures reads { ReadsPart Io result xml.old xml.new }
     ensures element { OnOk result (IsAtElement xml.new) }
-    ensures found { xml.old.source.is_told ≡ true →
+    ensures found { xml.old.source.is_visible ≡ true →
         OnOk result
         (behind_start (is_named (name.now ∷ [])) (ahead xml.old) ≡ Some (ahead xml.new)) }
     ensures err { IfErr result (StartFails name.now xml.old xml.new) }
@@ -69,7 +65,7 @@ pub fn next_start_among<P: Package>(
     ensures stands { let wanted = is_named (map (λ name. name.now) names.now) in
         IfOk result (λ found. StandsAtStart wanted base found xml.old xml.new) }
     ensures found { let wanted = is_named (map (λ name. name.now) names.now) in
-        xml.old.source.is_told ≡ true →
+        xml.old.source.is_visible ≡ true →
         IfOk result (λ found. FindsStartIn wanted base found xml.old xml.new) }
     ensures step { let wanted = is_named (map (λ name. name.now) names.now) in
         IfOk result (λ found. (first : Reading) → KeepsStarts base first xml.old →
@@ -103,7 +99,7 @@ pub fn next_start_in<P: Package>(
     ensures reads { ReadsPart Io result xml.old xml.new }
     ensures stands { IfOk result (λ found. StandsAtStart (is_named (name.now ∷ [])) base found
         xml.old xml.new) }
-    ensures found { xml.old.source.is_told ≡ true →
+    ensures found { xml.old.source.is_visible ≡ true →
         IfOk result (λ found. FindsStartIn (is_named (name.now ∷ [])) base found xml.old xml.new) }
     ensures step { let wanted = is_named (name.now ∷ []) in
         IfOk result (λ found. (first : Reading) → KeepsStarts base first xml.old →
@@ -131,7 +127,7 @@ pub fn next_event_in<P: Package>(
     requires within { base ≤ length xml.old.names }
     ensures reads { ReadsPart Io result xml.old xml.new }
     ensures stands { IfOk result (λ found. StandsAtEvent base found xml.old xml.new) }
-    ensures found { xml.old.source.is_told ≡ true → IfOk result (λ found. FindsEvent base found
+    ensures found { xml.old.source.is_visible ≡ true → IfOk result (λ found. FindsEvent base found
         xml.old xml.new) }
     ensures err { IfErr result (SectionFails (always section.now) Never base xml.old xml.new) }
     ensures kind { IfErr result (IsStepError section.now) }

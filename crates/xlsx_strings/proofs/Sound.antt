@@ -1,11 +1,9 @@
 -- Shared strings that can be read have no cause of a refusal.
 use Rattle.std.proofs.Common.{◌≡◌, ℕ, List, [], Ok, Err, sym, ◌∙◌, codes}
-use Rattle.part_events.specs.Event.{Event}
-use Rattle.part_events.specs.Package.{Part, part_of}
+use Rattle.part_events.specs.Words.{Event, Part, part_of}
 use Rattle.xlsx_error.specs.declared.error.XlsxError.{XlsxError}
-use Rattle.xlsx_sections.specs.Elements.{IsInsideRefused}
-use Rattle.xlsx_sections.specs.PartSection.{PartSection, inside_of, OptionalPartCause}
-use Rattle.xlsx_sections.specs.Refusal.{Refusal}
+use Rattle.xlsx_sections.specs.Words.{IsInsideRefused, PartSection, inside_of, OptionalPartCause}
+use Rattle.xlsx_sections.specs.Words.{Refusal}
 use Rattle.xlsx_sections.proofs.Sound.{no_cause_if_sound}
 use Rattle.xlsx_strings.specs.Strings.{strings_in, end_in_strings, HasStrings}
 

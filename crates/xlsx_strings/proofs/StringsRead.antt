@@ -1,11 +1,9 @@
 -- How the elements of a string, and the strings of their section, are read one by one.
-use Rattle.std.proofs.Common.{◌≡◌, ℕ, List, ◌∷◌, ◌++◌, Result, Ok, Err}
-use Rattle.std.proofs.Common.{refl, sym, ◌∙◌, ap, append_assoc}
+use Rattle.std.proofs.Common.{◌≡◌, ℕ, List, ◌∷◌, ◌++◌, Result, Ok, Err, refl, sym, ◌∙◌, ap}
+use Rattle.std.proofs.Common.{append_assoc}
 use Rattle.std.specs.List.{flat_map}
-use Rattle.part_events.specs.Section.{Element}
-use Rattle.xlsx_sections.specs.Answers.{with_first, and_others, all_answers}
-use Rattle.xlsx_sections.specs.ElementLists.{element_said}
-use Rattle.xlsx_sections.specs.Refusal.{Refusal}
+use Rattle.part_events.specs.Words.{Element}
+use Rattle.xlsx_sections.specs.Words.{with_first, and_others, all_answers, element_said, Refusal}
 use Rattle.xlsx_strings.specs.Strings.{piece_of, all_joined}
 
 -- a text, and what is put behind it

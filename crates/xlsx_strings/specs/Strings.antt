@@ -1,26 +1,20 @@
 -- The text of a string element, and the shared strings of a workbook.
-use Rattle.std.specs.Prelude.{◌≡◌, ℕ, ◌-◌, List, [], ◌∷◌, take, drop, length, Bool, true}
-use Rattle.std.specs.Prelude.{false, ◌==◌, ◌||◌, if◌then◌else◌, codes, Option, Some, None, Result}
-use Rattle.std.specs.Prelude.{Ok, Err, IsSomeAnd, MatchOption, ◌⊎◌, ⊤}
+use Rattle.std.specs.Prelude.{◌≡◌, ℕ, ◌-◌, List, [], ◌∷◌, take, drop, length, Bool, true, false}
+use Rattle.std.specs.Prelude.{◌==◌, ◌||◌, if◌then◌else◌, codes, Option, Some, None, Result, Ok, Err}
+use Rattle.std.specs.Prelude.{IsSomeAnd, MatchOption, ◌⊎◌, ⊤}
 use Rattle.std.specs.List.{prefix_len, suffix_len, flat_map}
 use Rattle.std.specs.Str.{bytes_eq}
-use Rattle.attr_text.specs.Attributes.{value_of}
-use Rattle.attr_text.specs.Text.{unescaped}
+use Rattle.attr_text.specs.Words.{value_of, unescaped}
 use Rattle.attr_text.specs.declared.fault.AttrFault.{AttrFault}
-use Rattle.part_events.specs.Event.{Tag, Event}
-use Rattle.part_events.specs.Package.{Part, part_of}
-use Rattle.part_events.specs.Section.{Element, is_named}
+use Rattle.part_events.specs.Words.{Tag, Event, Part, part_of, Element, is_named}
 use Rattle.part_events.specs.declared.fault.XmlFault.TheVariants.{Break, Entity}
 use Rattle.xlsx_error.specs.declared.error.XlsxError.{XlsxError}
 use Rattle.xlsx_error.specs.declared.error.XlsxError.TheVariants.{OutOfMemory, Io, Xml, XmlAttr}
 use Rattle.xlsx_error.specs.declared.error.XlsxError.TheVariants.{XmlEof}
-use Rattle.xlsx_sections.specs.ElementLists.{list_said, end_in_list}
-use Rattle.xlsx_sections.specs.Elements.{end_among}
-use Rattle.xlsx_sections.specs.ElementText.{element_text}
-use Rattle.xlsx_sections.specs.PartSection.{closed_section_of}
-use Rattle.xlsx_sections.specs.Refusal.{Refusal, plain, lookup_fault}
+use Rattle.xlsx_sections.specs.Words.{list_said, end_in_list, end_among, element_text}
+use Rattle.xlsx_sections.specs.Words.{closed_section_of, Refusal, plain, lookup_fault}
 
--- space, tab, CR and LF
+-- a byte is a blank: a space, a tab, CR or LF
 abbrev pub is_blank : ℕ → Bool
 is_blank b = b == 32 || (b == 9 || (b == 13 || b == 10))
 
@@ -62,15 +56,15 @@ text_by inside (Err fault) = Err (plain (lookup_fault fault))
 abbrev pub text_within : Tag → List Event → Result (List ℕ) Refusal
 text_within tag inside = text_by inside (blanks_kept tag)
 
--- a start is a text
+-- a start of the element `t`, a text
 abbrev pub is_text : Tag → Bool
 is_text tag = is_named (codes "t" ∷ []) tag
 
--- a text, or what is said of its pronunciation, which isn't read
+-- a start of a text `t`, or of what is said of its pronunciation, which isn't read
 abbrev pub is_text_or_phonetic : Tag → Bool
 is_text_or_phonetic tag = is_named (codes "t" ∷ codes "rPh" ∷ []) tag
 
--- what such an element adds to its string
+-- what a `t`, or what is said of a pronunciation, adds to its string
 abbrev pub piece_of : Tag → List Event → Result (List ℕ) Refusal
 piece_of tag inside = if is_text tag then text_within tag inside else Ok []
 
@@ -84,7 +78,7 @@ all_joined (Err refusal) = Err refusal
 abbrev pub string_of : List Event → Result (List ℕ) Refusal
 string_of inside = all_joined (list_said is_text_or_phonetic piece_of inside)
 
--- a start is a shared string
+-- a start of the element `si`, a shared string
 abbrev pub is_string : Tag → Bool
 is_string tag = is_named (codes "si" ∷ []) tag
 
@@ -133,7 +127,7 @@ IsStringError _ = ⊥
 abbrev pub IsStringsEnd : List ℕ → Type 0
 IsStringsEnd name = (name ≡ codes "sst") ⊎ ((name ≡ codes "t") ⊎ (name ≡ []))
 
--- and those of reading the shared strings
+-- the refusals that reading the shared strings can have
 abbrev pub AreStringsError : XlsxError → Type 0
 AreStringsError Io = ⊤
 AreStringsError OutOfMemory = ⊤

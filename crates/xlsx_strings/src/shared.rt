@@ -1,12 +1,10 @@
 ghost use Rattle.std.specs.Prelude.{◌≡◌, ◌≤◌, [], ◌∷◌, ◌++◌, codes, suc, length, map, true, Ok};
 ghost use Rattle.std.specs.Prelude.{string_bytes, IfOk, OnOk, IfErr};
-ghost use Rattle.part_events.specs.Package.{Uses, event_count};
-ghost use Rattle.part_events.specs.Reading.{IsReading, ReadsPart};
-ghost use Rattle.part_events.specs.Walk.{section_ahead, is_closed_ahead, section_end};
+ghost use Rattle.part_events.specs.Words.{Uses, event_count, IsReading, ReadsPart, section_ahead};
+ghost use Rattle.part_events.specs.Words.{is_closed_ahead, section_end};
 ghost use Rattle.xlsx_error.specs.declared.error.XlsxError.TheVariants.{Io};
-ghost use Rattle.xlsx_sections.specs.Elements.{IsInsideRefused};
-ghost use Rattle.xlsx_sections.specs.PartSection.{SectionFails, OptionalPartFails};
-ghost use Rattle.xlsx_sections.specs.SectionEvents.{ReadsToEnd};
+ghost use Rattle.xlsx_sections.specs.Words.{IsInsideRefused, SectionFails, OptionalPartFails};
+ghost use Rattle.xlsx_sections.specs.Words.{ReadsToEnd};
 ghost use Rattle.xlsx_strings.specs.Strings.{strings_in, end_in_strings, HasStrings};
 ghost use Rattle.xlsx_strings.specs.Strings.{AreStringsError};
 
@@ -30,11 +28,11 @@ fn strings_in<P: Package>(xml: &mut XlReader<P>, base: usize) -> Result<Vec<Stri
     requires reading { IsReading xml.old }
     requires within { base ≤ length xml.old.names }
     ensures reads { ReadsPart Io result xml.old xml.new }
-    ensures closed { xml.old.source.is_told ≡ true →
+    ensures closed { xml.old.source.is_visible ≡ true →
         OnOk result (is_closed_ahead base xml.old ≡ true) }
-    ensures ends { xml.old.source.is_told ≡ true →
+    ensures ends { xml.old.source.is_visible ≡ true →
         OnOk result (xml.new.at ≡ suc (section_end base xml.old)) }
-    ensures strings { xml.old.source.is_told ≡ true → IfOk result (λ strings.
+    ensures strings { xml.old.source.is_visible ≡ true → IfOk result (λ strings.
         strings_in (section_ahead base xml.old) ≡ Ok (map string_bytes strings.items)) }
     ensures err { IfErr result
         (SectionFails end_in_strings (IsInsideRefused strings_in) base xml.old xml.new) }
@@ -66,7 +64,7 @@ pub fn read_shared_strings<P: Package>(
     ensures uses { Uses (event_count xml.old.source.parts path.now) Io result
         xml.old.source xml.new.source }
     ensures to_end { ReadsToEnd (codes "sst") path.now result xml.old.source xml.new.source }
-    ensures strings { xml.old.source.is_told ≡ true → IfOk result (λ strings.
+    ensures strings { xml.old.source.is_visible ≡ true → IfOk result (λ strings.
         HasStrings xml.old.source.parts path.now (map string_bytes strings.items)) }
     ensures err { let refused = IsInsideRefused strings_in in
         IfErr result (OptionalPartFails (codes "sst") end_in_strings refused path.now

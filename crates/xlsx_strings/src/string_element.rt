@@ -1,12 +1,9 @@
-ghost use Rattle.std.specs.Prelude.{◌≡◌, ◌++◌, List, ℕ, true, Ok};
-ghost use Rattle.std.specs.Prelude.{string_bytes, OnOk, OnErr, IfErr};
-ghost use Rattle.attr_text.specs.Text.{unescaped};
-ghost use Rattle.part_events.specs.Event.{Tag, start, tag_of};
-ghost use Rattle.part_events.specs.JoinedText.{IsFrontOf};
-ghost use Rattle.part_events.specs.Reading.{IsReadingElement, ReadsElement, ahead};
-ghost use Rattle.part_events.specs.Section.{content};
+ghost use Rattle.std.specs.Prelude.{◌≡◌, ◌++◌, List, ℕ, true, Ok, string_bytes, OnOk, OnErr, IfErr};
+ghost use Rattle.attr_text.specs.Words.{unescaped};
+ghost use Rattle.part_events.specs.Words.{Tag, start, tag_of, IsFrontOf, IsReadingElement};
+ghost use Rattle.part_events.specs.Words.{ReadsElement, ahead, content};
 ghost use Rattle.xlsx_error.specs.declared.error.XlsxError.TheVariants.{Io};
-ghost use Rattle.xlsx_sections.specs.Elements.{ElementReadFails};
+ghost use Rattle.xlsx_sections.specs.Words.{ElementReadFails};
 ghost use Rattle.xlsx_strings.specs.Strings.{blanks_kept, spaced, piece_of, string_of};
 ghost use Rattle.xlsx_strings.specs.Strings.{end_in_piece, end_in_string, IsStringError};
 
@@ -50,7 +47,7 @@ fn read_piece<P: Package>(
 ) -> Result<(), XlsxError>
     requires element { IsReadingElement xml.old }
     ensures reads { ReadsElement Io result xml.old xml.new }
-    ensures text { xml.old.source.is_told ≡ true →
+    ensures text { xml.old.source.is_visible ≡ true →
         OnOk result ((tag : Tag) → start tag ≡ xml.old.source.current →
         (text : List ℕ) × (piece_of tag (content 0 (ahead xml.old)) ≡ Ok text)
         × (string_bytes out.new ≡ string_bytes out.old ++ text)) }
@@ -83,7 +80,7 @@ pub fn read_string<P: Package>(
 ) -> Result<(), XlsxError>
     requires element { IsReadingElement xml.old }
     ensures reads { ReadsElement Io result xml.old xml.new }
-    ensures text { xml.old.source.is_told ≡ true → OnOk result ((text : List ℕ)
+    ensures text { xml.old.source.is_visible ≡ true → OnOk result ((text : List ℕ)
         × (string_of (content 0 (ahead xml.old)) ≡ Ok text)
         × (string_bytes out.new ≡ string_bytes out.old ++ text)) }
     ensures front { IsFrontOf (string_bytes out.old) (string_bytes out.new) }

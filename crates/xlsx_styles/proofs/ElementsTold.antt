@@ -1,21 +1,17 @@
 -- What a call says that reads an element, by what the call says that it hands on.
 use Rattle.std.proofs.Common.{◌≡◌, true, List, Result, Ok, Err, sym, subst}
 use Rattle.std.specs.Prelude.{IsErrAnd}
-use Rattle.part_events.specs.Event.{Event}
-use Rattle.part_events.specs.Reading.{Reading, PassesElement, LeavesPart, ahead}
-use Rattle.part_events.specs.Section.{content}
+use Rattle.part_events.specs.Words.{Event, Reading, PassesElement, LeavesPart, ahead, content}
 use Rattle.xlsx_error.specs.declared.error.XlsxError.{XlsxError}
 use Rattle.xlsx_error.specs.declared.error.XlsxError.TheVariants.{Io}
-use Rattle.xlsx_sections.specs.Elements.{ElementReadFails}
-use Rattle.xlsx_sections.specs.PartSection.{Ending}
-use Rattle.xlsx_sections.specs.Refusal.{Refusal}
+use Rattle.xlsx_sections.specs.Words.{ElementReadFails, Ending, Refusal}
 use Rattle.xlsx_styles.specs.ReadElements.{ReadsInside}
 
 -- what stands in the element was answered
 pub told_inside : {A B : Type 0} {meaning : List Event → Result B Refusal} {said : A → B}
     {ending : Ending} {Kind : XlsxError → Type 0} {old new : Reading} (own : A)
     → PassesElement old new
-    → (old.source.is_told ≡ true → meaning (content 0 (ahead old)) ≡ Ok (said own))
+    → (old.source.is_visible ≡ true → meaning (content 0 (ahead old)) ≡ Ok (said own))
     → ReadsInside meaning said ending Kind (Ok own) old new
 told_inside own passes says = record { reads = passes; says = says; err = tt; kind = tt }
 

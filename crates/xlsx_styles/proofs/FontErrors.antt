@@ -3,7 +3,7 @@ use Rattle.std.proofs.Common.{◌≡◌, ℕ, List, Result, Err, ap}
 use Rattle.part_events.specs.declared.fault.XmlFault.TheVariants.{Entity}
 use Rattle.xlsx_error.specs.declared.error.XlsxError.{XlsxError}
 use Rattle.xlsx_error.specs.declared.error.XlsxError.TheVariants.{OutOfMemory, Xml}
-use Rattle.xlsx_sections.specs.Refusal.{Refusal, ElementFails, IsDecodeError}
+use Rattle.xlsx_sections.specs.Words.{Refusal, ElementFails, IsDecodeError}
 use Rattle.xlsx_sections.proofs.Refused.{refused_at_weaker}
 use Rattle.xlsx_styles.specs.Errors.{IsFontError}
 use Rattle.xlsx_styles.specs.Fonts.{FontSaid, with_decoded}

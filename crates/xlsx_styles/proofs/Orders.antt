@@ -1,6 +1,6 @@
 -- Tints keep the order of channels, and a tint of zero keeps the channels.
-use Rattle.std.proofs.Common.{◌≡◌, ℕ, ◌+◌, ◌-◌, ◌*◌, ◌/◌, ◌^◌, ◌<◌, ◌≤◌, min, refl, ap, subst}
-use Rattle.std.proofs.Common.{sym, ◌∙◌, inl, inr, false, arith, zero, suc}
+use Rattle.std.proofs.Common.{◌≡◌, ℕ, ◌+◌, ◌-◌, ◌*◌, ◌/◌, ◌^◌, ◌<◌, ◌≤◌, min, refl, ap, subst, sym}
+use Rattle.std.proofs.Common.{◌∙◌, inl, inr, false, arith, zero, suc}
 use Rattle.std.specs.Prelude.{ℤ, pos, negsuc, nat_abs}
 use Rattle.std.proofs.Math.Nat.{mul-le-mul_left, mul-le-mul_right, suc-mul, zero-div, zero-mul}
 use Rattle.std.proofs.lemmas.Bool.{cases_lt}

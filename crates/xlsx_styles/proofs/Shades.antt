@@ -3,7 +3,7 @@ use Rattle.std.proofs.Common.{◌≡◌, ℕ, ◌+◌, ◌-◌, ◌*◌, ◌/◌
 use Rattle.std.proofs.Common.{arith}
 use Rattle.std.specs.Prelude.{ℤ, pos, negsuc, true, zero, suc, nat_abs}
 use Rattle.std.specs.Int.Signed.{le_z}
-use Rattle.decimals.specs.Decimal.{number_of}
+use Rattle.decimals.specs.Words.{number_of}
 use Rattle.decimals.specs.declared.decimal.Decimal.{Decimal}
 use Rattle.xlsx_styles.specs.Tint.{unit, parts_of, number_size, tint_size, with_decimals}
 use Rattle.std.proofs.Math.Nat.{mul-le-mul_left, mul-add, add-mul, mul_comm, mul_assoc}

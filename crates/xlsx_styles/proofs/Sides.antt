@@ -1,12 +1,11 @@
 -- How a side of a border is refused.
 use Rattle.std.proofs.Common.{◌≡◌, List, Ok, codes, length, sym, ◌∙◌, ap}
-use Rattle.part_events.specs.Event.{Tag, start}
-use Rattle.part_events.specs.Reading.{Reading, IsReading}
+use Rattle.part_events.specs.Words.{Tag, start, Reading, IsReading}
 use Rattle.xlsx_error.specs.declared.error.XlsxError.{XlsxError}
 use Rattle.cell_styles.specs.declared.border.BorderStyle.{BorderStyle}
 use Rattle.cell_styles.specs.declared.color.Color.{Color}
-use Rattle.xlsx_sections.specs.Elements.{ElementReadFails, IsInsideRefused}
-use Rattle.xlsx_sections.specs.PartSection.{always, inside_of, section_left}
+use Rattle.xlsx_sections.specs.Words.{ElementReadFails, IsInsideRefused, always, inside_of}
+use Rattle.xlsx_sections.specs.Words.{section_left}
 use Rattle.xlsx_sections.proofs.Refused.{refused_as}
 use Rattle.xlsx_sections.proofs.SectionsRead.{same_tag}
 use Rattle.xlsx_styles.specs.Borders.{color_in, colored, side_by, side_line, side_of}

@@ -4,7 +4,7 @@ use Rattle.part_events.specs.declared.fault.XmlFault.TheVariants.{Break}
 use Rattle.xlsx_error.specs.declared.error.XlsxError.{XlsxError}
 use Rattle.xlsx_error.specs.declared.error.XlsxError.TheVariants.{OutOfMemory, Io, Xml, XmlAttr}
 use Rattle.xlsx_error.specs.declared.error.XlsxError.TheVariants.{XmlEof}
-use Rattle.xlsx_sections.specs.PartSection.{IsStepError}
+use Rattle.xlsx_sections.specs.Words.{IsStepError}
 use Rattle.xlsx_styles.specs.Errors.{IsPlainError, IsBorderError}
 
 pub border_step : (error : XlsxError) → IsStepError (codes "border") error → IsBorderError error

@@ -2,9 +2,9 @@
 use Rattle.std.specs.Prelude.{ℕ, ◌==◌, List, [], ◌∷◌, get_or, true, false, if◌then◌else◌, codes}
 use Rattle.std.specs.Prelude.{Option, Some, None, Result, Ok, Err}
 use Rattle.std.specs.Option.{option_and_then}
-use Rattle.attr_text.specs.Attributes.{lookup}
+use Rattle.attr_text.specs.Words.{lookup}
 use Rattle.attr_text.specs.declared.fault.AttrFault.{AttrFault}
-use Rattle.part_events.specs.Event.{Tag}
+use Rattle.part_events.specs.Words.{Tag}
 use Rattle.cell_styles.specs.declared.alignment.Alignment.{Alignment}
 use Rattle.cell_styles.specs.declared.alignment.HorizontalAlignment.{HorizontalAlignment}
 use Rattle.cell_styles.specs.declared.alignment.HorizontalAlignment.TheVariants as horizontal
@@ -13,11 +13,11 @@ use Rattle.cell_styles.specs.declared.alignment.TextRotation.TheVariants as rota
 use Rattle.cell_styles.specs.declared.alignment.VerticalAlignment.{VerticalAlignment}
 use Rattle.cell_styles.specs.declared.alignment.VerticalAlignment.TheVariants as vertical
 use Rattle.cell_styles.specs.declared.protection.Protection.{Protection}
-use Rattle.xlsx_sections.specs.Names.{named}
-use Rattle.xlsx_sections.specs.NumberText.{number_below}
+use Rattle.xlsx_sections.specs.Words.{named, number_below}
 use Rattle.xlsx_styles.specs.Texts.{truth_or}
 
--- ECMA-376 part 1, section 18.18.40
+-- how a text lies in its cell from side to side, as an attribute names it (ECMA-376 part 1, section
+-- 18.18.40)
 abbrev pub horizontal_named : Option (List ℕ) → HorizontalAlignment
 horizontal_named None = horizontal.General
 horizontal_named (Some text) = named (
@@ -26,7 +26,8 @@ horizontal_named (Some text) = named (
     ∷ (codes "justify", horizontal.Justify) ∷ (codes "distributed", horizontal.Distributed)
     ∷ (codes "fill", horizontal.Fill) ∷ []) horizontal.General text
 
--- ECMA-376 part 1, section 18.18.88
+-- how a text lies in its cell from top to bottom, as an attribute names it (ECMA-376 part 1,
+-- section 18.18.88)
 abbrev pub vertical_named : Option (List ℕ) → VerticalAlignment
 vertical_named None = vertical.Bottom
 vertical_named (Some text) = named (
@@ -34,7 +35,7 @@ vertical_named (Some text) = named (
     ∷ (codes "justify", vertical.Justify) ∷ (codes "distributed", vertical.Distributed) ∷ [])
     vertical.Bottom text
 
--- 255 stands for letters one below the other
+-- the rotation of a text by its degrees; 255 stands for letters one below the other
 abbrev pub rotation_by : Option ℕ → TextRotation
 rotation_by None = rotation.None
 rotation_by (Some n) = if n == 255 then rotation.Stacked else rotation.Degrees n

@@ -2,26 +2,22 @@
 use Rattle.std.specs.Prelude.{ℕ, List, [], ◌∷◌, Bool, if◌then◌else◌, codes, Option, Some, None}
 use Rattle.std.specs.Prelude.{Result, Ok, Err}
 use Rattle.std.specs.Str.{bytes_eq}
-use Rattle.attr_text.specs.Attributes.{value_of, local_name_of}
+use Rattle.attr_text.specs.Words.{value_of, local_name_of}
 use Rattle.attr_text.specs.declared.fault.AttrFault.{AttrFault}
-use Rattle.part_events.specs.Event.{Tag, Event}
-use Rattle.part_events.specs.Section.{PlacedTag, Element, starts_by, outermost, is_named}
-use Rattle.cell_styles.specs.Default.{default_borders}
+use Rattle.part_events.specs.Words.{Tag, Event, PlacedTag, Element, starts_by, outermost, is_named}
+use Rattle.cell_styles.specs.Words.{default_borders}
 use Rattle.cell_styles.specs.declared.border.Border.{Border}
 use Rattle.cell_styles.specs.declared.border.Borders.{Borders}
 use Rattle.cell_styles.specs.declared.border.BorderStyle.{BorderStyle}
 use Rattle.cell_styles.specs.declared.border.BorderStyle.TheVariants as line
 use Rattle.cell_styles.specs.declared.color.Color.{Color}
-use Rattle.xlsx_sections.specs.Answers.{last_answer}
-use Rattle.xlsx_sections.specs.Elements.{end_among}
-use Rattle.xlsx_sections.specs.Refusal.{Refusal, plain, lookup_fault, in_element}
-use Rattle.xlsx_sections.specs.Changes.{all_changes, or_fault}
+use Rattle.xlsx_sections.specs.Words.{last_answer, end_among, Refusal, plain, lookup_fault}
+use Rattle.xlsx_sections.specs.Words.{in_element, all_changes, or_fault, named}
 use Rattle.xlsx_styles.specs.Colors.{color_of, is_color}
-use Rattle.xlsx_sections.specs.Names.{named}
 use Rattle.xlsx_styles.specs.declared.border.Side.{Side}
 use Rattle.xlsx_styles.specs.declared.border.Side.TheVariants.{Left, Right, Top, Bottom, Diagonal}
 
--- ECMA-376 part 1, section 18.18.3
+-- the line of a border that a text names (ECMA-376 part 1, section 18.18.3)
 unfoldable pub line_named : List ℕ → BorderStyle
 line_named text = named (
     (codes "thin", line.Thin) ∷ (codes "medium", line.Medium) ∷ (codes "thick", line.Thick)
@@ -50,7 +46,7 @@ abbrev pub colored : BorderStyle → Result (Option Color) Refusal → Result Bo
 colored style (Ok color) = Ok (record { style = style; color = color })
 colored style (Err refusal) = Err refusal
 
--- the line that was looked up
+-- the line of a border's side that was looked up
 abbrev pub lined : Result (Option (List ℕ)) AttrFault → Result BorderStyle AttrFault
 lined (Ok text) = Ok (border_line text)
 lined (Err fault) = Err fault
@@ -125,13 +121,13 @@ abbrev pub side_kept : (Border → Borders) → Result Border Refusal → Result
 side_kept place (Ok side) = Ok (place side)
 side_kept place (Err refusal) = Err refusal
 
--- what a side of this start makes of the borders, by what is said of it
+-- what a side of this start makes of the borders that it stands in, by what is said of the side
 abbrev pub side_placed : Bool → Bool → Tag → Borders → Result Border Refusal
     → Result Borders Refusal
 side_placed down up tag borders side =
     side_kept (with_side down up (side_named (local_name_of tag.name)) borders) side
 
--- what an element in a border makes of it
+-- what an element in a `border` makes of the borders
 abbrev pub border_change :
     List Color → Bool → Bool → Element → Borders → Result Borders Refusal
 border_change theme down up element borders =

@@ -4,26 +4,24 @@ use Rattle.std.specs.Prelude.{if◌then◌else◌, codes, Option, Some, None, op
 use Rattle.std.specs.Prelude.{ℤ, Bool}
 use Rattle.std.specs.Option.{option_and_then}
 use Rattle.std.specs.Str.Parse.{digits_value}
-use Rattle.attr_text.specs.Attributes.{lookup}
-use Rattle.attr_text.specs.Text.{all_digits}
+use Rattle.attr_text.specs.Words.{lookup, all_digits}
 use Rattle.attr_text.specs.declared.fault.AttrFault.{AttrFault}
-use Rattle.part_events.specs.Event.{Tag}
-use Rattle.part_events.specs.Section.{is_named}
-use Rattle.decimals.specs.Decimals.{decimal_of}
-use Rattle.cell_styles.specs.Color.{color_of_argb}
+use Rattle.part_events.specs.Words.{Tag, is_named}
+use Rattle.decimals.specs.Words.{decimal_of}
+use Rattle.cell_styles.specs.Words.{color_of_argb}
 use Rattle.cell_styles.specs.declared.color.Color.{Color}
-use Rattle.xlsx_sections.specs.NumberText.{number_below}
+use Rattle.xlsx_sections.specs.Words.{number_below}
 use Rattle.xlsx_styles.specs.Tint.{Fraction, number_fraction}
 
--- a start that says a color
+-- a start of the element `color`
 abbrev pub is_color : Tag → Bool
 is_color tag = is_named (codes "color" ∷ []) tag
 
--- opaque black
+-- the color black, opaque
 abbrev pub black : Color
 black = color_of_argb 0xFF000000
 
--- six hexadecimal digits are red, green and blue, and two before them alpha
+-- the color that hexadecimal digits tell: six are red, green and blue, and two before them alpha
 abbrev pub hex_color : List ℕ → Option Color
 hex_color text =
     if all_digits 16 text
@@ -50,7 +48,7 @@ indexed_argbs =
 abbrev pub indexed_colors : List Color
 indexed_colors = map color_of_argb indexed_argbs
 
--- black past the colors
+-- the color at a place of a list, black past its end
 abbrev pub color_at : List Color → ℕ → Color
 color_at colors n = get_or colors n black
 
@@ -76,19 +74,19 @@ plain_color theme None number indexed = theme_color theme number indexed
 plain_color theme (Some text) number indexed = hex_color text
 
 -- the whole number nearest to a fraction, halves upward
-abbrev pub nearest : Fraction → ℕ
-nearest fraction = (2 * fraction.numerator + fraction.divisor) / (2 * fraction.divisor)
+abbrev pub nearest_upward : Fraction → ℕ
+nearest_upward fraction = (2 * fraction.numerator + fraction.divisor) / (2 * fraction.divisor)
 
 -- the color, tinted by a number, its mantissa and its power of ten
 abbrev pub tinted : ℤ × ℤ → Color → Color
 tinted number color = record {
   alpha = color.alpha;
-  red = nearest (number_fraction color number color.red);
-  green = nearest (number_fraction color number color.green);
-  blue = nearest (number_fraction color number color.blue);
+  red = nearest_upward (number_fraction color number color.red);
+  green = nearest_upward (number_fraction color number color.green);
+  blue = nearest_upward (number_fraction color number color.blue);
 }
 
--- a tint of zero changes nothing
+-- a color tinted by a number, if there is one; a tint of zero changes nothing
 abbrev pub tinted_if : Option (ℤ × ℤ) → Color → Color
 tinted_if None color = color
 tinted_if (Some number) color =
@@ -98,7 +96,7 @@ tinted_if (Some number) color =
 abbrev pub tint_of : Option (List ℕ) → Option (ℤ × ℤ)
 tint_of text = option_and_then decimal_of text
 
--- by the texts of `rgb`, `theme`, `indexed` and `tint`
+-- the color that the texts of `rgb`, `theme`, `indexed` and `tint` tell
 abbrev pub color_of_texts : List Color → List (Option (List ℕ)) → Option Color
 color_of_texts theme texts =
     option_map (tinted_if (tint_of (get_or texts 3 None)))

@@ -5,7 +5,7 @@ use Rattle.xlsx_error.specs.declared.error.XlsxError.{XlsxError}
 use Rattle.xlsx_error.specs.declared.error.XlsxError.TheVariants.{OutOfMemory, Io, Xml, XmlAttr}
 use Rattle.xlsx_error.specs.declared.error.XlsxError.TheVariants.{XmlEof}
 
--- of one without decoded texts, of this name
+-- the refusals that reading an element of this name can have, which has no decoded texts
 abbrev pub IsPlainError : List ℕ → XlsxError → Type 0
 IsPlainError name Io = ⊤
 IsPlainError name OutOfMemory = ⊤
@@ -14,7 +14,7 @@ IsPlainError name (XmlAttr fault) = ⊤
 IsPlainError name (XmlEof element) = element.now ≡ name
 IsPlainError name _ = ⊥
 
--- and of a font, whose name is decoded
+-- the refusals that reading a font can have, whose name is decoded
 abbrev pub IsFontError : XlsxError → Type 0
 IsFontError Io = ⊤
 IsFontError OutOfMemory = ⊤
@@ -24,7 +24,7 @@ IsFontError (XmlAttr fault) = ⊤
 IsFontError (XmlEof element) = element.now ≡ codes "font"
 IsFontError _ = ⊥
 
--- and of borders
+-- the refusals that reading the borders of an element `border` can have
 abbrev pub IsBorderError : XlsxError → Type 0
 IsBorderError Io = ⊤
 IsBorderError OutOfMemory = ⊤

@@ -3,14 +3,11 @@ use Rattle.std.specs.Prelude.{ℕ, nat_le, ℤ, List, [], ◌∷◌, Bool, true,
 use Rattle.std.specs.Prelude.{Some, None, option_map, Result, Ok, Err}
 use Rattle.std.specs.Option.{option_and_then, option_or}
 use Rattle.std.specs.Str.{bytes_eq}
-use Rattle.attr_text.specs.Attributes.{value_of, local_name_of}
+use Rattle.attr_text.specs.Words.{value_of, local_name_of}
 use Rattle.attr_text.specs.declared.fault.AttrFault.{AttrFault}
-use Rattle.part_events.specs.Event.{Tag, Event}
-use Rattle.part_events.specs.Section.{PlacedTag, starts_by, is_named}
-use Rattle.decimals.specs.Decimal.{number_of}
-use Rattle.decimals.specs.Decimals.{decimal_of}
-use Rattle.cell_styles.specs.Default.{default_font}
-use Rattle.cell_styles.specs.Font.{FontFields}
+use Rattle.part_events.specs.Words.{Tag, Event, PlacedTag, starts_by, is_named}
+use Rattle.decimals.specs.Words.{number_of, decimal_of}
+use Rattle.cell_styles.specs.Words.{default_font, FontFields}
 use Rattle.cell_styles.specs.declared.color.Color.{Color}
 use Rattle.cell_styles.specs.declared.font.FontStyle.{FontStyle}
 use Rattle.cell_styles.specs.declared.font.FontStyle.TheVariants as style
@@ -18,11 +15,9 @@ use Rattle.cell_styles.specs.declared.font.FontWeight.{FontWeight}
 use Rattle.cell_styles.specs.declared.font.FontWeight.TheVariants as weight
 use Rattle.cell_styles.specs.declared.font.UnderlineStyle.{UnderlineStyle}
 use Rattle.cell_styles.specs.declared.font.UnderlineStyle.TheVariants as underline
-use Rattle.xlsx_sections.specs.Refusal.{Refusal, plain, lookup_fault, decoded_at}
-use Rattle.xlsx_sections.specs.Changes.{all_changes, or_fault, changed_with}
+use Rattle.xlsx_sections.specs.Words.{Refusal, plain, lookup_fault, decoded_at, all_changes}
+use Rattle.xlsx_sections.specs.Words.{or_fault, changed_with, named, number_below}
 use Rattle.xlsx_styles.specs.Colors.{color_of, is_color}
-use Rattle.xlsx_sections.specs.Names.{named}
-use Rattle.xlsx_sections.specs.NumberText.{number_below}
 use Rattle.xlsx_styles.specs.Texts.{truth_or}
 
 -- a font, its size as a number, its mantissa and its power of ten
@@ -49,12 +44,12 @@ said_of font = record {
   family = font.family;
 }
 
--- from 600 on a font is bold
+-- the weight of a font by a number: bold from 600 on
 abbrev pub weight_by : Option ℕ → FontWeight
 weight_by None = weight.Normal
 weight_by (Some n) = if nat_le 600 n then weight.Bold else weight.Normal
 
--- the weight that a text names
+-- the weight of a font that a text names
 unfoldable pub weight_named : List ℕ → FontWeight
 weight_named text = named (
     (codes "bold", weight.Bold) ∷ (codes "700", weight.Bold) ∷ (codes "1", weight.Bold)
@@ -67,18 +62,18 @@ abbrev pub weight_of : Option (List ℕ) → FontWeight
 weight_of None = weight.Bold
 weight_of (Some text) = weight_named text
 
--- the style that a text names
-unfoldable pub style_named : List ℕ → FontStyle
-style_named text = named (
+-- the style of a font that a text names
+unfoldable pub font_style_named : List ℕ → FontStyle
+font_style_named text = named (
     (codes "italic", style.Italic) ∷ (codes "oblique", style.Italic)
     ∷ (codes "1", style.Italic) ∷ (codes "true", style.Italic) ∷ []) style.Normal text
 
 -- the style of a start by its text; without one italic
 abbrev pub style_of : Option (List ℕ) → FontStyle
 style_of None = style.Italic
-style_of (Some text) = style_named text
+style_of (Some text) = font_style_named text
 
--- ECMA-376 part 1, section 18.18.82
+-- the underline that a text names (ECMA-376 part 1, section 18.18.82)
 unfoldable pub underline_named : List ℕ → UnderlineStyle
 underline_named text = named (
     (codes "single", underline.Single) ∷ (codes "double", underline.Double)
@@ -182,7 +177,7 @@ with_color font color = record {
   family = font.family;
 }
 
--- a font with this name
+-- what a font says, with this name in place of its own
 abbrev pub with_name : FontSaid → List ℕ → FontSaid
 with_name font name = record {
   name = Some name;
@@ -222,11 +217,11 @@ unfoldable pub value_changed : Tag → FontSaid → Result FontSaid AttrFault
 value_changed tag font =
     changed_with (with_value (local_name_of tag.name)) font (value_of (codes "val") tag.attributes)
 
--- a start is the name of a font
+-- a start of the element `name`, the name of a font
 abbrev pub is_font_name : Tag → Bool
 is_font_name tag = is_named (codes "name" ∷ []) tag
 
--- what a start in a font makes of it, by the colors of the theme
+-- what a start in a font makes of the font, by the colors of the theme
 abbrev pub font_change : List Color → PlacedTag → FontSaid → Result FontSaid Refusal
 font_change theme start font =
     if is_font_name start.tag

@@ -8,3 +8,4 @@ pub mod ReadElements
 pub mod Texts
 pub mod Theme
 pub mod Tint
+pub mod Words

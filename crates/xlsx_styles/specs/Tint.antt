@@ -1,11 +1,11 @@
 -- Tints: a color made lighter or darker by a number from -1 to 1, in exact fractions.
 use Rattle.std.specs.Prelude.{ℕ, ◌+◌, ◌-◌, ◌*◌, ◌/◌, ◌^◌, ◌<◌, ◌≤◌, min, max, Bool, true, false, ℤ}
 use Rattle.std.specs.Prelude.{pos, negsuc, nat_abs, zero, suc}
-use Rattle.decimals.specs.Decimal.{number_of}
+use Rattle.decimals.specs.Words.{number_of}
 use Rattle.decimals.specs.declared.decimal.Decimal.{Decimal}
 use Rattle.cell_styles.specs.declared.color.Color.{Color}
 
--- a tint is taken in whole parts of this many
+-- how many parts a tint of one has, of which whole ones are taken
 abbrev pub unit : ℕ
 unit = 10 ^ 20
 

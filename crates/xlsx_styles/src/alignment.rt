@@ -1,7 +1,7 @@
 ghost use Rattle.std.specs.Prelude.{◌≡◌, [], ◌∷◌, MatchResult, Ok, Err};
 ghost use Rattle.std.specs.Option.{option_copied};
-ghost use Rattle.attr_text.specs.Attributes.{lookup};
-ghost use Rattle.part_events.specs.Event.{tag_of};
+ghost use Rattle.attr_text.specs.Words.{lookup};
+ghost use Rattle.part_events.specs.Words.{tag_of};
 ghost use Rattle.xlsx_styles.specs.Alignments.{horizontal_named, vertical_named, rotation_of};
 ghost use Rattle.xlsx_styles.specs.Alignments.{indent_of, alignment_keys, alignment_of};
 ghost use Rattle.xlsx_styles.specs.Alignments.{protection_of};

@@ -1,11 +1,10 @@
 ghost use Rattle.std.proofs.Common.{rules};
 ghost use Rattle.std.specs.Prelude.{◌≡◌, codes};
 ghost use Rattle.std.specs.Option.{option_copied};
-ghost use Rattle.attr_text.specs.Attributes.{local_name_of};
-ghost use Rattle.part_events.specs.Event.{tag_of};
-ghost use Rattle.part_events.specs.Reading.{IsReadingElement};
+ghost use Rattle.attr_text.specs.Words.{local_name_of};
+ghost use Rattle.part_events.specs.Words.{tag_of, IsReadingElement};
 ghost use Rattle.cell_styles.specs.declared.color.Color.{Color};
-ghost use Rattle.xlsx_sections.specs.PartSection.{always};
+ghost use Rattle.xlsx_sections.specs.Words.{always};
 ghost use Rattle.xlsx_styles.specs.Borders.{line_named, border_line, side_line, side_color};
 ghost use Rattle.xlsx_styles.specs.Borders.{color_in, side_of, side_named, with_side, border_of};
 ghost use Rattle.xlsx_styles.specs.Borders.{end_in_border};

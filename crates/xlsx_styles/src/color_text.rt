@@ -1,14 +1,12 @@
-ghost use Rattle.attr_text.specs.Attributes.{lookup};
-ghost use Rattle.cell_styles.specs.Color.{color_of_argb};
+ghost use Rattle.attr_text.specs.Words.{lookup, all_digits};
+ghost use Rattle.cell_styles.specs.Words.{color_of_argb};
 ghost use Rattle.std.specs.Prelude.{◌≡◌, ◌≤◌, ◌<◌, ◌^◌, [], ◌∷◌, length, map, true, false};
 ghost use Rattle.std.specs.Prelude.{MatchOption, MatchResult, Ok, Err};
 ghost use Rattle.std.specs.Option.{option_copied};
 ghost use Rattle.std.specs.Str.Parse.{digits_value};
-ghost use Rattle.attr_text.specs.Text.{all_digits};
-ghost use Rattle.part_events.specs.Event.{tag_of};
-ghost use Rattle.xlsx_styles.specs.Colors.{hex_color, color_at, indexed_colors};
-ghost use Rattle.xlsx_styles.specs.Colors.{indexed_color, plain_color, tint_of};
-ghost use Rattle.xlsx_styles.specs.Colors.{tinted_if, color_keys, color_of};
+ghost use Rattle.part_events.specs.Words.{tag_of};
+ghost use Rattle.xlsx_styles.specs.Colors.{hex_color, color_at, indexed_colors, indexed_color};
+ghost use Rattle.xlsx_styles.specs.Colors.{plain_color, tint_of, tinted_if, color_keys, color_of};
 
 use crate::texts::byte_text;
 use crate::tint::apply_tint;

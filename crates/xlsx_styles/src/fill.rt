@@ -1,11 +1,9 @@
 ghost use Rattle.std.proofs.Common.{rules};
 ghost use Rattle.std.specs.Prelude.{◌≡◌, ⊤, codes, Ok, Err, MatchResult};
 ghost use Rattle.std.specs.Option.{option_copied};
-ghost use Rattle.attr_text.specs.Attributes.{value_of};
-ghost use Rattle.part_events.specs.Event.{tag_of};
-ghost use Rattle.part_events.specs.Reading.{IsReadingElement};
-ghost use Rattle.xlsx_sections.specs.PartSection.{always};
-ghost use Rattle.xlsx_sections.specs.Changes.{changed_with};
+ghost use Rattle.attr_text.specs.Words.{value_of};
+ghost use Rattle.part_events.specs.Words.{tag_of, IsReadingElement};
+ghost use Rattle.xlsx_sections.specs.Words.{always, changed_with};
 ghost use Rattle.xlsx_styles.specs.Errors.{IsPlainError};
 ghost use Rattle.xlsx_styles.specs.Fills.{pattern_named, with_pattern, with_foreground};
 ghost use Rattle.xlsx_styles.specs.Fills.{with_background, fill_changed, fill_change, fill_of};

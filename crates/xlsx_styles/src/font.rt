@@ -1,10 +1,8 @@
 ghost use Rattle.std.proofs.Common.{rules};
 ghost use Rattle.std.specs.Prelude.{◌≡◌, ⊤, ℕ, codes, Ok, OnOk, IfErr};
-ghost use Rattle.attr_text.specs.Attributes.{value_of};
-ghost use Rattle.part_events.specs.Event.{tag_of};
-ghost use Rattle.part_events.specs.Reading.{IsReadingElement};
-ghost use Rattle.xlsx_sections.specs.PartSection.{always};
-ghost use Rattle.xlsx_sections.specs.Refusal.{ElementFails, placed_at};
+ghost use Rattle.attr_text.specs.Words.{value_of};
+ghost use Rattle.part_events.specs.Words.{tag_of, IsReadingElement};
+ghost use Rattle.xlsx_sections.specs.Words.{always, ElementFails, placed_at};
 ghost use Rattle.xlsx_styles.specs.Errors.{IsFontError};
 ghost use Rattle.xlsx_styles.specs.Fonts.{FontSaid, said_of, name_changed, font_change, font_of};
 ghost use Rattle.xlsx_styles.specs.ReadElements.{ReadsInside};

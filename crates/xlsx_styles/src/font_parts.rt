@@ -1,12 +1,12 @@
 ghost use Rattle.std.specs.Prelude.{◌≡◌, Ok, Err, MatchResult};
 ghost use Rattle.std.specs.Option.{option_copied};
-ghost use Rattle.part_events.specs.Event.{tag_of};
-ghost use Rattle.xlsx_sections.specs.Changes.{changed_with};
+ghost use Rattle.part_events.specs.Words.{tag_of};
+ghost use Rattle.xlsx_sections.specs.Words.{changed_with};
 ghost use Rattle.xlsx_styles.specs.Colors.{color_of};
-ghost use Rattle.xlsx_styles.specs.Fonts.{said_of, weight_by, weight_named, style_named};
-ghost use Rattle.xlsx_styles.specs.Fonts.{underline_named, with_size};
-ghost use Rattle.xlsx_styles.specs.Fonts.{with_family, with_weight, with_style, with_underline};
-ghost use Rattle.xlsx_styles.specs.Fonts.{with_strike, with_color, with_value, value_changed};
+ghost use Rattle.xlsx_styles.specs.Fonts.{said_of, weight_by, weight_named, font_style_named};
+ghost use Rattle.xlsx_styles.specs.Fonts.{underline_named, with_size, with_family, with_weight};
+ghost use Rattle.xlsx_styles.specs.Fonts.{with_style, with_underline, with_strike, with_color};
+ghost use Rattle.xlsx_styles.specs.Fonts.{with_value, value_changed};
 
 use crate::color_text::parse_color;
 use crate::texts::{byte_text, short_text, truth_or};
@@ -35,9 +35,9 @@ fn weight_named(text: &str) -> FontWeight
     }
 }
 
-#[tactic(auto, unfolding(crate::specs::Fonts::style_named))]
+#[tactic(auto, unfolding(crate::specs::Fonts::font_style_named))]
 fn style_named(text: &str) -> FontStyle
-    ensures { result ≡ style_named text.now }
+    ensures { result ≡ font_style_named text.now }
 {
     match text {
         "italic" | "oblique" | "1" | "true" => FontStyle::Italic,

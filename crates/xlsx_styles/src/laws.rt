@@ -1,8 +1,8 @@
 ghost use Rattle.std.specs.Prelude.{◌≡◌, ℕ, ◌≤◌, ◌*◌, ◌^◌, ℤ, nat_abs};
-ghost use Rattle.decimals.specs.Decimal.{number_of};
+ghost use Rattle.decimals.specs.Words.{number_of};
 ghost use Rattle.decimals.specs.declared.decimal.Decimal.{Decimal};
 ghost use Rattle.cell_styles.specs.declared.color.Color.{Color};
-ghost use Rattle.xlsx_styles.specs.Colors.{nearest};
+ghost use Rattle.xlsx_styles.specs.Colors.{nearest_upward};
 ghost use Rattle.xlsx_styles.specs.Tint.{Fraction, IsNearest, tint_fraction, tint_size};
 ghost use Rattle.xlsx_styles.specs.Tint.{with_decimals};
 
@@ -17,7 +17,7 @@ pub fn tints_keep_the_order()
 /// One number alone is nearest to a fraction.
 #[tactic(auto, using(crate::proofs::Nearest::nearest_is))]
 pub fn one_number_is_nearest()
-    ensures { (n : ℕ) (fraction : Fraction) → IsNearest n fraction → n ≡ nearest fraction }
+    ensures { (n : ℕ) (fraction : Fraction) → IsNearest n fraction → n ≡ nearest_upward fraction }
 {}
 
 /// A tint from -1 to 1 of at most 20 decimals is taken exactly: in parts of ten to the twentieth,

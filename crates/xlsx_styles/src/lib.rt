@@ -1,7 +1,7 @@
 //! The styles of a workbook: the theme's colors, tints, and what the elements of the styles part
 //! say.
 //!
-//! Rooms: `theme`, `tint`, `laws`, `texts` (truth values and small numbers), `color_text` (the
+//! Rooms: `theme`, `tint`, `laws`, `texts` (booleans and small numbers), `color_text` (the
 //! color of a start), `alignment` (alignments and protections), `fill`, `font` and `font_parts`,
 //! `border` (a side, then its border). A tint is read in parts of 10^20 (`size_of`), and each
 //! channel is one fraction of whole numbers of 128 bits, divided once at the end (`nearest`).

@@ -1,17 +1,17 @@
 ghost use Rattle.std.specs.Prelude.{◌≡◌};
 ghost use Rattle.std.specs.Option.{option_copied};
-ghost use Rattle.xlsx_sections.specs.NumberText.{number_below};
-ghost use Rattle.xlsx_styles.specs.Texts.{is_truth, truth_or};
+ghost use Rattle.xlsx_sections.specs.Words.{number_below};
+ghost use Rattle.xlsx_styles.specs.Texts.{is_boolean_true, truth_or};
 
 use xlsx_sections::number_text;
 
 fn is_truth(text: &str) -> bool
-    ensures { result ≡ is_truth text.now }
+    ensures { result ≡ is_boolean_true text.now }
 {
     !(text == "0" || text == "false")
 }
 
-/// The truth value of a text, which is false exactly for `0` and `false`, or another one where
+/// The boolean of a text, which is false exactly for `0` and `false`, or another one where
 /// there is no text.
 pub fn truth_or(text: Option<&str>, other: bool) -> bool
     ensures { result ≡ truth_or other (option_copied text.entry) }

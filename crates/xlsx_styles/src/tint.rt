@@ -1,6 +1,6 @@
 ghost use Rattle.std.specs.Prelude.{◌≡◌, ◌+◌, ◌-◌, ◌*◌, ◌/◌, ◌^◌, ◌<◌, ◌≤◌, min, pos};
-ghost use Rattle.xlsx_styles.specs.Tint.{IsNearest, unit, is_negative, tint_size};
-ghost use Rattle.xlsx_styles.specs.Tint.{room_of, tinted_sum, shade, tint_fraction};
+ghost use Rattle.xlsx_styles.specs.Tint.{IsNearest, unit, is_negative, tint_size, room_of};
+ghost use Rattle.xlsx_styles.specs.Tint.{tinted_sum, shade, tint_fraction};
 
 use cell_styles::Color;
 use decimals::Decimal;

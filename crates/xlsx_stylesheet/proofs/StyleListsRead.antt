@@ -1,21 +1,16 @@
 -- How the lists of a section of styles are read one by one.
-use Rattle.std.proofs.Common.{◌≡◌, ℕ, List, [], ◌∷◌, length, true, false, Result}
-use Rattle.std.proofs.Common.{Ok, refl, sym, ◌∙◌, ap, subst, inl, inr, codes}
+use Rattle.std.proofs.Common.{◌≡◌, ℕ, List, [], ◌∷◌, length, true, false, Result, Ok, refl, sym}
+use Rattle.std.proofs.Common.{◌∙◌, ap, subst, inl, inr, codes}
 use Rattle.std.specs.Prelude.{IfErr}
 use Rattle.std.proofs.lemmas.Bool.{cases_Bool}
 use Rattle.std.proofs.lemmas.Result.{MatchResult-weaker}
-use Rattle.part_events.specs.Event.{Tag, Event, start}
-use Rattle.part_events.specs.Reading.{Reading, PassesElement, ahead}
-use Rattle.part_events.specs.Section.{content, outermost}
-use Rattle.part_events.specs.Walk.{section_ahead, element_at}
+use Rattle.part_events.specs.Words.{Tag, Event, start, Reading, PassesElement, ahead, content}
+use Rattle.part_events.specs.Words.{outermost, section_ahead, element_at}
 use Rattle.xlsx_error.specs.declared.error.XlsxError.{XlsxError}
 use Rattle.cell_styles.specs.declared.color.Color.{Color}
-use Rattle.xlsx_sections.specs.Answers.{prepended, all_answers}
-use Rattle.xlsx_sections.specs.Changes.{all_changes}
-use Rattle.xlsx_sections.specs.ElementLists.{element_said}
-use Rattle.xlsx_sections.specs.Elements.{KeepsElements, ElementReadFails, IsInsideRefused}
-use Rattle.xlsx_sections.specs.PartSection.{SectionFails, inside_of, section_left}
-use Rattle.xlsx_sections.specs.Refusal.{Refusal, in_element}
+use Rattle.xlsx_sections.specs.Words.{prepended, all_answers, all_changes, element_said}
+use Rattle.xlsx_sections.specs.Words.{KeepsElements, ElementReadFails, IsInsideRefused}
+use Rattle.xlsx_sections.specs.Words.{SectionFails, inside_of, section_left, Refusal, in_element}
 use Rattle.xlsx_sections.proofs.ElementsRead.{IsElementFound, element_passed, element_refused}
 use Rattle.xlsx_sections.proofs.ElementsRead.{own_inside}
 use Rattle.xlsx_sections.proofs.Kept.{change_further, change_refused}
@@ -60,7 +55,7 @@ pub record KeepsLists (theme : List Color) (base : ℕ) (lists : StyleLists) (fi
   pub formats : List WrittenFormat
   pub codes : AreCodes formats lists.codes
   pub said :
-      first.source.is_told ≡ true →
+      first.source.is_visible ≡ true →
       all_changes (list_change theme) (outermost is_style_list (section_ahead base now))
       (lists_said formats lists)
       ≡ lists_in theme (section_ahead base first)
@@ -90,16 +85,16 @@ pub lists_lengthened : {theme : List Color} {base place : ℕ} {tag : Tag}
     {first old new after : Reading} {lists longer : StyleLists}
     → KeepsLists theme base lists first old
     → IsElementFound is_style_list base tag place first old new → PassesElement new after
-    → (new.source.is_told ≡ true → (formats : List WrittenFormat) → AreCodes formats lists.codes
+    → (new.source.is_visible ≡ true → (formats : List WrittenFormat) → AreCodes formats lists.codes
     → IsListRead theme tag lists longer (content 0 (ahead new)) formats)
     → KeepsLists theme base longer first after
 lists_lengthened {theme = theme} {base = base} {tag = tag} {first = first} {new = new} {lists =
     lists} {longer = longer} kept found passes read =
     let passed = element_passed found passes in
     let here = element_at base tag new in
-    elim (cases_Bool first.source.is_told) [
+    elim (cases_Bool first.source.is_visible) [
       | inl is ↦
-          let one = read (found.read.reads.moves.parts.is_told ∙ is) kept.formats kept.codes in
+          let one = read (found.read.reads.moves.parts.is_visible ∙ is) kept.formats kept.codes in
           record {
             keeps = passed.keeps;
             formats = one.later;

@@ -2,31 +2,25 @@
 -- 18.8.21, 18.8.5 and 18.8.10).
 use Rattle.std.specs.Prelude.{ℕ, List, [], ◌∷◌, get_or, Bool, false, codes, Option, None, Result}
 use Rattle.std.specs.Prelude.{Ok, Err}
-use Rattle.attr_text.specs.Attributes.{lookup}
+use Rattle.attr_text.specs.Words.{lookup}
 use Rattle.attr_text.specs.declared.fault.AttrFault.{AttrFault}
-use Rattle.part_events.specs.Event.{Tag, Event}
-use Rattle.part_events.specs.Section.{is_named}
+use Rattle.part_events.specs.Words.{Tag, Event, is_named}
 use Rattle.cell_styles.specs.declared.border.Borders.{Borders}
 use Rattle.cell_styles.specs.declared.color.Color.{Color}
 use Rattle.cell_styles.specs.declared.fill.Fill.{Fill}
-use Rattle.xlsx_sections.specs.ElementLists.{list_said, end_in_list}
-use Rattle.xlsx_sections.specs.PartSection.{always}
-use Rattle.xlsx_sections.specs.Refusal.{Refusal, plain, lookup_fault}
-use Rattle.xlsx_styles.specs.Borders.{border_of, end_in_border}
-use Rattle.xlsx_styles.specs.Fills.{fill_of}
-use Rattle.xlsx_styles.specs.Fonts.{FontSaid, font_of}
-use Rattle.xlsx_styles.specs.Texts.{truth_or}
+use Rattle.xlsx_sections.specs.Words.{list_said, end_in_list, always, Refusal, plain, lookup_fault}
+use Rattle.xlsx_styles.specs.Words.{border_of, end_in_border, fill_of, FontSaid, font_of, truth_or}
 use Rattle.xlsx_formats.specs.Formattings.{NamedSaid, FormattingSaid, formatting_of}
 
--- a start is a font
+-- a start of the element `font`, an entry of the fonts
 abbrev pub is_font : Tag → Bool
 is_font tag = is_named (codes "font" ∷ []) tag
 
--- what a font says
+-- what a font says by what stands in it, by the colors of the theme
 abbrev pub font_said : List Color → Tag → List Event → Result FontSaid Refusal
 font_said theme tag inside = font_of theme inside
 
--- the fonts of a list
+-- what the fonts of a list say, by the colors of the theme, in order
 abbrev pub fonts_in : List Color → List Event → Result (List FontSaid) Refusal
 fonts_in theme inside = list_said is_font (font_said theme) inside
 
@@ -34,15 +28,15 @@ fonts_in theme inside = list_said is_font (font_said theme) inside
 abbrev pub end_in_fonts : List Event → Option (List ℕ)
 end_in_fonts inside = end_in_list is_font (codes "fonts") (always (codes "font")) inside
 
--- a start is a fill
+-- a start of the element `fill`, an entry of the fills
 abbrev pub is_fill : Tag → Bool
 is_fill tag = is_named (codes "fill" ∷ []) tag
 
--- what a fill says
+-- what a fill says by what stands in it, by the colors of the theme
 abbrev pub fill_said : List Color → Tag → List Event → Result Fill Refusal
 fill_said theme tag inside = fill_of theme inside
 
--- the fills of a list
+-- what the fills of a list say, by the colors of the theme, in order
 abbrev pub fills_in : List Color → List Event → Result (List Fill) Refusal
 fills_in theme inside = list_said is_fill (fill_said theme) inside
 
@@ -70,15 +64,15 @@ abbrev pub border_by :
 border_by theme inside (Ok ways) = border_of theme ways.0 ways.1 inside
 border_by theme inside (Err fault) = Err (plain (lookup_fault fault))
 
--- what a border says
+-- what a border says by its start and by what stands in it, by the colors of the theme
 abbrev pub border_said : List Color → Tag → List Event → Result Borders Refusal
 border_said theme tag inside = border_by theme inside (diagonals_of tag)
 
--- a start is a border
+-- a start of the element `border`, an entry of the borders
 abbrev pub is_border : Tag → Bool
 is_border tag = is_named (codes "border" ∷ []) tag
 
--- the borders of a list
+-- what the borders of a list say, by the colors of the theme, in order
 abbrev pub borders_in : List Color → List Event → Result (List Borders) Refusal
 borders_in theme inside = list_said is_border (border_said theme) inside
 
@@ -86,11 +80,11 @@ borders_in theme inside = list_said is_border (border_said theme) inside
 abbrev pub end_in_borders : List Event → Option (List ℕ)
 end_in_borders inside = end_in_list is_border (codes "borders") end_in_border inside
 
--- a start is a format of cells
+-- a start of the element `xf`, a format of cells
 abbrev pub is_format : Tag → Bool
 is_format tag = is_named (codes "xf" ∷ []) tag
 
--- each cell format sees the same lists
+-- what the cell formats of a list say, each by the same fonts, fills, borders and written formats
 abbrev pub formattings_in : NamedSaid → List Event → Result (List FormattingSaid) Refusal
 formattings_in lists inside = list_said is_format (formatting_of lists) inside
 

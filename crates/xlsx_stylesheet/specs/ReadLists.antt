@@ -1,14 +1,9 @@
 -- What a call says that reads the element of a list of styles.
 use Rattle.std.specs.Prelude.{◌≡◌, List, true, Result, Ok, OnOk, IfErr}
-use Rattle.part_events.specs.Event.{Event}
-use Rattle.part_events.specs.Reading.{Reading, ReadsElement, ahead}
-use Rattle.part_events.specs.Section.{content}
+use Rattle.part_events.specs.Words.{Event, Reading, ReadsElement, ahead, content}
 use Rattle.xlsx_error.specs.declared.error.XlsxError.{XlsxError}
 use Rattle.xlsx_error.specs.declared.error.XlsxError.TheVariants.{Io}
-use Rattle.xlsx_sections.specs.Answers.{prepended}
-use Rattle.xlsx_sections.specs.Elements.{ElementReadFails}
-use Rattle.xlsx_sections.specs.PartSection.{Ending}
-use Rattle.xlsx_sections.specs.Refusal.{Refusal}
+use Rattle.xlsx_sections.specs.Words.{prepended, ElementReadFails, Ending, Refusal}
 use Rattle.xlsx_stylesheet.specs.StylesErrors.{AreStylesError}
 
 -- The element is read to its end, and what stands in it is put behind what was kept before.
@@ -19,7 +14,7 @@ pub record ReadsBehind
     : Type 0 where
   pub reads : ReadsElement Io result old new
   pub says :
-      old.source.is_told ≡ true →
+      old.source.is_visible ≡ true →
       OnOk result (prepended (said before) (meaning (content 0 (ahead old))) ≡ Ok (said after))
   pub err : IfErr result (ElementReadFails ending meaning old new)
   pub kind : IfErr result AreStylesError

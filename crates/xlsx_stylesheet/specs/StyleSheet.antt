@@ -2,22 +2,17 @@
 use Rattle.std.specs.Prelude.{◌≡◌, ℕ, List, [], ◌∷◌, map, Bool, if◌then◌else◌, codes, Option, Some}
 use Rattle.std.specs.Prelude.{Result, Ok, Err, IsSomeAnd, IsOkAnd, MatchOption}
 use Rattle.std.specs.Str.{bytes_eq}
-use Rattle.attr_text.specs.Attributes.{local_name_of}
-use Rattle.part_events.specs.Event.{Tag, Event, start}
-use Rattle.part_events.specs.Package.{Part, part_of}
-use Rattle.part_events.specs.Reading.{Reading, ahead}
-use Rattle.part_events.specs.Section.{Element, content, outermost, is_named}
+use Rattle.attr_text.specs.Words.{local_name_of}
+use Rattle.part_events.specs.Words.{Tag, Event, start, Part, part_of, Reading, ahead, Element}
+use Rattle.part_events.specs.Words.{content, outermost, is_named}
 use Rattle.xlsx_error.specs.declared.error.XlsxError.{XlsxError}
 use Rattle.cell_data.specs.declared.format.CellFormat.{CellFormat}
 use Rattle.cell_styles.specs.declared.border.Borders.{Borders}
 use Rattle.cell_styles.specs.declared.color.Color.{Color}
 use Rattle.cell_styles.specs.declared.fill.Fill.{Fill}
-use Rattle.xlsx_sections.specs.Answers.{prepended}
-use Rattle.xlsx_sections.specs.Changes.{all_changes}
-use Rattle.xlsx_sections.specs.Elements.{end_among, ElementReadFails}
-use Rattle.xlsx_sections.specs.PartSection.{closed_section_of}
-use Rattle.xlsx_sections.specs.Refusal.{Refusal, in_element}
-use Rattle.xlsx_styles.specs.Fonts.{FontSaid, said_of}
+use Rattle.xlsx_sections.specs.Words.{prepended, all_changes, end_among, ElementReadFails}
+use Rattle.xlsx_sections.specs.Words.{closed_section_of, Refusal, in_element}
+use Rattle.xlsx_styles.specs.Words.{FontSaid, said_of}
 use Rattle.xlsx_formats.specs.FormatCodes.{WrittenFormat, formats_written, AreCodes}
 use Rattle.xlsx_formats.specs.Formattings.{NamedSaid, StyleSaid, FormattingSaid, formatting_said}
 use Rattle.xlsx_stylesheet.specs.Lists.{fonts_in, fills_in, borders_in, formattings_in}
@@ -32,7 +27,7 @@ pub record ListsSaid : Type 0 where
   pub named : NamedSaid
   pub formattings : List FormattingSaid
 
--- lists without entries
+-- the lists of a section of styles of which nothing was read
 abbrev pub no_lists : ListsSaid
 no_lists = record {
   named = record { formats = []; fonts = []; fills = []; borders = [] };
@@ -47,7 +42,7 @@ list_named name =
     else (if bytes_eq name (codes "fills") then list.Fills
     else (if bytes_eq name (codes "borders") then list.Borders else list.Formats)))
 
--- lists with these written formats
+-- what the lists of a style sheet say, with these written formats in place of its own
 abbrev pub with_formats : ListsSaid → List WrittenFormat → ListsSaid
 with_formats lists formats = record {
   named = record {
@@ -59,7 +54,7 @@ with_formats lists formats = record {
   formattings = lists.formattings;
 }
 
--- lists with these fonts
+-- what the lists of a style sheet say, with these fonts in place of its own
 abbrev pub with_fonts : ListsSaid → List FontSaid → ListsSaid
 with_fonts lists fonts = record {
   named = record {
@@ -71,7 +66,7 @@ with_fonts lists fonts = record {
   formattings = lists.formattings;
 }
 
--- lists with these fills
+-- what the lists of a style sheet say, with these fills in place of its own
 abbrev pub with_fills : ListsSaid → List Fill → ListsSaid
 with_fills lists fills = record {
   named = record {
@@ -83,7 +78,7 @@ with_fills lists fills = record {
   formattings = lists.formattings;
 }
 
--- lists with these borders
+-- what the lists of a style sheet say, with these borders in place of its own
 abbrev pub with_borders : ListsSaid → List Borders → ListsSaid
 with_borders lists borders = record {
   named = record {
@@ -95,7 +90,7 @@ with_borders lists borders = record {
   formattings = lists.formattings;
 }
 
--- lists with these formattings
+-- what the lists of a style sheet say, with these cell formats in place of its own
 abbrev pub with_formattings : ListsSaid → List FormattingSaid → ListsSaid
 with_formattings lists formattings = record { named = lists.named; formattings = formattings }
 
@@ -144,7 +139,7 @@ abbrev pub formattings_of : Result ListsSaid Refusal → Result (List Formatting
 formattings_of (Ok lists) = Ok lists.formattings
 formattings_of (Err refusal) = Err refusal
 
--- the cell formats that it says, in order
+-- the cell formats that the section of styles says, in order
 abbrev pub cell_formats_in : List Color → List Event → Result (List FormattingSaid) Refusal
 cell_formats_in theme inside = formattings_of (lists_in theme inside)
 
@@ -160,11 +155,11 @@ list_end list.Formats inside = end_in_formats inside
 abbrev pub list_element_end : Element → Option (List ℕ)
 list_element_end element = list_end (list_of element.tag) element.inside
 
--- and in the section of styles
+-- the end that is told missing in the section of styles
 abbrev pub end_in_styles : List Event → Option (List ℕ)
 end_in_styles inside = end_among is_style_list (codes "styleSheet") list_element_end inside
 
--- what was read, with these number formats
+-- what was read of the lists of a section of styles, with these number formats
 abbrev pub lists_said : List WrittenFormat → StyleLists → ListsSaid
 lists_said formats lists = record {
   named = record {
@@ -190,7 +185,7 @@ ReadsList theme old new r =
     (tag : Tag) (formats : List WrittenFormat) → start tag ≡ r.source.current
     → AreCodes formats old.codes → IsListRead theme tag old new (content 0 (ahead r)) formats
 
--- why it can't be
+-- why a list of the style sheet can't be read
 abbrev pub ListFails : List Color → StyleLists → Reading → Reading → XlsxError → Type 0
 ListFails theme lists old new error =
     (tag : Tag) (formats : List WrittenFormat) → start tag ≡ old.source.current
@@ -204,7 +199,8 @@ AreStyles formats styles said =
     (formats ≡ map (λ (formatting : FormattingSaid). formatting.format) said)
     × (styles ≡ map (λ (formatting : FormattingSaid). formatting.style) said)
 
--- those of the part at a path; an absent part has none
+-- what the cell formats of the styles part at a path make of numbers, and their styles; an absent
+-- part has none
 abbrev pub HasStyles :
     List Color → List Part → List ℕ → List CellFormat → List StyleSaid → Type 0
 HasStyles theme parts path formats styles =

@@ -5,7 +5,7 @@ use Rattle.xlsx_error.specs.declared.error.XlsxError.{XlsxError}
 use Rattle.xlsx_error.specs.declared.error.XlsxError.TheVariants.{OutOfMemory, Io, Xml, XmlAttr}
 use Rattle.xlsx_error.specs.declared.error.XlsxError.TheVariants.{XmlEof}
 
--- how the end of the part is told
+-- how the end of the part is told in a style sheet
 abbrev pub IsStylesEnd : List ℕ → Type 0
 IsStylesEnd name =
     (name ≡ codes "styleSheet") ⊎ ((name ≡ codes "numFmts") ⊎ ((name ≡ codes "fonts")

@@ -1,11 +1,8 @@
 ghost use Rattle.std.specs.Prelude.{◌≡◌, ◌≤◌, List, [], codes, length, true, Ok, IfOk, OnOk, IfErr};
-ghost use Rattle.part_events.specs.Event.{tag_of};
-ghost use Rattle.part_events.specs.Reading.{IsReading, IsReadingElement};
-ghost use Rattle.part_events.specs.Reading.{ReadsElement, ReadsPart};
-ghost use Rattle.part_events.specs.Walk.{section_ahead};
+ghost use Rattle.part_events.specs.Words.{tag_of, IsReading, IsReadingElement, ReadsElement};
+ghost use Rattle.part_events.specs.Words.{ReadsPart, section_ahead};
 ghost use Rattle.xlsx_error.specs.declared.error.XlsxError.TheVariants.{Io};
-ghost use Rattle.xlsx_sections.specs.Elements.{IsInsideRefused, ReachesEnd};
-ghost use Rattle.xlsx_sections.specs.PartSection.{SectionFails};
+ghost use Rattle.xlsx_sections.specs.Words.{IsInsideRefused, ReachesEnd, SectionFails};
 ghost use Rattle.xlsx_formats.specs.FormatCodes.{WrittenFormat, AreCodes};
 ghost use Rattle.xlsx_stylesheet.specs.StyleSheet.{list_named, list_of, no_lists, lists_in};
 ghost use Rattle.xlsx_stylesheet.specs.StyleSheet.{lists_said, end_in_styles, ReadsList, ListFails};
@@ -82,7 +79,7 @@ fn read_list<P: Package>(
 ) -> Result<(), XlsxError>
     requires element { IsReadingElement xml.old }
     ensures reads { ReadsElement Io result xml.old xml.new }
-    ensures lists { xml.old.source.is_told ≡ true →
+    ensures lists { xml.old.source.is_visible ≡ true →
         OnOk result (ReadsList theme_colors.now lists.old lists.new xml.old) }
     ensures err { IfErr result (ListFails theme_colors.now lists.old xml.old xml.new) }
     ensures kind { IfErr result AreStylesError }
@@ -113,9 +110,9 @@ pub fn lists_in<P: Package>(
     requires reading { IsReading xml.old }
     requires within { base ≤ length xml.old.names }
     ensures reads { ReadsPart Io result xml.old xml.new }
-    ensures reaches { xml.old.source.is_told ≡ true →
+    ensures reaches { xml.old.source.is_visible ≡ true →
         OnOk result (ReachesEnd base xml.old xml.new) }
-    ensures lists { xml.old.source.is_told ≡ true →
+    ensures lists { xml.old.source.is_visible ≡ true →
         IfOk result (λ lists. (formats : List WrittenFormat)
         × AreCodes formats lists.codes
         × (lists_in theme_colors.now (section_ahead base xml.old)

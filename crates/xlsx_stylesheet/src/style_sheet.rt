@@ -1,9 +1,7 @@
 ghost use Rattle.std.specs.Prelude.{◌≡◌, codes, length, map, true, IfOk, IfErr};
-ghost use Rattle.part_events.specs.Package.{Uses, event_count};
+ghost use Rattle.part_events.specs.Words.{Uses, event_count};
 ghost use Rattle.xlsx_error.specs.declared.error.XlsxError.TheVariants.{Io};
-ghost use Rattle.xlsx_sections.specs.Elements.{IsInsideRefused};
-ghost use Rattle.xlsx_sections.specs.PartSection.{OptionalPartFails};
-ghost use Rattle.xlsx_sections.specs.SectionEvents.{ReadsToEnd};
+ghost use Rattle.xlsx_sections.specs.Words.{IsInsideRefused, OptionalPartFails, ReadsToEnd};
 ghost use Rattle.xlsx_formats.specs.Formattings.{formatting_said, style_said};
 ghost use Rattle.xlsx_stylesheet.specs.StyleSheet.{cell_formats_in, end_in_styles, AreStyles};
 ghost use Rattle.xlsx_stylesheet.specs.StyleSheet.{HasStyles};
@@ -57,7 +55,7 @@ pub fn read_styles<P: Package>(
     ensures uses { Uses (event_count xml.old.source.parts path.now) Io result xml.old.source
         xml.new.source }
     ensures to_end { ReadsToEnd (codes "styleSheet") path.now result xml.old.source xml.new.source }
-    ensures styles { xml.old.source.is_told ≡ true → IfOk result (λ found.
+    ensures styles { xml.old.source.is_visible ≡ true → IfOk result (λ found.
         HasStyles theme_colors.now xml.old.source.parts path.now found.formats.items
         (map style_said found.styles.items)) }
     ensures lengths { IfOk result (λ found.

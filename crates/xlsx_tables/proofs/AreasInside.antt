@@ -1,9 +1,9 @@
 -- The area that a text names ends in a worksheet, and so does what is left of it.
-use Rattle.std.proofs.Common.{◌≡◌, ℕ, zero, suc, ◌<◌, List, [], ◌∷◌, true}
-use Rattle.std.proofs.Common.{Some, Result, Ok, Err, refl, subst, arith}
+use Rattle.std.proofs.Common.{◌≡◌, ℕ, zero, suc, ◌<◌, List, [], ◌∷◌, true, Some, Result, Ok, Err}
+use Rattle.std.proofs.Common.{refl, subst, arith}
 use Rattle.std.specs.Prelude.{slice_get}
-use Rattle.cell_refs.specs.A1.{corner, corners, with_corner, parts, area_of, area}
-use Rattle.cell_refs.specs.Positions.{are_sheet_bounds}
+use Rattle.cell_refs.specs.Words.{corner, corners, with_corner, parts, area_of, are_sheet_bounds}
+use Rattle.cell_refs.specs.A1.{area}
 use Rattle.cell_refs.specs.declared.dimensions.Dimensions.{Dimensions}
 use Rattle.cell_refs.specs.declared.error.RefError.{RefError}
 use Rattle.cell_refs.proofs.Inside.{corner_inside}

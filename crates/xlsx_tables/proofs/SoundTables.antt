@@ -1,18 +1,14 @@
 -- Tables that are said have no cause to be refused.
 use Rattle.std.proofs.Common.{◌≡◌, ℕ, List, [], ◌∷◌, Option, Some, None, codes, inl, inr}
 use Rattle.std.specs.Prelude.{option_map, option_and_then, map}
-use Rattle.part_events.specs.Event.{Event}
-use Rattle.part_events.specs.Package.{Part, part_of}
+use Rattle.part_events.specs.Words.{Event, Part, part_of}
 use Rattle.xlsx_error.specs.declared.error.XlsxError.{XlsxError}
-use Rattle.xlsx_sections.specs.PartSection.{always}
-use Rattle.xlsx_parts.specs.PartSaid.{unless_absent}
-use Rattle.xlsx_parts.specs.SheetPaths.{SheetPath}
-use Rattle.xlsx_parts.specs.WholePart.{IfThere}
+use Rattle.xlsx_sections.specs.Words.{always}
+use Rattle.xlsx_parts.specs.Words.{unless_absent, SheetPath, IfThere}
 use Rattle.xlsx_parts.proofs.ManySaid.{no_some_cause}
 use Rattle.xlsx_parts.proofs.SaidFrom.{mapped_from, and_then_from}
 use Rattle.xlsx_parts.proofs.SoundParts.{no_said_cause, no_first_said_cause}
-use Rattle.xlsx_relationships.specs.Paths.{relationships_beside}
-use Rattle.xlsx_relationships.specs.RelatedParts.{related_parts, all_lead_to}
+use Rattle.xlsx_relationships.specs.Words.{relationships_beside, related_parts, all_lead_to}
 use Rattle.xlsx_tables.specs.TableErrors.{TableCause}
 use Rattle.xlsx_tables.specs.TableParts.{TableSaid, table_said, table_of}
 use Rattle.xlsx_tables.specs.Tables.{SheetTable, table_type, table_at, tables_by, tables_at}

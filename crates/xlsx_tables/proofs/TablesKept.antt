@@ -2,16 +2,13 @@
 use Rattle.std.proofs.Common.{◌≡◌, ℕ, List, [], ◌∷◌, Option, Some, None, Result, Ok, Err, map, refl}
 use Rattle.std.proofs.Common.{ap, ◌∙◌, sym, option_to_list}
 use Rattle.std.specs.Prelude.{option_map, option_and_then, MatchOption}
-use Rattle.part_events.specs.Event.{Event}
-use Rattle.part_events.specs.Package.{Part, PackageState, part_of}
+use Rattle.part_events.specs.Words.{Event, Part, PackageState, part_of}
 use Rattle.xlsx_error.specs.declared.error.XlsxError.{XlsxError}
-use Rattle.xlsx_parts.specs.ManyAsked.{Appends, map_each}
-use Rattle.xlsx_parts.specs.PartSaid.{unless_absent, all_said}
+use Rattle.xlsx_parts.specs.Words.{Appends, map_each, unless_absent, all_said}
 use Rattle.xlsx_parts.proofs.ManySaid.{all_said_mapped}
-use Rattle.xlsx_relationships.specs.RelatedAsked.{each_related}
-use Rattle.xlsx_relationships.specs.RelatedParts.{related_parts}
+use Rattle.xlsx_relationships.specs.Words.{each_related, related_parts}
 use Rattle.xlsx_tables.specs.TableParts.{TableSaid, table_of, table_kept}
-use Rattle.xlsx_tables.specs.Tables.{table_type, table_at, tables_by, on_sheet, IsTablesError}
+use Rattle.xlsx_tables.specs.Tables.{table_type, table_at, tables_by, table_on_sheet, IsTablesError}
 use Rattle.xlsx_tables.specs.Tables.{table_ask, tables_ask}
 use Rattle.xlsx_tables.specs.declared.table_part.TablePart.{TablePart}
 
@@ -32,17 +29,18 @@ table_at_is parts path (Some own) is =
 
 -- the tables of all parts, each by the number of the sheet
 numbered : (sheet : ℕ) (parts : List Part) (found : Option (List (List ℕ)))
-    → option_and_then (all_said (λ own. option_map (map (on_sheet sheet)) (table_at parts own)))
-    found ≡ option_map (map (on_sheet sheet)) (option_and_then (tables_by parts) found)
+    → option_and_then (all_said (λ own. option_map (map (table_on_sheet sheet))
+    (table_at parts own)))
+    found ≡ option_map (map (table_on_sheet sheet)) (option_and_then (tables_by parts) found)
 numbered sheet parts None = refl
-numbered sheet parts (Some paths) = all_said_mapped (on_sheet sheet) (table_at parts) paths
+numbered sheet parts (Some paths) = all_said_mapped (table_on_sheet sheet) (table_at parts) paths
 
 -- what is kept of each part is what is kept of the sheet
 pub tables_by_number : {R : Type 0} (sheet : ℕ) (path : List ℕ)
     {before after : List (ℕ × TableSaid)} (result : Result R XlsxError) {old new : PackageState}
-    → Appends (each_related IsTablesError (λ own. map_each (on_sheet sheet) (table_ask own))
+    → Appends (each_related IsTablesError (λ own. map_each (table_on_sheet sheet) (table_ask own))
     table_type path) before after result old new
-    → Appends (map_each (on_sheet sheet) (tables_ask path)) before after result old new
+    → Appends (map_each (table_on_sheet sheet) (tables_ask path)) before after result old new
 tables_by_number sheet path (Ok answer) {old = old} kept = record {
   uses = kept.uses;
   to_end = kept.to_end;

@@ -5,10 +5,9 @@ use Rattle.part_events.specs.declared.fault.XmlFault.TheVariants.{Break, Entity}
 use Rattle.xlsx_error.specs.declared.error.XlsxError.{XlsxError}
 use Rattle.xlsx_error.specs.declared.error.XlsxError.TheVariants.{OutOfMemory, Io, Xml, XmlEof}
 use Rattle.xlsx_error.specs.declared.error.XlsxError.TheVariants.{XmlAttr}
-use Rattle.xlsx_sections.specs.Names.{IsNameError}
-use Rattle.xlsx_sections.specs.Refusal.{Refusal, ElementFails, IsDecodeError}
+use Rattle.xlsx_sections.specs.Words.{IsNameError, Refusal, ElementFails, IsDecodeError}
 use Rattle.xlsx_sections.proofs.Refused.{refused_at_weaker}
-use Rattle.xlsx_parts.specs.WholePart.{IsBreakError}
+use Rattle.xlsx_parts.specs.Words.{IsBreakError}
 use Rattle.xlsx_tables.specs.TableErrors.{IsTableStartError, IsTableError}
 use Rattle.xlsx_tables.specs.TableParts.{with_table_name, with_headers, with_totals}
 

@@ -1,16 +1,16 @@
 -- Which refusals tables have, and when.
 use Rattle.std.specs.Prelude.{◌≡◌, ⊤, codes, List}
-use Rattle.part_events.specs.Event.{Event}
+use Rattle.part_events.specs.Words.{Event}
 use Rattle.part_events.specs.declared.fault.XmlFault.TheVariants.{Break, Entity}
 use Rattle.xlsx_error.specs.declared.error.XlsxError.{XlsxError}
-use Rattle.xlsx_error.specs.declared.error.XlsxError.TheVariants.{OutOfMemory, Io, Xml}
-use Rattle.xlsx_error.specs.declared.error.XlsxError.TheVariants.{XmlAttr, XmlEof, ParseInt}
-use Rattle.xlsx_error.specs.declared.error.XlsxError.TheVariants.{Alphanumeric, DimensionCount}
+use Rattle.xlsx_error.specs.declared.error.XlsxError.TheVariants.{OutOfMemory, Io, Xml, XmlAttr}
+use Rattle.xlsx_error.specs.declared.error.XlsxError.TheVariants.{XmlEof, ParseInt, Alphanumeric}
+use Rattle.xlsx_error.specs.declared.error.XlsxError.TheVariants.{DimensionCount}
 use Rattle.xlsx_error.specs.declared.error.XlsxError.TheVariants.{RangeWithoutRowComponent}
 use Rattle.xlsx_error.specs.declared.error.XlsxError.TheVariants.{RangeWithoutColumnComponent}
 use Rattle.xlsx_error.specs.declared.error.XlsxError.TheVariants.{ColumnNumberOverflow}
 use Rattle.xlsx_error.specs.declared.error.XlsxError.TheVariants.{RowNumberOverflow}
-use Rattle.xlsx_parts.specs.FirstElement.{FirstElementCause}
+use Rattle.xlsx_parts.specs.Words.{FirstElementCause}
 use Rattle.xlsx_tables.specs.TableParts.{table_said}
 
 -- why the table of a part can't be taken
@@ -32,7 +32,7 @@ IsTableStartError RowNumberOverflow = ⊤
 IsTableStartError (DimensionCount count) = ⊤
 IsTableStartError _ = ⊥
 
--- and those of a whole table, whatever the package tells
+-- the refusals that a whole table can have, whatever the package tells
 abbrev pub IsTableError : XlsxError → Type 0
 IsTableError Io = ⊤
 IsTableError (Xml (Break at why)) = ⊤

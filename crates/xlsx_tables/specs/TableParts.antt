@@ -1,20 +1,15 @@
 -- What the part of a table says (ECMA-376 part 1, section 18.5.1.2).
-use Rattle.std.specs.Prelude.{ℕ, ◌+◌, ◌-◌, ◌^◌, ◌&&◌, nat_le, List, [], ◌∷◌, length, get_or}
-use Rattle.std.specs.Prelude.{Bool, if◌then◌else◌, codes, Option, Some, None, unwrap_or, Result, Ok}
-use Rattle.std.specs.Prelude.{Err, map, string_bytes}
-use Rattle.attr_text.specs.Attributes.{lookup}
+use Rattle.std.specs.Prelude.{ℕ, ◌+◌, ◌-◌, ◌^◌, ◌&&◌, nat_le, List, [], ◌∷◌, length, get_or, Bool}
+use Rattle.std.specs.Prelude.{if◌then◌else◌, codes, Option, Some, None, unwrap_or, Result, Ok, Err}
+use Rattle.std.specs.Prelude.{map, string_bytes}
+use Rattle.attr_text.specs.Words.{lookup}
 use Rattle.attr_text.specs.declared.fault.AttrFault.{AttrFault}
-use Rattle.cell_refs.specs.A1.{area}
+use Rattle.cell_refs.specs.Words.{area}
 use Rattle.cell_refs.specs.declared.dimensions.Dimensions.{Dimensions}
-use Rattle.part_events.specs.Event.{Tag, Event}
-use Rattle.part_events.specs.Section.{PlacedTag, starts_by, is_named}
-use Rattle.xlsx_sections.specs.Answers.{some_answers}
-use Rattle.xlsx_sections.specs.Names.{name_by}
-use Rattle.xlsx_sections.specs.NumberText.{number_below}
-use Rattle.xlsx_sections.specs.Placed.{placed}
-use Rattle.xlsx_sections.specs.Refusal.{Refusal, plain, lookup_fault, wrong_count}
-use Rattle.xlsx_sections.specs.Refusal.{decoded_at, placed_at}
-use Rattle.xlsx_parts.specs.FirstElement.{first_said}
+use Rattle.part_events.specs.Words.{Tag, Event, PlacedTag, starts_by, is_named}
+use Rattle.xlsx_sections.specs.Words.{some_answers, name_by, number_below, placed, Refusal, plain}
+use Rattle.xlsx_sections.specs.Words.{lookup_fault, wrong_count, decoded_at, placed_at}
+use Rattle.xlsx_parts.specs.Words.{first_said}
 use Rattle.xlsx_tables.specs.declared.table_part.TablePart.{TablePart}
 use Rattle.xlsx_tables.specs.declared.table_start.TableStart.{TableStart}
 
@@ -54,15 +49,15 @@ rows_counted other (Some text) = counted_by text (number_below (2 ^ 32) text)
 
 -- what the start of a table says: its name, its area with headers and totals, how many rows these
 -- have, and the area of its data
-pub record StartSaid : Type 0 where
+pub record TableStartSaid : Type 0 where
   pub name : List ℕ
   pub whole : Dimensions
   pub headers : ℕ
   pub totals : ℕ
   pub area : Option Dimensions
 
--- what the start says, once the rows of totals are counted
-abbrev pub with_totals : List ℕ → Dimensions → ℕ → Result ℕ Refusal → Result StartSaid Refusal
+-- what the start of a table says, once the rows of totals are counted
+abbrev pub with_totals : List ℕ → Dimensions → ℕ → Result ℕ Refusal → Result TableStartSaid Refusal
 with_totals name area headers (Ok totals) =
     Ok (record {
       name = name;
@@ -73,38 +68,38 @@ with_totals name area headers (Ok totals) =
     })
 with_totals name area headers (Err refusal) = Err refusal
 
--- what the start says, once the rows of headers are counted
+-- what the start of a table says, once the rows of headers are counted
 abbrev pub with_headers :
-    List ℕ → Dimensions → Result ℕ Refusal → Result ℕ Refusal → Result StartSaid Refusal
+    List ℕ → Dimensions → Result ℕ Refusal → Result ℕ Refusal → Result TableStartSaid Refusal
 with_headers name area (Ok headers) totals = with_totals name area headers totals
 with_headers name area (Err refusal) totals = Err refusal
 
--- what the start says, once its area is read
+-- what the start of a table says, once its area is read
 abbrev pub with_area :
     List ℕ → Result Dimensions Refusal → Result ℕ Refusal → Result ℕ Refusal →
-    Result StartSaid Refusal
+    Result TableStartSaid Refusal
 with_area name (Ok area) headers totals = with_headers name area headers totals
 with_area name (Err refusal) headers totals = Err refusal
 
--- what the start says, once its name is resolved
+-- what the start of a table says, once its name is resolved
 abbrev pub with_table_name :
     Result (List ℕ) Refusal → Result Dimensions Refusal → Result ℕ Refusal → Result ℕ Refusal →
-    Result StartSaid Refusal
+    Result TableStartSaid Refusal
 with_table_name (Ok name) area headers totals = with_area name area headers totals
 with_table_name (Err refusal) area headers totals = Err refusal
 
--- by its four texts, in this order: without a name it has the empty one, without a count one row
--- of headers and none of totals
+-- what the start of a table says by the texts of its name, its area and its counts: without a name
+-- it has the empty one, without a count one row of headers and none of totals
 abbrev pub start_from :
     ℕ → Option (List ℕ) → Option (List ℕ) → Option (List ℕ) → Option (List ℕ) →
-    Result StartSaid Refusal
+    Result TableStartSaid Refusal
 start_from behind name ref headers totals =
     with_table_name (decoded_at behind (unwrap_or name [])) (placed (area (unwrap_or ref [])))
     (rows_counted 1 headers) (rows_counted 0 totals)
 
 -- what the start of a table says, by what was looked up
 abbrev pub start_by :
-    ℕ → Result (List (Option (List ℕ))) AttrFault → Result StartSaid Refusal
+    ℕ → Result (List (Option (List ℕ))) AttrFault → Result TableStartSaid Refusal
 start_by behind (Ok texts) =
     start_from behind (get_or texts 0 None) (get_or texts 1 None) (get_or texts 2 None)
     (get_or texts 3 None)
@@ -116,10 +111,10 @@ table_keys =
     codes "displayName" ∷ codes "ref" ∷ codes "headerRowCount" ∷ codes "totalsRowCount" ∷ []
 
 -- what the start of a table says
-abbrev pub start_said : PlacedTag → Result StartSaid Refusal
+abbrev pub start_said : PlacedTag → Result TableStartSaid Refusal
 start_said start = start_by start.behind (lookup table_keys start.tag.attributes)
 
--- a start is a column of a table
+-- a start of the element `tableColumn`, a column of a table
 abbrev pub is_column : Tag → Bool
 is_column tag = is_named (codes "tableColumn" ∷ []) tag
 
@@ -129,7 +124,7 @@ columns_in inside = some_answers name_by (starts_by is_column inside)
 
 -- a table by its start and its columns
 abbrev pub with_columns :
-    StartSaid → Result (List (List ℕ)) Refusal → Result TableSaid Refusal
+    TableStartSaid → Result (List (List ℕ)) Refusal → Result TableSaid Refusal
 with_columns begun (Ok columns) =
     Ok (record {
       name = begun.name;
@@ -141,9 +136,9 @@ with_columns begun (Ok columns) =
     })
 with_columns begun (Err refusal) = Err refusal
 
--- the same; the refusal of the start comes first
+-- a table by its start and its columns; the refusal of the start comes first
 abbrev pub and_columns :
-    Result StartSaid Refusal → Result (List (List ℕ)) Refusal → Result TableSaid Refusal
+    Result TableStartSaid Refusal → Result (List (List ℕ)) Refusal → Result TableSaid Refusal
 and_columns (Ok begun) columns = with_columns begun columns
 and_columns (Err refusal) columns = Err refusal
 
@@ -157,7 +152,7 @@ abbrev pub table_of : List Event → Option TableSaid
 table_of events = first_said (codes "table") table_said events
 
 -- what is kept of a start and of a table, apart from where their texts lie in memory
-abbrev pub start_kept : TableStart → StartSaid
+abbrev pub start_kept : TableStart → TableStartSaid
 start_kept begun = record {
   name = string_bytes begun.name;
   whole = begun.whole;

@@ -1,17 +1,13 @@
 -- The tables of the sheets of a workbook.
 use Rattle.std.specs.Prelude.{◌⊎◌, ℕ, ◌+◌, List, [], ◌∷◌, map, codes, Option, option_map}
 use Rattle.std.specs.Prelude.{option_and_then, MatchOption}
-use Rattle.part_events.specs.Package.{Part, part_of, event_count}
+use Rattle.part_events.specs.Words.{Part, part_of, event_count}
 use Rattle.xlsx_error.specs.declared.error.XlsxError.{XlsxError}
-use Rattle.xlsx_sections.specs.Asking.{Ask}
-use Rattle.xlsx_sections.specs.SectionEvents.{section_events_of}
-use Rattle.xlsx_parts.specs.ManyAsked.{each, map_each}
-use Rattle.xlsx_parts.specs.PartSaid.{unless_absent, all_said}
-use Rattle.xlsx_parts.specs.SheetPaths.{SheetPath}
-use Rattle.xlsx_parts.specs.WholePart.{IfThere, SomeCause}
-use Rattle.xlsx_relationships.specs.Paths.{relationships_beside}
-use Rattle.xlsx_relationships.specs.RelatedParts.{related_parts, sum_of_related, RelatedCause}
-use Rattle.xlsx_relationships.specs.RelationshipErrors.{IsRelatedError}
+use Rattle.xlsx_sections.specs.Words.{Ask, section_events_of}
+use Rattle.xlsx_parts.specs.Words.{each, map_each, unless_absent, all_said, SheetPath, IfThere}
+use Rattle.xlsx_parts.specs.Words.{SomeCause}
+use Rattle.xlsx_relationships.specs.Words.{relationships_beside, related_parts, sum_of_related}
+use Rattle.xlsx_relationships.specs.Words.{RelatedCause, IsRelatedError}
 use Rattle.xlsx_tables.specs.TableErrors.{TableCause, IsTableError}
 use Rattle.xlsx_tables.specs.TableParts.{TableSaid, table_of, table_kept}
 use Rattle.xlsx_tables.specs.declared.loaded.LoadedTable.{LoadedTable}
@@ -27,7 +23,7 @@ table_at parts path =
     (option_map (λ (own : TableSaid). own ∷ [])
     (option_and_then table_of (part_of parts path)))
 
--- those of the parts at these paths, one after the other
+-- the tables of the parts at these paths, one after the other
 abbrev pub tables_by : List Part → List (List ℕ) → Option (List TableSaid)
 tables_by parts paths = all_said (table_at parts) paths
 
@@ -48,37 +44,38 @@ table_of_sheet sheet table = record { sheet = sheet; table = table }
 abbrev pub tables_on : List Part → SheetPath → Option (List SheetTable)
 tables_on parts sheet = option_map (map (table_of_sheet sheet.name)) (tables_at parts sheet.path)
 
--- those of many sheets, one after the other
+-- the tables of many sheets, one sheet after the other
 abbrev pub tables_of : List Part → List SheetPath → Option (List SheetTable)
 tables_of parts sheets = all_said (tables_on parts) sheets
 
--- how many events are taken at most for those of a sheet: all of its relationships, and of the
+-- how many events are taken at most for the tables of a sheet: all of its relationships, and of the
 -- parts that they lead to
 abbrev pub table_events : List Part → List ℕ → ℕ
 table_events parts path =
     event_count parts (relationships_beside path)
     + sum_of_related (event_count parts) parts table_type path
 
--- those up to the ends of the section of relationships, and of the tables
+-- how many events are taken for the tables of a sheet up to the ends of the section of
+-- relationships, and of the tables
 abbrev pub table_sections : List Part → List ℕ → ℕ
 table_sections parts path =
     section_events_of (codes "Relationships") parts (relationships_beside path)
     + sum_of_related (section_events_of (codes "table") parts) parts table_type path
 
--- why those of the parts at some paths can't be taken: one that is there is refused
+-- why the tables of the parts at some paths can't be taken: one that is there is refused
 abbrev pub TablesByCause : List Part → List (List ℕ) → XlsxError → Type 0
 TablesByCause parts paths error =
     SomeCause (λ (own : List ℕ). IfThere TableCause (part_of parts own)) paths error
 
--- why those of the sheet whose part is at a path can't: it can't be said where its relationships
--- lead, or one of the parts that they lead to is refused
+-- why the tables of the sheet whose part is at a path can't be taken: it can't be said where its
+-- relationships lead, or one of the parts that they lead to is refused
 abbrev pub TablesAtCause : List Part → List ℕ → XlsxError → Type 0
 TablesAtCause parts path error =
     RelatedCause parts table_type path error
     ⊎ MatchOption (related_parts parts table_type path) ⊥
     (λ paths. TablesByCause parts paths error)
 
--- why those of many sheets can't
+-- why the tables of many sheets can't be taken
 abbrev pub TablesCause : List Part → List SheetPath → XlsxError → Type 0
 TablesCause parts sheets error =
     SomeCause (λ (sheet : SheetPath). TablesAtCause parts sheet.path) sheets error
@@ -88,8 +85,8 @@ abbrev pub IsTablesError : XlsxError → Type 0
 IsTablesError error = IsRelatedError error ⊎ IsTableError error
 
 -- a table that is kept, by the number of its sheet
-abbrev pub on_sheet : ℕ → TableSaid → ℕ × TableSaid
-on_sheet sheet table = (sheet, table)
+abbrev pub table_on_sheet : ℕ → TableSaid → ℕ × TableSaid
+table_on_sheet sheet table = (sheet, table)
 
 -- a table that is loaded, with the number of its sheet
 abbrev pub loaded_of : LoadedTable → ℕ × TableSaid
@@ -105,7 +102,7 @@ table_ask path = record {
   kind = IsTablesError;
 }
 
--- and for those of the sheet whose part is at a path
+-- what is asked for the tables of the sheet whose part is at a path
 abbrev pub tables_ask : List ℕ → Ask (List TableSaid)
 tables_ask path = record {
   most = λ parts. table_events parts path;
@@ -115,10 +112,10 @@ tables_ask path = record {
   kind = IsTablesError;
 }
 
--- for those of a sheet, with its name
+-- what is asked for the tables of a sheet, with its name
 abbrev pub tables_on_ask : SheetPath → Ask (List SheetTable)
 tables_on_ask sheet = map_each (table_of_sheet sheet.name) (tables_ask sheet.path)
 
--- and for those of many sheets
+-- what is asked for the tables of many sheets
 abbrev pub all_tables_ask : List SheetPath → Ask (List SheetTable)
 all_tables_ask sheets = each IsTablesError tables_on_ask sheets

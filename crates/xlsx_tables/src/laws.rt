@@ -1,10 +1,9 @@
 //! Laws of tables.
 
 ghost use Rattle.std.specs.Prelude.{◌≡◌, List, Some};
-ghost use Rattle.part_events.specs.Event.{Event};
-ghost use Rattle.part_events.specs.Package.{Part};
+ghost use Rattle.part_events.specs.Words.{Event, Part};
 ghost use Rattle.xlsx_error.specs.declared.error.XlsxError.{XlsxError};
-ghost use Rattle.xlsx_parts.specs.SheetPaths.{SheetPath};
+ghost use Rattle.xlsx_parts.specs.Words.{SheetPath};
 ghost use Rattle.xlsx_tables.specs.TableErrors.{TableCause};
 ghost use Rattle.xlsx_tables.specs.TableParts.{TableSaid, table_of};
 ghost use Rattle.xlsx_tables.specs.Tables.{SheetTable, tables_of, TablesCause};

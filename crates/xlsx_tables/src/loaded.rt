@@ -1,5 +1,5 @@
 ghost use Rattle.std.specs.Prelude.{IsTrue};
-ghost use Rattle.cell_refs.specs.Positions.{are_sheet_bounds};
+ghost use Rattle.cell_refs.specs.Words.{are_sheet_bounds};
 
 use crate::table_part::TablePart;
 use cell_refs::Dimensions;
@@ -14,7 +14,7 @@ pub struct LoadedTable {
 
 impl LoadedTable {
     ghost use Rattle.std.specs.Prelude.{◌≡◌, map, string_bytes, true};
-    ghost use Rattle.cell_refs.specs.Positions.{are_sheet_bounds};
+    ghost use Rattle.cell_refs.specs.Words.{are_sheet_bounds};
     ghost use Rattle.xlsx_tables.specs.TableParts.{table_kept};
     ghost use Rattle.xlsx_tables.specs.Tables.{loaded_of};
 

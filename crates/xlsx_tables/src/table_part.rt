@@ -1,19 +1,15 @@
 ghost use Rattle.std.proofs.Common.{rules};
-ghost use Rattle.std.specs.Prelude.{◌≡◌, ◌≤◌, ℕ, List, Ok, Some, None, suc, length, map};
-ghost use Rattle.std.specs.Prelude.{true, codes, string_bytes};
-ghost use Rattle.std.specs.Prelude.{IfOk, OnOk, IfErr, IfSome, MatchOption, option_and_then};
+ghost use Rattle.std.specs.Prelude.{◌≡◌, ◌≤◌, ℕ, List, Ok, Some, None, suc, length, map, true};
+ghost use Rattle.std.specs.Prelude.{codes, string_bytes, IfOk, OnOk, IfErr, IfSome, MatchOption};
+ghost use Rattle.std.specs.Prelude.{option_and_then};
 ghost use Rattle.std.specs.Result.{is_err};
-ghost use Rattle.cell_refs.specs.Positions.{are_sheet_bounds};
-ghost use Rattle.part_events.specs.Package.{Uses, event_count, part_of};
-ghost use Rattle.part_events.specs.Reading.{IsReading, ReadsPart, events_of};
-ghost use Rattle.part_events.specs.Walk.{section_ahead};
+ghost use Rattle.cell_refs.specs.Words.{are_sheet_bounds};
+ghost use Rattle.part_events.specs.Words.{Uses, event_count, part_of, IsReading, ReadsPart};
+ghost use Rattle.part_events.specs.Words.{events_of, section_ahead};
 ghost use Rattle.xlsx_error.specs.declared.error.XlsxError.TheVariants.{Io};
-ghost use Rattle.xlsx_sections.specs.Elements.{IsInsideRefused, ReachesEnd};
-ghost use Rattle.xlsx_sections.specs.Failing.{FailsBy};
-ghost use Rattle.xlsx_sections.specs.Names.{name_by};
-ghost use Rattle.xlsx_sections.specs.PartSection.{always, SectionFails};
-ghost use Rattle.xlsx_sections.specs.SectionEvents.{ReadsToEnd, section_events};
-ghost use Rattle.xlsx_parts.specs.WholePart.{IfThere};
+ghost use Rattle.xlsx_sections.specs.Words.{IsInsideRefused, ReachesEnd, FailsBy, name_by, always};
+ghost use Rattle.xlsx_sections.specs.Words.{SectionFails, ReadsToEnd, section_events};
+ghost use Rattle.xlsx_parts.specs.Words.{IfThere};
 ghost use Rattle.xlsx_tables.specs.TableErrors.{TableCause, IsTableError};
 ghost use Rattle.xlsx_tables.specs.TableParts.{columns_in, table_of, table_kept};
 
@@ -76,9 +72,9 @@ fn columns_in<P: Package>(xml: &mut XlReader<P>, base: usize) -> Result<Vec<Stri
     requires within { base ≤ length xml.old.names }
     ensures reads { ReadsPart Io result xml.old xml.new }
     ensures depth { OnOk result (suc (length xml.new.names) ≡ base) }
-    ensures reaches { xml.old.source.is_told ≡ true →
+    ensures reaches { xml.old.source.is_visible ≡ true →
         OnOk result (ReachesEnd base xml.old xml.new) }
-    ensures columns { xml.old.source.is_told ≡ true → IfOk result (λ columns.
+    ensures columns { xml.old.source.is_visible ≡ true → IfOk result (λ columns.
         columns_in (section_ahead base xml.old) ≡ Ok (map string_bytes columns.items)) }
     ensures err { let refused = IsInsideRefused columns_in in
         IfErr result (SectionFails (always (codes "Table")) refused base xml.old xml.new) }
@@ -95,8 +91,8 @@ fn table_of<P: Package>(xml: &mut XlReader<P>) -> Result<TablePart, XlsxError>
     requires first { xml.old.at ≡ 0 }
     ensures reads { ReadsPart Io result xml.old xml.new }
     ensures ends { let count = section_events (codes "table") (events_of xml.old) in
-        xml.old.source.is_told ≡ true → OnOk result (xml.new.at ≡ count) }
-    ensures table { xml.old.source.is_told ≡ true →
+        xml.old.source.is_visible ≡ true → OnOk result (xml.new.at ≡ count) }
+    ensures table { xml.old.source.is_visible ≡ true →
         IfOk result (λ part. table_of (events_of xml.old) ≡ Some (table_kept part)) }
     ensures inside { IfOk result (λ part. are_sheet_bounds part.area ≡ true) }
     ensures err { IfErr result
@@ -138,8 +134,8 @@ pub fn read_table_part<P: Package>(xml: &mut XlReader<P>) -> Result<TablePart, X
     requires first { xml.old.at ≡ 0 }
     ensures reads { ReadsPart Io result xml.old xml.new }
     ensures ends { let count = section_events (codes "table") (events_of xml.old) in
-        xml.old.source.is_told ≡ true → OnOk result (xml.new.at ≡ count) }
-    ensures table { xml.old.source.is_told ≡ true →
+        xml.old.source.is_visible ≡ true → OnOk result (xml.new.at ≡ count) }
+    ensures table { xml.old.source.is_visible ≡ true →
         IfOk result (λ part. table_of (events_of xml.old) ≡ Some (table_kept part)) }
     ensures inside { IfOk result (λ part. are_sheet_bounds part.area ≡ true) }
     ensures failed { xml.new.is_failed ≡ is_err result }
@@ -166,7 +162,7 @@ pub fn read_table_at<P: Package>(
         xml.old.source xml.new.source }
     ensures to_end { ReadsToEnd (codes "table") path.now result xml.old.source xml.new.source }
     ensures table { let old = xml.old.source in
-        old.is_told ≡ true → IfOk result (λ found. MatchOption found
+        old.is_visible ≡ true → IfOk result (λ found. MatchOption found
         (part_of old.parts path.now ≡ None)
         (λ part. option_and_then table_of (part_of old.parts path.now) ≡ Some (table_kept part))) }
     ensures inside { IfOk result (λ found. IfSome found (λ part.

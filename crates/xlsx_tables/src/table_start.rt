@@ -1,13 +1,11 @@
 ghost use Rattle.std.specs.Prelude.{◌≡◌, ℕ, List, [], ◌∷◌, true, Ok, Err, string_bytes, IfOk};
 ghost use Rattle.std.specs.Prelude.{IfErr, MatchResult};
 ghost use Rattle.std.specs.Option.{option_copied};
-ghost use Rattle.attr_text.specs.Attributes.{lookup};
-ghost use Rattle.cell_refs.specs.A1.{area};
-ghost use Rattle.cell_refs.specs.Positions.{are_sheet_bounds};
-ghost use Rattle.part_events.specs.Event.{tag_of};
+ghost use Rattle.attr_text.specs.Words.{lookup};
+ghost use Rattle.cell_refs.specs.Words.{area, are_sheet_bounds};
+ghost use Rattle.part_events.specs.Words.{tag_of};
 ghost use Rattle.xlsx_error.specs.declared.error.XlsxError.TheVariants.{OutOfMemory};
-ghost use Rattle.xlsx_sections.specs.Placed.{placed};
-ghost use Rattle.xlsx_sections.specs.Refusal.{ElementFails, placed_at, decoded_at};
+ghost use Rattle.xlsx_sections.specs.Words.{placed, ElementFails, placed_at, decoded_at};
 ghost use Rattle.xlsx_tables.specs.TableErrors.{IsTableStartError};
 ghost use Rattle.xlsx_tables.specs.TableParts.{data_area, rows_counted, table_keys, start_said};
 ghost use Rattle.xlsx_tables.specs.TableParts.{start_kept, with_table_name};

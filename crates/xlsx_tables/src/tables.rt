@@ -1,11 +1,11 @@
 ghost use Rattle.std.proofs.Common.{inl};
 ghost use Rattle.std.specs.Prelude.{◌≡◌, ◌++◌, ℕ, List, map, true, OnOk, IfSome, option_map};
 ghost use Rattle.std.specs.Prelude.{option_to_list};
-ghost use Rattle.cell_refs.specs.Positions.{are_sheet_bounds};
-ghost use Rattle.xlsx_parts.specs.ManyAsked.{Appends, map_each};
+ghost use Rattle.cell_refs.specs.Words.{are_sheet_bounds};
+ghost use Rattle.xlsx_parts.specs.Words.{Appends, map_each};
 ghost use Rattle.xlsx_tables.specs.TableParts.{TableSaid, table_kept};
-ghost use Rattle.xlsx_tables.specs.Tables.{IsTablesError, loaded_of, on_sheet};
-ghost use Rattle.xlsx_tables.specs.Tables.{table_ask, tables_ask};
+ghost use Rattle.xlsx_tables.specs.Tables.{IsTablesError, loaded_of, table_on_sheet, table_ask};
+ghost use Rattle.xlsx_tables.specs.Tables.{tables_ask};
 ghost use Rattle.xlsx_tables.specs.declared.loaded.LoadedTable.{LoadedTable};
 
 use crate::loaded::LoadedTable;
@@ -26,7 +26,7 @@ fn push_part(
 ) -> Result<(), AllocError>
     requires { IfSome part (λ own. are_sheet_bounds own.area ≡ true) }
     ensures ok { OnOk result (map loaded_of tables.new.items ≡ map loaded_of tables.old.items
-        ++ map (on_sheet sheet) (option_to_list (option_map table_kept part))) }
+        ++ map (table_on_sheet sheet) (option_to_list (option_map table_kept part))) }
     ensures kept { (more : List LoadedTable) × (tables.new.items ≡ tables.old.items ++ more) }
 {
     if let Some(part) = part {
@@ -48,7 +48,7 @@ impl ReadsRelated for TableReader {
 
     ghost kept = { λ r own. loaded_of own };
 
-    ghost ask = { λ r path. map_each (on_sheet r.sheet) (table_ask path) };
+    ghost ask = { λ r path. map_each (table_on_sheet r.sheet) (table_ask path) };
 
     ghost Kind = { IsTablesError };
 
@@ -83,7 +83,7 @@ pub fn read_sheet_tables<P: Package>(
 ) -> Result<(), XlsxError>
     ensures answers { let before = map loaded_of tables.old.items in
         let after = map loaded_of tables.new.items in
-        Appends (map_each (on_sheet sheet) (tables_ask path.now)) before after result
+        Appends (map_each (table_on_sheet sheet) (tables_ask path.now)) before after result
         xml.old.source xml.new.source }
     ensures kept { (more : List LoadedTable) × (tables.new.items ≡ tables.old.items ++ more) }
 {

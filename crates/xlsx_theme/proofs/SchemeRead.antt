@@ -1,16 +1,12 @@
 -- How the slots of a color scheme are read, and how the end of the part is told in one.
-use Rattle.std.proofs.Common.{◌≡◌, ℕ, List, ◌∷◌, Option, Some, None, Result, Ok, Err, refl, sym}
-use Rattle.std.proofs.Common.{ap}
-use Rattle.part_events.specs.Event.{Event}
-use Rattle.part_events.specs.Reading.{Reading}
-use Rattle.part_events.specs.Section.{PlacedTag}
+use Rattle.std.proofs.Common.{◌≡◌, ℕ, List, ◌∷◌, Option, Some, None, Result, Ok, Err, refl, sym, ap}
+use Rattle.part_events.specs.Words.{Event, Reading, PlacedTag}
 use Rattle.part_events.specs.declared.fault.XmlFault.TheVariants.{Break, Unclosed}
 use Rattle.cell_styles.specs.declared.color.Color.{Color}
 use Rattle.xlsx_error.specs.declared.error.XlsxError.{XlsxError}
 use Rattle.xlsx_error.specs.declared.error.XlsxError.TheVariants.{OutOfMemory, Io, Xml, XmlAttr}
-use Rattle.xlsx_sections.specs.Elements.{IsEndError, named_end}
-use Rattle.xlsx_sections.specs.PartSection.{PartSection, KeepsSection, SectionFails, Never}
-use Rattle.xlsx_sections.specs.Refusal.{Refusal}
+use Rattle.xlsx_sections.specs.Words.{IsEndError, named_end, PartSection, KeepsSection}
+use Rattle.xlsx_sections.specs.Words.{SectionFails, Never, Refusal}
 use Rattle.xlsx_sections.proofs.Refused.{refused_later}
 use Rattle.xlsx_theme.specs.ColorScheme.{IsSchemeError, unless_given, or_others, first_answer}
 use Rattle.xlsx_theme.specs.ColorScheme.{model_answer, or_black}

@@ -3,31 +3,26 @@ use Rattle.std.proofs.Common.{◌≡◌, ℕ, List, [], ◌∷◌, length, Bool,
 use Rattle.std.proofs.Common.{Result, Ok, Err, refl, sym, ◌∙◌, ap, subst, codes, arith}
 use Rattle.std.specs.Prelude.{option_map, option_and_then, unwrap_or, is_none, if◌then◌else◌}
 use Rattle.std.specs.Prelude.{IsOkAnd, MatchOption}
-use Rattle.part_events.specs.Event.{Event}
-use Rattle.part_events.specs.Nesting.{whole}
-use Rattle.part_events.specs.Package.{Part, part_of}
-use Rattle.part_events.specs.Reading.{Reading, IsReading, ahead, events_of}
-use Rattle.part_events.specs.Section.{content, is_closed, behind_start, is_named}
-use Rattle.part_events.specs.Walk.{inside, section_ahead, is_closed_ahead}
+use Rattle.part_events.specs.Words.{Event, whole, Part, part_of, Reading, IsReading, ahead}
+use Rattle.part_events.specs.Words.{events_of, content, is_closed, behind_start, is_named, inside}
+use Rattle.part_events.specs.Words.{section_ahead, is_closed_ahead}
 use Rattle.part_events.specs.declared.fault.XmlFault.TheVariants.{Break, Unclosed}
 use Rattle.xlsx_error.specs.declared.error.XlsxError.{XlsxError}
 use Rattle.xlsx_error.specs.declared.error.XlsxError.TheVariants.{Xml, XmlEof}
 use Rattle.cell_styles.specs.declared.color.Color.{Color}
-use Rattle.xlsx_sections.specs.Elements.{IsInsideRefused, named_end}
-use Rattle.xlsx_sections.specs.PartSection.{section_from, section_in, if_closed, last_of}
-use Rattle.xlsx_sections.specs.PartSection.{StartCause, SectionCause}
-use Rattle.xlsx_sections.specs.Refusal.{Refusal}
+use Rattle.xlsx_sections.specs.Words.{IsInsideRefused, named_end, section_from, section_in}
+use Rattle.xlsx_sections.specs.Words.{if_closed, last_of, StartCause, SectionCause, Refusal}
 use Rattle.xlsx_sections.proofs.Refused.{some_refusal}
 use Rattle.xlsx_sections.proofs.SectionsRead.{ahead_at_first, nothing_past}
 use Rattle.xlsx_theme.specs.ColorScheme.{slot_colors, numbered_colors, all_numbered, scheme_colors}
-use Rattle.xlsx_styles.specs.Theme.{default_theme}
+use Rattle.xlsx_styles.specs.Words.{default_theme}
 use Rattle.xlsx_theme.specs.ThemePart.{IsThemeOf, SaysTheme, HasTheme, ThemeCause, colors_inside}
 use Rattle.xlsx_theme.specs.ThemePart.{own_colors, own_colors_of}
 use Rattle.xlsx_theme.specs.declared.theme_part.ThemeColors.{ThemeColors}
 
 -- the scheme that a reader finds that took nothing, or that there is none
 pub scheme_found : (old : Reading) (found : Option (List Event)) → IsReading old → old.at ≡ 0
-    → old.source.is_told ≡ true
+    → old.source.is_visible ≡ true
     → behind_start (is_named (codes "clrScheme" ∷ [])) (ahead old) ≡ found
     → section_in (codes "clrScheme") (events_of old)
     ≡ option_map (section_from (events_of old)) found

@@ -2,16 +2,11 @@
 use Rattle.std.proofs.Common.{◌≡◌, ◌-◌, ℕ, Bool, List, [], ◌∷◌, length, Option, Some, true, suc}
 use Rattle.std.proofs.Common.{reverse, ◌++◌, sym, ◌∙◌, ap, subst, codes, arith}
 use Rattle.std.specs.Option.{option_map_or}
-use Rattle.part_events.specs.Event.{Event}
-use Rattle.part_events.specs.Package.{PackageState, OpenCounts, Opens, SameParts, CountsUp}
-use Rattle.part_events.specs.Package.{part_of, event_count}
-use Rattle.part_events.specs.Reading.{Reading, ReadsOn, IsReading, MovesForward, ahead}
-use Rattle.part_events.specs.Reading.{events_of}
-use Rattle.part_events.specs.Section.{behind_start, is_named}
-use Rattle.part_events.specs.Walk.{section_end}
+use Rattle.part_events.specs.Words.{Event, PackageState, OpenCounts, Opens, SameParts, CountsUp}
+use Rattle.part_events.specs.Words.{part_of, event_count, Reading, ReadsOn, IsReading, MovesForward}
+use Rattle.part_events.specs.Words.{ahead, events_of, behind_start, is_named, section_end}
 use Rattle.xlsx_error.specs.declared.error.XlsxError.{XlsxError}
-use Rattle.xlsx_sections.specs.PartSection.{PartSection, section_left, last_of}
-use Rattle.xlsx_sections.specs.SectionEvents.{section_events}
+use Rattle.xlsx_sections.specs.Words.{PartSection, section_left, last_of, section_events}
 use Rattle.xlsx_sections.proofs.SectionsRead.{nothing_past, first_section_left}
 use Rattle.xlsx_theme.specs.ThemePart.{IsSoundTheme, TakesTheme, ThemeCause}
 
@@ -19,13 +14,13 @@ use Rattle.xlsx_theme.specs.ThemePart.{IsSoundTheme, TakesTheme, ThemeCause}
 pub scheme_ended : {base at : ℕ} (old mid : Reading) → IsReading old → old.at ≡ 0
     → ReadsOn old mid
     → behind_start (is_named (codes "clrScheme" ∷ [])) (ahead old) ≡ Some (ahead mid)
-    → base ≡ length mid.names → at ≡ suc (section_end base mid) → old.source.is_told ≡ true
+    → base ≡ length mid.names → at ≡ suc (section_end base mid) → old.source.is_visible ≡ true
     → at ≡ section_events (codes "clrScheme") (events_of old)
 scheme_ended old mid is first reads found whole ends told =
     let name = codes "clrScheme" in
     let same = reads.stays.part told in
     let there = first_section_left name old mid (nothing_past old is first told)
-    (reads.stays.reading.tracked (reads.moves.parts.is_told ∙ told)) same found in
+    (reads.stays.reading.tracked (reads.moves.parts.is_visible ∙ told)) same found in
     let count : section_events name (events_of old)
     ≡ suc (last_of (section_left (length mid.names) mid)) =
     ap (section_events name) (sym same)
@@ -38,8 +33,8 @@ scheme_ended old mid is first reads found whole ends told =
 pub theme_refused : {path : List ℕ} {found : Bool} {old : PackageState} {opened new : Reading}
     (error : XlsxError) → found ≡ true → SameParts old opened.source
     → OpenCounts found old opened.source
-    → (old.is_told ≡ true → Opens path found old opened.source) → MovesForward opened new
-    → (old.is_told ≡ true → ThemeCause (events_of opened) error) → old.is_told ≡ true
+    → (old.is_visible ≡ true → Opens path found old opened.source) → MovesForward opened new
+    → (old.is_visible ≡ true → ThemeCause (events_of opened) error) → old.is_visible ≡ true
     → (count : ℕ) × TakesTheme old.parts path count × CountsUp count old.taken new.source.taken
 theme_refused {path = path} {old = old} {opened = opened} {new =
     new} error is same counted opens moves cause told =
@@ -52,7 +47,7 @@ theme_refused {path = path} {old = old} {opened = opened} {new =
     ap (λ (part : Option (List Event)). option_map_or length part 0) opening.part in (
       new.source.taken - old.taken,
       record {
-        most = omega (arith, moves.within (same.is_told ∙ told), counts.taken, size);
+        most = omega (arith, moves.within (same.is_visible ∙ told), counts.taken, size);
         sound = λ sound. absurd (subst IsSoundTheme there sound error (cause told));
       },
       omega (arith, moves.taken, counts.taken),

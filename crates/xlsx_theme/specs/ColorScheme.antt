@@ -1,20 +1,16 @@
 -- What the color scheme of a theme says (ECMA-376 part 1, section 20.1.6.2).
-use Rattle.std.specs.Prelude.{⊤, ℕ, List, [], ◌∷◌, Bool, codes, Option, Some, None, Result, Ok}
-use Rattle.std.specs.Prelude.{Err, unwrap_or, option_and_then}
+use Rattle.std.specs.Prelude.{⊤, ℕ, List, [], ◌∷◌, Bool, codes, Option, Some, None, Result, Ok, Err}
+use Rattle.std.specs.Prelude.{unwrap_or, option_and_then}
 use Rattle.std.specs.Option.{option_or}
-use Rattle.attr_text.specs.Attributes.{lookup}
+use Rattle.attr_text.specs.Words.{lookup}
 use Rattle.attr_text.specs.declared.fault.AttrFault.{AttrFault}
-use Rattle.part_events.specs.Event.{Tag, Event}
-use Rattle.part_events.specs.Section.{PlacedTag, starts_by, is_named}
+use Rattle.part_events.specs.Words.{Tag, Event, PlacedTag, starts_by, is_named}
 use Rattle.part_events.specs.declared.fault.XmlFault.TheVariants.{Break, Unclosed}
 use Rattle.xlsx_error.specs.declared.error.XlsxError.{XlsxError}
 use Rattle.xlsx_error.specs.declared.error.XlsxError.TheVariants.{OutOfMemory, Io, Xml, XmlAttr}
 use Rattle.cell_styles.specs.declared.color.Color.{Color}
-use Rattle.xlsx_sections.specs.Answers.{with_two}
-use Rattle.xlsx_sections.specs.Changes.{or_fault}
-use Rattle.xlsx_sections.specs.ElementLists.{list_said}
-use Rattle.xlsx_sections.specs.Refusal.{Refusal}
-use Rattle.xlsx_styles.specs.Colors.{black, hex_color}
+use Rattle.xlsx_sections.specs.Words.{with_two, or_fault, list_said, Refusal}
+use Rattle.xlsx_styles.specs.Words.{black, hex_color}
 
 -- an element that stands for one color of the scheme
 abbrev pub is_slot : Tag → Bool
@@ -27,7 +23,8 @@ is_slot tag = is_named (
 abbrev pub is_color_model : Tag → Bool
 is_color_model tag = is_named (codes "srgbClr" ∷ codes "sysClr" ∷ []) tag
 
--- by the texts of `val` and `lastClr`: the color that a program saw last, and else the one named
+-- the color that the texts of `val` and `lastClr` tell: that which a program saw last, and else the
+-- one named
 abbrev pub color_of_model : Option (List ℕ) → Option (List ℕ) → Option Color
 color_of_model val last = option_or (option_and_then hex_color last) (option_and_then hex_color val)
 
@@ -36,7 +33,7 @@ abbrev pub model_by : Result (List (Option (List ℕ))) AttrFault → Result (Op
 model_by (Ok texts) = Ok (with_two color_of_model None texts)
 model_by (Err fault) = Err fault
 
--- the color that such a start says, if its texts are a color's
+-- the color that the start of a color model says, if its texts are a color's
 abbrev pub model_color : Tag → Result (Option Color) AttrFault
 model_color tag = model_by (lookup (codes "val" ∷ codes "lastClr" ∷ []) tag.attributes)
 

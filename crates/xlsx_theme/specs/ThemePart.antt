@@ -1,22 +1,16 @@
 -- The colors of a workbook's theme, by the events of its part.
-use Rattle.std.specs.Prelude.{◌≡◌, ◌≤◌, ℕ, List, [], ◌∷◌, length, Bool, true, false, codes}
-use Rattle.std.specs.Prelude.{Option, None, Some, Result, Ok, Err, unwrap_or, is_none}
-use Rattle.std.specs.Prelude.{option_and_then, MatchOption, IsOkAnd}
+use Rattle.std.specs.Prelude.{◌≡◌, ◌≤◌, ℕ, List, [], ◌∷◌, length, Bool, true, false, codes, Option}
+use Rattle.std.specs.Prelude.{None, Some, Result, Ok, Err, unwrap_or, is_none, option_and_then}
+use Rattle.std.specs.Prelude.{MatchOption, IsOkAnd}
 use Rattle.std.specs.Option.{option_map_or}
-use Rattle.part_events.specs.Event.{Event}
-use Rattle.part_events.specs.Nesting.{whole}
-use Rattle.part_events.specs.Package.{Part, part_of, event_count}
-use Rattle.part_events.specs.Reading.{Reading, events_of}
-use Rattle.part_events.specs.Section.{behind, behind_start, is_named}
+use Rattle.part_events.specs.Words.{Event, whole, Part, part_of, event_count, Reading, events_of}
+use Rattle.part_events.specs.Words.{behind, behind_start, is_named}
 use Rattle.xlsx_error.specs.declared.error.XlsxError.{XlsxError}
 use Rattle.cell_styles.specs.declared.color.Color.{Color}
-use Rattle.xlsx_sections.specs.Elements.{IsInsideRefused, named_end}
-use Rattle.xlsx_sections.specs.Failing.{FailsBy}
-use Rattle.xlsx_sections.specs.PartSection.{section_in, closed_section, has_end, inside_of}
-use Rattle.xlsx_sections.specs.PartSection.{FirstSectionCause}
-use Rattle.xlsx_sections.specs.Refusal.{Refusal}
-use Rattle.xlsx_sections.specs.SectionEvents.{section_events_of}
-use Rattle.xlsx_styles.specs.Theme.{default_theme}
+use Rattle.xlsx_sections.specs.Words.{IsInsideRefused, named_end, FailsBy, section_in}
+use Rattle.xlsx_sections.specs.Words.{closed_section, has_end, inside_of, FirstSectionCause}
+use Rattle.xlsx_sections.specs.Words.{Refusal, section_events_of}
+use Rattle.xlsx_styles.specs.Words.{default_theme}
 use Rattle.xlsx_theme.specs.ColorScheme.{scheme_colors}
 use Rattle.xlsx_theme.specs.declared.theme_part.ThemeColors.{ThemeColors}
 
@@ -35,7 +29,7 @@ colors_inside inside = unless_refused (scheme_colors inside)
 abbrev pub own_colors : List Event → Option (List Color)
 own_colors events = option_and_then colors_inside (closed_section (codes "clrScheme") events)
 
--- those of the part at a path, which may be absent
+-- the colors that the theme's part at a path says, if it is there and says some
 abbrev pub own_colors_of : List Part → List ℕ → Option (List Color)
 own_colors_of parts path = option_and_then own_colors (part_of parts path)
 
@@ -43,22 +37,22 @@ own_colors_of parts path = option_and_then own_colors (part_of parts path)
 abbrev pub theme_colors : List Part → List ℕ → List Color
 theme_colors parts path = unwrap_or (own_colors_of parts path) default_theme
 
--- and whether these are the default theme
+-- the theme's part at a path says no colors, so that those of the default theme stand
 abbrev pub is_theme_default : List Part → List ℕ → Bool
 is_theme_default parts path = is_none (own_colors_of parts path)
 
--- these are a theme's own colors, or where it has none those of the default theme
+-- the colors of a theme are its own, or where it has none those of the default theme
 pub record IsThemeOf (own : Option (List Color)) (theme : ThemeColors) : Type 0 where
   pub colors : theme.colors.items ≡ unwrap_or own default_theme
   pub defaulted : theme.defaulted ≡ is_none own
 
--- whatever the package tells: what is called the default theme is that one, and other colors are
--- those of four slots or more
+-- what is called the default theme is that one, and other colors are those of four slots or more,
+-- whatever the package tells
 pub record IsTheme (theme : ThemeColors) : Type 0 where
   pub default : theme.defaulted ≡ true → theme.colors.items ≡ default_theme
   pub own : theme.defaulted ≡ false → 4 ≤ length theme.colors.items
 
--- these are the colors of the theme whose part is at this path
+-- the colors of a theme are those of the workbook whose theme's part is at this path
 pub record HasTheme (parts : List Part) (path : List ℕ) (theme : ThemeColors) : Type 0 where
   pub colors : theme.colors.items ≡ theme_colors parts path
   pub defaulted : theme.defaulted ≡ is_theme_default parts path
@@ -83,7 +77,7 @@ ThemeCause events error =
     FirstSectionCause (codes "clrScheme") (named_end None) (IsInsideRefused scheme_colors) events
     error
 
--- when they can't be read by a reader of which nothing was taken
+-- when the colors of a theme can't be read by a reader of which nothing was taken
 abbrev pub ReadThemeFails : Reading → Reading → XlsxError → Type 0
 ReadThemeFails old new error =
     FailsBy (ThemeCause (events_of old)) old.source new.source error

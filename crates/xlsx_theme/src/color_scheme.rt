@@ -1,12 +1,10 @@
 ghost use Rattle.std.specs.Prelude.{◌≡◌, ◌≤◌, length, true, None, Ok, IfOk, OnOk, IfErr};
 ghost use Rattle.std.specs.Prelude.{option_map, IfSome};
-ghost use Rattle.part_events.specs.Reading.{Reading, IsReading, ReadsPart};
-ghost use Rattle.part_events.specs.Walk.{section_ahead};
+ghost use Rattle.part_events.specs.Words.{Reading, IsReading, ReadsPart, section_ahead};
 ghost use Rattle.xlsx_error.specs.declared.error.XlsxError.TheVariants.{Io};
-ghost use Rattle.xlsx_sections.specs.Elements.{IsInsideRefused, IsEndError, ReachesEnd};
-ghost use Rattle.xlsx_sections.specs.Elements.{FindsElementIn, KeepsElements, named_end};
-ghost use Rattle.xlsx_sections.specs.PartSection.{Never, SectionFails, StandsAtStart};
-ghost use Rattle.xlsx_sections.specs.Steps.{StepsToElement};
+ghost use Rattle.xlsx_sections.specs.Words.{IsInsideRefused, IsEndError, ReachesEnd};
+ghost use Rattle.xlsx_sections.specs.Words.{FindsElementIn, KeepsElements, named_end, Never};
+ghost use Rattle.xlsx_sections.specs.Words.{SectionFails, StandsAtStart, StepsToElement};
 ghost use Rattle.xlsx_theme.specs.ColorScheme.{is_slot, slot_colors, numbered_colors};
 ghost use Rattle.xlsx_theme.specs.ColorScheme.{IsSchemeError};
 
@@ -23,7 +21,7 @@ fn next_slot<P: Package>(xml: &mut XlReader<P>, base: usize) -> Result<Option<u6
     requires within { base ≤ length xml.old.names }
     ensures reads { ReadsPart Io result xml.old xml.new }
     ensures stands { IfOk result (λ found. StandsAtStart is_slot base found xml.old xml.new) }
-    ensures found { xml.old.source.is_told ≡ true →
+    ensures found { xml.old.source.is_visible ≡ true →
         IfOk result (λ found. FindsElementIn is_slot base found xml.old xml.new) }
     ensures step { IfOk result (λ found. (first : Reading) →
         KeepsElements is_slot base first xml.old →
@@ -54,9 +52,9 @@ pub(crate) fn read_slots<P: Package>(
     requires reading { IsReading xml.old }
     requires within { base ≤ length xml.old.names }
     ensures reads { ReadsPart Io result xml.old xml.new }
-    ensures reaches { xml.old.source.is_told ≡ true →
+    ensures reaches { xml.old.source.is_visible ≡ true →
         OnOk result (ReachesEnd base xml.old xml.new) }
-    ensures colors { xml.old.source.is_told ≡ true →
+    ensures colors { xml.old.source.is_visible ≡ true →
         IfOk result (λ colors. slot_colors (section_ahead base xml.old) ≡ Ok colors.items) }
     ensures err { IfErr result
         (SectionFails (named_end None) (IsInsideRefused slot_colors) base xml.old xml.new) }

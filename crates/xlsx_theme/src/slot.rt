@@ -1,16 +1,12 @@
-ghost use Rattle.std.specs.Prelude.{◌≡◌, ◌≤◌, ℕ, length, true, None, Ok, Err, IfOk};
-ghost use Rattle.std.specs.Prelude.{IfErr, MatchResult, option_and_then};
+ghost use Rattle.std.specs.Prelude.{◌≡◌, ◌≤◌, ℕ, length, true, None, Ok, Err, IfOk, IfErr};
+ghost use Rattle.std.specs.Prelude.{MatchResult, option_and_then};
 ghost use Rattle.std.specs.Option.{option_copied};
-ghost use Rattle.part_events.specs.Event.{tag_of};
-ghost use Rattle.part_events.specs.Reading.{Reading, IsReading};
-ghost use Rattle.part_events.specs.Reading.{IsReadingElement, ReadsPart};
+ghost use Rattle.part_events.specs.Words.{tag_of, Reading, IsReading, IsReadingElement, ReadsPart};
 ghost use Rattle.xlsx_error.specs.declared.error.XlsxError.TheVariants.{Io};
-ghost use Rattle.xlsx_sections.specs.Elements.{IsEndError, KeepsStarts, named_end};
-ghost use Rattle.xlsx_sections.specs.PartSection.{Never, SectionFails, StandsAtStart, FindsStartIn};
-ghost use Rattle.xlsx_sections.specs.Refusal.{plain, lookup_fault, placed_at};
-ghost use Rattle.xlsx_styles.specs.Colors.{hex_color};
-ghost use Rattle.xlsx_styles.specs.ReadElements.{ReadsInside};
-ghost use Rattle.xlsx_sections.specs.Steps.{StepsToStart};
+ghost use Rattle.xlsx_sections.specs.Words.{IsEndError, KeepsStarts, named_end, Never};
+ghost use Rattle.xlsx_sections.specs.Words.{SectionFails, StandsAtStart, FindsStartIn, plain};
+ghost use Rattle.xlsx_sections.specs.Words.{lookup_fault, placed_at, StepsToStart};
+ghost use Rattle.xlsx_styles.specs.Words.{hex_color, ReadsInside};
 ghost use Rattle.xlsx_theme.specs.ColorScheme.{is_color_model, model_color, model_answer};
 ghost use Rattle.xlsx_theme.specs.ColorScheme.{unless_given, slot_color, IsSchemeError};
 
@@ -59,7 +55,7 @@ fn next_model<P: Package>(xml: &mut XlReader<P>, base: usize) -> Result<Option<u
     ensures reads { ReadsPart Io result xml.old xml.new }
     ensures stands { IfOk result (λ found.
         StandsAtStart is_color_model base found xml.old xml.new) }
-    ensures found { xml.old.source.is_told ≡ true →
+    ensures found { xml.old.source.is_visible ≡ true →
         IfOk result (λ found. FindsStartIn is_color_model base found xml.old xml.new) }
     ensures step { IfOk result (λ found. (first : Reading) → KeepsStarts base first xml.old →
         StepsToStart is_color_model base found first xml.old xml.new) }

@@ -1,9 +1,8 @@
 ghost use Rattle.std.specs.Prelude.{◌≡◌, ℕ, None, codes, true, IfOk, OnOk, IfErr};
-ghost use Rattle.part_events.specs.Package.{Uses, CountsUp, event_count};
-ghost use Rattle.part_events.specs.Reading.{IsReading, ReadsPart, ahead, events_of};
+ghost use Rattle.part_events.specs.Words.{Uses, CountsUp, event_count, IsReading, ReadsPart, ahead};
+ghost use Rattle.part_events.specs.Words.{events_of};
 ghost use Rattle.xlsx_error.specs.declared.error.XlsxError.TheVariants.{Io};
-ghost use Rattle.xlsx_sections.specs.Failing.{SoundFails};
-ghost use Rattle.xlsx_sections.specs.SectionEvents.{section_events};
+ghost use Rattle.xlsx_sections.specs.Words.{SoundFails, section_events};
 ghost use Rattle.xlsx_theme.specs.ColorScheme.{numbered_colors, IsSchemeError};
 ghost use Rattle.xlsx_theme.specs.ThemePart.{IsThemeOf, IsTheme, HasTheme, SaysTheme};
 ghost use Rattle.xlsx_theme.specs.ThemePart.{behind_scheme, ReadThemeFails, TakesTheme};
@@ -59,11 +58,11 @@ pub fn read_theme_colors<P: Package>(xml: &mut XlReader<P>) -> Result<ThemeColor
     requires reading { IsReading xml.old }
     requires first { xml.old.at ≡ 0 }
     ensures reads { ReadsPart Io result xml.old xml.new }
-    ensures behind { xml.old.source.is_told ≡ true →
+    ensures behind { xml.old.source.is_visible ≡ true →
         OnOk result (ahead xml.new ≡ behind_scheme (ahead xml.old)) }
     ensures ends { let count = section_events (codes "clrScheme") (events_of xml.old) in
-        xml.old.source.is_told ≡ true → OnOk result (xml.new.at ≡ count) }
-    ensures theme { xml.old.source.is_told ≡ true → IfOk result (SaysTheme (events_of xml.old)) }
+        xml.old.source.is_visible ≡ true → OnOk result (xml.new.at ≡ count) }
+    ensures theme { xml.old.source.is_visible ≡ true → IfOk result (SaysTheme (events_of xml.old)) }
     ensures form { IfOk result IsTheme }
     ensures err { IfErr result (ReadThemeFails xml.old xml.new) }
     ensures kind { IfErr result IsSchemeError }
@@ -87,9 +86,9 @@ pub fn read_theme<P: Package>(xml: &mut XlReader<P>, path: &str) -> Result<Theme
     ensures uses { Uses (event_count xml.old.source.parts path.now) Io result xml.old.source
         xml.new.source }
     ensures to_end { let old = xml.old.source in
-        old.is_told ≡ true → OnOk result ((count : ℕ)
+        old.is_visible ≡ true → OnOk result ((count : ℕ)
         × TakesTheme old.parts path.now count × CountsUp count old.taken xml.new.source.taken) }
-    ensures theme { xml.old.source.is_told ≡ true →
+    ensures theme { xml.old.source.is_visible ≡ true →
         IfOk result (HasTheme xml.old.source.parts path.now) }
     ensures form { IfOk result IsTheme }
     ensures err { IfErr result (SoundFails xml.old.source xml.new.source) }

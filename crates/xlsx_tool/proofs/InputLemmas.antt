@@ -1,15 +1,14 @@
 -- The input, read in pieces.
-use Rattle.std.proofs.Common.{◌≡◌, ℕ, ◌+◌, ◌<◌, ◌≤◌, List, ◌++◌, length, take, drop, sym, ◌∙◌}
-use Rattle.std.proofs.Common.{ap, ap₂, subst, refl, [], ◌∷◌, ◌||◌, nat_lt}
-use Rattle.std.proofs.Common.{Bool, true, false, arith}
+use Rattle.std.proofs.Common.{◌≡◌, ℕ, ◌+◌, ◌<◌, ◌≤◌, List, ◌++◌, length, take, drop, sym, ◌∙◌, ap}
+use Rattle.std.proofs.Common.{ap₂, subst, refl, [], ◌∷◌, ◌||◌, nat_lt, Bool, true, false, arith}
 use Rattle.std.specs.Prelude.{if◌then◌else◌}
 use Rattle.std.specs.Str.{bytes_eq}
 use Rattle.std.proofs.lemmas.Bool.{ltb-true, ltb-false}
 use Rattle.std.proofs.lemmas.List.{append-nil, length-append, length-drop, length-take-le}
 use Rattle.std.proofs.lemmas.List.{take-append-drop, take-append-le}
-use Rattle.zip_archive.specs.Entries.{compound_mark}
+use Rattle.zip_archive.specs.Words.{compound_mark}
 use Rattle.input_package.specs.Reading.{begins_as_file, longest, longest_input}
-use Rattle.part_events.specs.Package.{RisesByOne}
+use Rattle.part_events.specs.Words.{RisesByOne}
 use Rattle.xlsx_tool.specs.Source.{SourceState}
 use Rattle.xlsx_tool.specs.Input.{InputRead, InputFails, PieceRead, PieceFails, PastLimit}
 use Rattle.xlsx_commands.specs.declared.error.ToolError.{ToolError}
@@ -60,9 +59,9 @@ limit_by_size before after room false is small room_fits front fits =
 pub record IsReading (bytes : List ℕ) (first now : SourceState) : Type 0 where
   pub fits : length bytes ≤ longest_input bytes + 1
   pub most : longest_input bytes ≤ 268435456
-  pub is_told : now.is_told ≡ first.is_told
+  pub is_visible : now.is_visible ≡ first.is_visible
   pub faults : now.faults ≡ first.faults
-  pub whole : first.is_told ≡ true → first.left ≡ bytes ++ now.left
+  pub whole : first.is_visible ≡ true → first.left ≡ bytes ++ now.left
 
 -- a piece more was read
 pub reads_on :
@@ -74,9 +73,9 @@ reads_on room before after first now next small fits reading piece = record {
   fits = limit_by_size before after room (nat_lt (length before) 8) refl small fits piece.4
       piece.3;
   most = (limits after).1;
-  is_told = piece.0 ∙ reading.is_told;
+  is_visible = piece.0 ∙ reading.is_visible;
   faults = piece.1 ∙ reading.faults;
-  whole = λ told. reading.whole told ∙ piece.5 (reading.is_told ∙ told);
+  whole = λ told. reading.whole told ∙ piece.5 (reading.is_visible ∙ told);
 }
 
 -- nothing is left
@@ -88,7 +87,7 @@ reads_all room before after first now next fits reading piece = record {
   fits = subst (λ (bytes : List ℕ). length bytes ≤ longest_input bytes) (sym piece.1) fits;
   faults = piece.0 ∙ reading.faults;
   whole = λ told. (
-      let ends = piece.2 (reading.is_told ∙ told) in
+      let ends = piece.2 (reading.is_visible ∙ told) in
       let behind = ap (λ (left : List ℕ). before ++ left) ends.0 in
       (reading.whole told ∙ behind ∙ append-nil before ∙ sym piece.1, ends.1)
       );

@@ -1,33 +1,30 @@
 -- A run, from what its steps give.
-use Rattle.std.proofs.Common.{◌≡◌, ℕ, List, ◌++◌, length, take, drop, refl, sym, ◌∙◌, ap}
-use Rattle.std.proofs.Common.{subst, append_assoc, inl, inr}
-use Rattle.std.proofs.Common.{true≢false, true, false, arith, Option, Some, None, Bool, ◌≤◌}
+use Rattle.std.proofs.Common.{◌≡◌, ℕ, List, ◌++◌, length, take, drop, refl, sym, ◌∙◌, ap, subst}
+use Rattle.std.proofs.Common.{append_assoc, inl, inr, true≢false, true, false, arith, Option, Some}
+use Rattle.std.proofs.Common.{None, Bool, ◌≤◌}
 use Rattle.std.specs.Prelude.{◌≢◌, Result, Ok, Err, IfErr, OnOk}
 use Rattle.std.proofs.lemmas.List.{take-append-drop, length-append}
-use Rattle.part_events.specs.Package.{Part}
-use Rattle.xlsx_commands.specs.ChosenSheets.{ChoiceCause}
-use Rattle.xlsx_commands.specs.Command.{Command}
-use Rattle.xlsx_commands.specs.Outputs.{OutputCause}
-use Rattle.xlsx_commands.specs.Request.{Request, request_of, request_parts}
-use Rattle.xlsx_commands.specs.Request.{told, chosen, on_sheet}
-use Rattle.xlsx_commands.specs.Request.{IsAnswer, AnswerCause, AnswerFails, HasAnswer}
-use Rattle.input_package.specs.Reading.{begins_as_file, longest, package_in}
+use Rattle.part_events.specs.Words.{Part}
+use Rattle.xlsx_commands.specs.Words.{ChoiceCause, Command, OutputCause, Request, request_of}
+use Rattle.xlsx_commands.specs.Words.{request_parts, told, chosen, asked_of_sheet, IsAnswer}
+use Rattle.xlsx_commands.specs.Words.{AnswerCause, AnswerFails, HasAnswer}
+use Rattle.input_package.specs.Reading.{begins_as_file, longest, package_of_input}
 use Rattle.xlsx_tool.specs.Input.{PastLimit}
 use Rattle.xlsx_tool.proofs.InputLemmas.{begin_alike, limit_by}
-use Rattle.xlsx_tool.specs.Run.{Streams, Spells, Succeeds, HasAnswerCause}
-use Rattle.xlsx_tool.specs.Run.{TellsInput, GivesParts, IsFed, PackageFed, FeedingFails, AnswerRead}
-use Rattle.xlsx_tool.specs.Run.{ReadingFails, Refuses, AnswersExactly}
+use Rattle.xlsx_tool.specs.Run.{Streams, Spells, Succeeds, HasAnswerCause, TellsInput, GivesParts}
+use Rattle.xlsx_tool.specs.Run.{IsFed, PackageFed, FeedingFails, AnswerRead, ReadingFails}
+use Rattle.xlsx_tool.specs.Run.{RefusesRun, AnswersExactly}
 use Rattle.xlsx_tool.specs.Source.{SourceState}
 use Rattle.xlsx_commands.specs.declared.error.ToolError.{ToolError}
 use Rattle.xlsx_commands.specs.declared.sheet_choice.SheetChoice.{SheetChoice}
 use Rattle.xlsx_commands.specs.declared.error.ToolError.TheVariants.{Usage, ReadFault}
-use Rattle.xlsx_commands.specs.declared.error.ToolError.TheVariants.{InputTooLarge}
-use Rattle.xlsx_commands.specs.declared.error.ToolError.TheVariants.{FileTooLarge, NotAPackage}
-use Rattle.xlsx_commands.specs.declared.error.ToolError.TheVariants.{NotAWorkbookFile, Workbook}
-use Rattle.xlsx_commands.specs.declared.error.ToolError.TheVariants.{WriteFault, OutOfMemory}
-use Rattle.xlsx_commands.specs.declared.error.ToolError.TheVariants.{BoxTooLarge, Unwritable}
-use Rattle.xlsx_commands.specs.declared.error.ToolError.TheVariants.{NotChosen, NoHeader}
-use Rattle.xlsx_commands.specs.declared.error.ToolError.TheVariants.{TwoColumns, GraphTooLarge}
+use Rattle.xlsx_commands.specs.declared.error.ToolError.TheVariants.{InputTooLarge, FileTooLarge}
+use Rattle.xlsx_commands.specs.declared.error.ToolError.TheVariants.{NotAPackage, NotAWorkbookFile}
+use Rattle.xlsx_commands.specs.declared.error.ToolError.TheVariants.{Workbook, WriteFault}
+use Rattle.xlsx_commands.specs.declared.error.ToolError.TheVariants.{OutOfMemory, BoxTooLarge}
+use Rattle.xlsx_commands.specs.declared.error.ToolError.TheVariants.{Unwritable, NotChosen}
+use Rattle.xlsx_commands.specs.declared.error.ToolError.TheVariants.{NoHeader, TwoColumns}
+use Rattle.xlsx_commands.specs.declared.error.ToolError.TheVariants.{GraphTooLarge}
 
 -- ---- the output of a command on what a source spells
 
@@ -47,7 +44,7 @@ never_answered (told command) parts error outputs choices cause = outputs comman
 never_answered (chosen choice command) parts error outputs choices (inl cause) =
     choices choice cause
 never_answered (chosen choice command) parts error outputs choices (inr (name, chooses, cause)) =
-    outputs (on_sheet name command) cause
+    outputs (asked_of_sheet name command) cause
 
 pub from_output :
     (request : Request) (parts : List Part) (old new : SourceState) (error : ToolError)
@@ -185,13 +182,13 @@ same_package :
     → GivesParts own source parts → GivesParts own source others → parts ≡ others
 same_package (Some own) source parts others first second = first ∙ sym second
 same_package None source parts others first second =
-    same_some parts others (package_in source.left) first.spelled second.spelled
+    same_some parts others (package_of_input source.left) first.spelled second.spelled
 
 -- a command that reads the input is told of it
 told_input :
     (own : Option (List Part)) (source : SourceState) (parts : List Part) → own ≡ None
     → TellsInput own source → GivesParts own source parts
-    → (source.is_told ≡ true) × Spells source.left parts
+    → (source.is_visible ≡ true) × Spells source.left parts
 told_input (Some own) source parts none tells gives = absurd cc
 told_input None source parts none tells gives = (tells, gives)
 
@@ -212,7 +209,7 @@ no_cause never words source request asked parts output error is prints same caus
 -- an input that spells a package isn't past its limit
 never_past :
     (is_file : Bool) (old new : SourceState) (parts : List Part) → PastLimit is_file old new
-    → old.is_told ≡ true → Spells old.left parts → ⊥
+    → old.is_visible ≡ true → Spells old.left parts → ⊥
 never_past is_file old new parts past tells spells =
     let took = past.took tells in
     let long = length-append took.taken new.left in
@@ -227,7 +224,7 @@ not_refused :
     (parts : List Part) (output : List ℕ) (error : ToolError)
     → IsRequest words old.source request parts → IsAnswer request parts output
     → (error ≢ OutOfMemory) × (error ≢ ReadFault) × (error ≢ WriteFault)
-    → Refuses words old new error → ⊥
+    → RefusesRun words old new error → ⊥
 not_refused never words old new request parts output Usage is prints own refuses =
     not_some request (request_of words) is.asked refuses.0
 not_refused never words old new request parts output ReadFault is prints own refuses = own.1 refl
@@ -251,7 +248,7 @@ not_refused never words old new request parts output NotAPackage is prints own r
     (λ (request : Request). FeedingFails request old.source new.source NotAPackage) request_is
     refuses.cause in
     let input = told_input (request_parts request) old.source parts fails.0 is.tells is.gives in
-    not_some parts (package_in old.source.left) input.1.spelled (fails.1.cause input.0).none
+    not_some parts (package_of_input old.source.left) input.1.spelled (fails.1.cause input.0).none
 not_refused
     never words old new request parts output (NotAWorkbookFile fault) is prints own refuses =
     let error : ToolError = NotAWorkbookFile fault in
@@ -260,7 +257,7 @@ not_refused
     (λ (request : Request). FeedingFails request old.source new.source error) request_is
     refuses.cause in
     let input = told_input (request_parts request) old.source parts fails.0 is.tells is.gives in
-    not_some parts (package_in old.source.left) input.1.spelled (fails.1.cause input.0).none
+    not_some parts (package_of_input old.source.left) input.1.spelled (fails.1.cause input.0).none
 not_refused never words old new request parts output (Workbook error) is prints own refuses =
     no_cause never words old.source request refuses.request parts output (Workbook error) is prints
     refuses.asked refuses.cause.1
@@ -307,7 +304,7 @@ has_output words old new request parts is succeeds =
 
 pub answers :
     NeverBoth → (words : List (List ℕ)) (old new : Streams) (result : Result (Unit {0}) ToolError)
-    → OnOk result (Succeeds words old new) → IfErr result (Refuses words old new)
+    → OnOk result (Succeeds words old new) → IfErr result (RefusesRun words old new)
     → AnswersExactly words old.source result
 answers never words old new (Ok x) ok err = record {
   exactly = λ request parts asked tells gives memory read write. (

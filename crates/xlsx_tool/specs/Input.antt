@@ -2,7 +2,7 @@
 use Rattle.std.specs.Prelude.{◌≡◌, ℕ, ◌+◌, ◌<◌, ◌≤◌, List, [], ◌++◌, length, take, Bool, true}
 use Rattle.std.specs.Prelude.{false}
 use Rattle.input_package.specs.Reading.{begins_as_file, longest, longest_input}
-use Rattle.part_events.specs.Package.{RisesByOne}
+use Rattle.part_events.specs.Words.{RisesByOne}
 use Rattle.xlsx_tool.specs.Source.{SourceState}
 use Rattle.xlsx_commands.specs.declared.error.ToolError.{ToolError}
 use Rattle.xlsx_commands.specs.declared.error.ToolError.TheVariants.{ReadFault, InputTooLarge}
@@ -12,7 +12,7 @@ use Rattle.xlsx_commands.specs.declared.error.ToolError.TheVariants.{FileTooLarg
 pub record InputRead (bytes : List ℕ) (old new : SourceState) : Type 0 where
   pub fits : length bytes ≤ longest_input bytes
   pub faults : new.faults ≡ old.faults
-  pub whole : old.is_told ≡ true → (old.left ≡ bytes) × (new.left ≡ [])
+  pub whole : old.is_visible ≡ true → (old.left ≡ bytes) × (new.left ≡ [])
 
 -- one byte more was taken than an input may have that begins so, as a file or as none
 pub record TookTooMany (is_file : Bool) (old new : SourceState) : Type 0 where
@@ -24,7 +24,7 @@ pub record TookTooMany (is_file : Bool) (old new : SourceState) : Type 0 where
 -- no fault came, and more bytes than the limit were taken
 pub record PastLimit (is_file : Bool) (old new : SourceState) : Type 0 where
   pub faults : new.faults ≡ old.faults
-  pub took : old.is_told ≡ true → TookTooMany is_file old new
+  pub took : old.is_visible ≡ true → TookTooMany is_file old new
 
 -- why the input was not read
 abbrev pub InputFails : SourceState → SourceState → ToolError → Type 0
@@ -38,13 +38,13 @@ InputFails old new _ = ⊥
 -- nothing was left.
 abbrev pub PieceRead : ℕ → List ℕ → List ℕ → SourceState → SourceState → Bool → Type 0
 PieceRead room before after old new true =
-    (new.is_told ≡ old.is_told) × (new.faults ≡ old.faults)
+    (new.is_visible ≡ old.is_visible) × (new.faults ≡ old.faults)
     × (length before < length after) × (length after ≤ length before + room)
     × (take (length before) after ≡ before)
-    × (old.is_told ≡ true → before ++ old.left ≡ after ++ new.left)
+    × (old.is_visible ≡ true → before ++ old.left ≡ after ++ new.left)
 PieceRead room before after old new false =
     (new.faults ≡ old.faults) × (after ≡ before)
-    × (old.is_told ≡ true → (old.left ≡ []) × (new.left ≡ []))
+    × (old.is_visible ≡ true → (old.left ≡ []) × (new.left ≡ []))
 
 -- why a piece of the input is not read, and how many faults it counts
 abbrev pub PieceFails : SourceState → SourceState → ToolError → Type 0

@@ -14,9 +14,9 @@ pub record HeldSource : Type 0 where
   pub calls : ℕ
   pub faults : ℕ
 
--- the state of such an input
+-- the state of an input that is held in memory
 abbrev pub source_state : HeldSource → SourceState
-source_state held = record { is_told = true; left = held.left; faults = held.faults }
+source_state held = record { is_visible = true; left = held.left; faults = held.faults }
 
 -- a call of `read` is counted, up to the last count, and the plan stays
 pub record CountsRead (old new : HeldSource) : Type 0 where
@@ -35,9 +35,9 @@ pub record HeldSink : Type 0 where
   pub calls : ℕ
   pub faults : ℕ
 
--- the state of such an output
+-- the state of an output that is held in memory
 abbrev pub sink_state : HeldSink → SinkState
-sink_state held = record { is_told = true; written = held.written; faults = held.faults }
+sink_state held = record { is_visible = true; written = held.written; faults = held.faults }
 
 -- a call of `write` is counted, up to the last count, and the plan stays
 pub record CountsWrite (old new : HeldSink) : Type 0 where

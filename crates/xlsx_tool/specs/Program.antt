@@ -2,14 +2,13 @@
 use Rattle.std.specs.Prelude.{◌≡◌, ℕ, List, [], ◌∷◌, ◌++◌, Result, Ok, Err, Option, Some, None}
 use Rattle.std.specs.Prelude.{codes, if◌then◌else◌, ◌⊎◌, IfSome, Bool, ◌||◌, is_some}
 use Rattle.std.specs.Str.{bytes_eq}
-use Rattle.xlsx_commands.specs.Request.{request_of}
-use Rattle.xlsx_commands.specs.Status.{status_of, error_text}
+use Rattle.xlsx_commands.specs.Words.{request_of, status_of, error_text}
 use Rattle.xlsx_commands.specs.declared.error.ToolError.{ToolError}
 use Rattle.xlsx_commands.specs.declared.error.ToolError.TheVariants.{WriteFault, OutOfMemory}
-use Rattle.xlsx_tool.specs.Run.{Streams, Succeeds, Refuses, IsSent, SendFails, reads_nothing}
+use Rattle.xlsx_tool.specs.Run.{Streams, Succeeds, RefusesRun, IsSent, SendFails, reads_nothing}
 use Rattle.xlsx_tool.specs.Sink.{SinkState}
 
--- the help page
+-- the text of the help page
 unfoldable pub help_text : List ℕ
 help_text =
     codes "Usage: xlsx_tool cells NAME [--json] < INPUT\n"
@@ -104,11 +103,11 @@ abbrev pub Prints : Option (List ℕ) → List (List ℕ) → Streams → Stream
 Prints (Some page) words old new = (new.source ≡ old.source) × IsSent page old.sink new.sink
 Prints None words old new = Succeeds words old new
 
--- why that was refused
+-- why a page isn't written, or the command isn't run
 abbrev pub CannotPrint : Option (List ℕ) → List (List ℕ) → Streams → Streams → ToolError → Type 0
 CannotPrint (Some page) words old new error =
     (new.source ≡ old.source) × SendFails page old.sink new.sink error
-CannotPrint None words old new error = Refuses words old new error
+CannotPrint None words old new error = RefusesRun words old new error
 
 -- the status that the program ends with
 abbrev pub ending_status : Result (Unit {0}) ToolError → ℕ
@@ -130,7 +129,7 @@ TellsError error old new =
     (line : List ℕ) × (IsErrorLine error line ⊎ IsErrorLine OutOfMemory line)
     × IsOffered line old new
 
--- what it was given at the end: nothing at Ok, else the line of the refusal
+-- what a sink of errors was given at the end of a run: nothing at Ok, else the line of the refusal
 abbrev pub TellsEnding : Result (Unit {0}) ToolError → SinkState → SinkState → Type 0
 TellsEnding (Ok done) old new = new ≡ old
 TellsEnding (Err error) old new = TellsError error old new

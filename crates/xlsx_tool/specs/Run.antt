@@ -1,18 +1,17 @@
 -- What a run of the program answers, and when.
 use Rattle.std.specs.Prelude.{◌≡◌, ◌≢◌, ◌↔◌, Result, Err, IsOk, ℕ, ◌≤◌, List, [], ◌++◌, length}
 use Rattle.std.specs.Prelude.{true, false, Bool, Option, Some, None, is_some}
-use Rattle.part_events.specs.Package.{Part, RisesByOne}
-use Rattle.xlsx_commands.specs.Request.{Request, request_of, request_parts}
-use Rattle.xlsx_commands.specs.Request.{IsAnswer, AnswerCause, HasAnswer}
+use Rattle.part_events.specs.Words.{Part, RisesByOne}
+use Rattle.xlsx_commands.specs.Words.{Request, request_of, request_parts, IsAnswer, AnswerCause}
+use Rattle.xlsx_commands.specs.Words.{HasAnswer}
 use Rattle.xlsx_tool.specs.Input.{PastLimit}
-use Rattle.input_package.specs.Reading.{IsFaulty, IsNoText, longest_input, package_in}
+use Rattle.input_package.specs.Reading.{IsFaultyFile, IsNoText, longest_input, package_of_input}
 use Rattle.xlsx_tool.specs.Sink.{SinkState}
 use Rattle.xlsx_tool.specs.Source.{SourceState}
 use Rattle.xlsx_commands.specs.declared.error.ToolError.{ToolError}
 use Rattle.xlsx_commands.specs.declared.error.ToolError.TheVariants.{Usage, ReadFault}
-use Rattle.xlsx_commands.specs.declared.error.ToolError.TheVariants.{InputTooLarge}
-use Rattle.xlsx_commands.specs.declared.error.ToolError.TheVariants.{FileTooLarge, NotAPackage}
-use Rattle.xlsx_commands.specs.declared.error.ToolError.TheVariants.{NotAWorkbookFile}
+use Rattle.xlsx_commands.specs.declared.error.ToolError.TheVariants.{InputTooLarge, FileTooLarge}
+use Rattle.xlsx_commands.specs.declared.error.ToolError.TheVariants.{NotAPackage, NotAWorkbookFile}
 use Rattle.xlsx_commands.specs.declared.error.ToolError.TheVariants.{WriteFault, OutOfMemory}
 
 -- the source and the sink of a run
@@ -28,7 +27,7 @@ pub record NoFaults (old new : Streams) : Type 0 where
 -- the input is a package of these parts
 pub record Spells (input : List ℕ) (parts : List Part) : Type 0 where
   pub fits : length input ≤ longest_input input
-  pub spelled : package_in input ≡ Some parts
+  pub spelled : package_of_input input ≡ Some parts
 
 -- the words are no command, or one that reads no input
 abbrev pub reads_nothing : Option Request → Bool
@@ -38,19 +37,20 @@ reads_nothing (Some request) = is_some (request_parts request)
 -- the source tells what a command needs of it, where it has these parts of its own
 abbrev pub TellsInput : Option (List Part) → SourceState → Type 0
 TellsInput (Some own) source = Unit {0}
-TellsInput None source = source.is_told ≡ true
+TellsInput None source = source.is_visible ≡ true
 
--- these are the parts of the package that it works on
+-- these are the parts of the package that a command works on: its own, or those of the input
 abbrev pub GivesParts : Option (List Part) → SourceState → List Part → Type 0
 GivesParts (Some own) source parts = parts ≡ own
 GivesParts None source parts = Spells source.left parts
 
--- they are, and nothing is left of what it reads
+-- these are the parts of the package that a command works on, and nothing is left of the input that
+-- it reads
 abbrev pub IsFed : Option (List Part) → List Part → SourceState → SourceState → Type 0
 IsFed (Some own) parts old new = (parts ≡ own) × (new ≡ old)
 IsFed None parts old new = Spells old.left parts × (new.left ≡ [])
 
--- what it works on was had
+-- the package that a command works on was had
 pub record PackageFed (request : Request) (parts : List Part) (old new : SourceState) : Type 0 where
   pub faults : new.faults ≡ old.faults
   pub fed : TellsInput (request_parts request) old → IsFed (request_parts request) parts old new
@@ -61,17 +61,17 @@ pub record AnswerRead (request : Request) (output : List ℕ) (old new : SourceS
   pub is_output : IsAnswer request parts output
   pub fed : PackageFed request parts old new
 
--- the bytes were written
+-- all bytes of an output were written
 pub record IsSent (bytes : List ℕ) (old new : SinkState) : Type 0 where
   pub faults : new.faults ≡ old.faults
-  pub written : old.is_told ≡ true → new.written ≡ old.written ++ bytes
+  pub written : old.is_visible ≡ true → new.written ≡ old.written ++ bytes
 
 -- a front of the bytes was written
 pub record FrontSent (bytes : List ℕ) (old new : SinkState) : Type 0 where
   pub front : List ℕ
   pub behind : List ℕ
   pub whole : bytes ≡ front ++ behind
-  pub written : old.is_told ≡ true → new.written ≡ old.written ++ front
+  pub written : old.is_visible ≡ true → new.written ≡ old.written ++ front
 
 -- a run that answers Ok
 pub record Succeeds (words : List (List ℕ)) (old new : Streams) : Type 0 where
@@ -80,13 +80,13 @@ pub record Succeeds (words : List (List ℕ)) (old new : Streams) : Type 0 where
   pub faults : NoFaults old new
   pub output : List ℕ
   pub reads : AnswerRead request output old.source new.source
-  pub written : old.sink.is_told ≡ true → new.sink.written ≡ old.sink.written ++ output
+  pub written : old.sink.is_visible ≡ true → new.sink.written ≡ old.sink.written ++ output
 
 -- no fault came, and the input fits and is no package, for a cause
-pub record IsNoPackage (why : List ℕ → Type 0) (old new : SourceState) : Type 0 where
+pub record HasNoPackage (why : List ℕ → Type 0) (old new : SourceState) : Type 0 where
   pub faults : new.faults ≡ old.faults
-  pub fits : old.is_told ≡ true → length old.left ≤ longest_input old.left
-  pub cause : old.is_told ≡ true → why old.left
+  pub fits : old.is_visible ≡ true → length old.left ≤ longest_input old.left
+  pub cause : old.is_visible ≡ true → why old.left
 
 -- the command works on a package in which this refusal has its cause
 pub record HasAnswerCause (request : Request) (source : SourceState) (error : ToolError)
@@ -105,13 +105,13 @@ FeedingFails request old new InputTooLarge =
 FeedingFails request old new FileTooLarge =
     (request_parts request ≡ None) × PastLimit true old new
 FeedingFails request old new NotAPackage =
-    (request_parts request ≡ None) × IsNoPackage IsNoText old new
+    (request_parts request ≡ None) × HasNoPackage IsNoText old new
 FeedingFails request old new (NotAWorkbookFile fault) =
-    (request_parts request ≡ None) × IsNoPackage (λ bytes. IsFaulty bytes fault) old new
+    (request_parts request ≡ None) × HasNoPackage (λ bytes. IsFaultyFile bytes fault) old new
 FeedingFails request old new OutOfMemory = new.faults ≡ old.faults
 FeedingFails request old new _ = ⊥
 
--- why its output was not had
+-- why the output of a command was not had
 abbrev pub ReadingFails : Request → SourceState → SourceState → ToolError → Type 0
 ReadingFails request old new ReadFault = FeedingFails request old new ReadFault
 ReadingFails request old new InputTooLarge = FeedingFails request old new InputTooLarge
@@ -140,10 +140,10 @@ pub record RefusesOutput (words : List (List ℕ)) (old new : Streams) : Type 0 
   pub front : FrontSent output old.sink new.sink
 
 -- when a run answers each refusal
-abbrev pub Refuses : List (List ℕ) → Streams → Streams → ToolError → Type 0
-Refuses words old new Usage = (request_of words ≡ None) × NoFaults old new
-Refuses words old new WriteFault = RefusesOutput words old new
-Refuses words old new error = RefusesRequest words old new error
+abbrev pub RefusesRun : List (List ℕ) → Streams → Streams → ToolError → Type 0
+RefusesRun words old new Usage = (request_of words ≡ None) × NoFaults old new
+RefusesRun words old new WriteFault = RefusesOutput words old new
+RefusesRun words old new error = RefusesRequest words old new error
 
 -- Of a command on a package of these parts: it answers Ok exactly where the package has an output
 -- for it, unless memory, the source or the sink fails it.
@@ -161,7 +161,7 @@ pub record AnswersExactly
 -- why an input is no package, or memory is wanting
 abbrev pub NoPackage : List ℕ → ToolError → Type 0
 NoPackage bytes NotAPackage = IsNoText bytes
-NoPackage bytes (NotAWorkbookFile fault) = IsFaulty bytes fault
+NoPackage bytes (NotAWorkbookFile fault) = IsFaultyFile bytes fault
 NoPackage bytes OutOfMemory = Unit {0}
 NoPackage bytes _ = ⊥
 

@@ -16,13 +16,13 @@ pub record WriterState : Type 0 where
   pub written : Option (List ℕ)
   pub faults : ℕ
 
--- As a source it tells no bytes: its reader may begin to tell them, or cease to.
+-- A reader of std as a source tells no bytes: it may begin to tell them, or cease to.
 abbrev pub untold_source : ReaderState → SourceState
-untold_source reader = record { is_told = false; left = []; faults = reader.faults }
+untold_source reader = record { is_visible = false; left = []; faults = reader.faults }
 
--- As a sink it tells no bytes: a writer has taken a piece whose flush fails.
+-- A writer of std as a sink tells no bytes: it has taken a piece whose flush fails.
 abbrev pub untold_sink : WriterState → SinkState
-untold_sink writer = record { is_told = false; written = []; faults = writer.faults }
+untold_sink writer = record { is_visible = false; written = []; faults = writer.faults }
 
 -- Some of the first bytes of the piece, or none, are behind those that the writer held.
 pub record HoldsFront (piece : List ℕ) (old new : WriterState) : Type 0 where

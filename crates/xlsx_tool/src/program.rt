@@ -1,7 +1,7 @@
-ghost use Rattle.std.specs.Prelude.{◌≡◌, ◌≢◌, true, None, option_map, IfOk, IfErr};
-ghost use Rattle.std.specs.Prelude.{OnOk, string_bytes};
+ghost use Rattle.std.specs.Prelude.{◌≡◌, ◌≢◌, true, None, option_map, IfOk, IfErr, OnOk};
+ghost use Rattle.std.specs.Prelude.{string_bytes};
 ghost use Rattle.std.specs.Process.{exit_status};
-ghost use Rattle.xlsx_commands.specs.Command.{texts};
+ghost use Rattle.xlsx_commands.specs.Words.{texts};
 ghost use Rattle.xlsx_tool.specs.Program.{help_text, page_asked, Prints, CannotPrint};
 ghost use Rattle.xlsx_tool.specs.Program.{asks_for_no_input, IsErrorLine, IsOffered, TellsError};
 ghost use Rattle.xlsx_tool.specs.Program.{TellsEnding, ending_status};

@@ -1,12 +1,10 @@
 ghost use Rattle.std.specs.Prelude.{◌≡◌, ◌≢◌, ◌<◌, ◌^◌, length, true, is_some, Some, IfOk, OnOk};
 ghost use Rattle.std.specs.Prelude.{IfErr};
-ghost use Rattle.xlsx_commands.specs.Command.{texts};
-ghost use Rattle.xlsx_commands.specs.Request.{request_meant, request_of, request_parts};
-ghost use Rattle.xlsx_tool.specs.Run.{Streams, Succeeds, Refuses, AnswersExactly};
-ghost use Rattle.xlsx_tool.specs.Run.{NoPackage, PackageFed, FeedingFails, AnswerRead};
-ghost use Rattle.xlsx_tool.specs.Run.{ReadingFails};
-ghost use Rattle.xlsx_tool.specs.Run.{IsSent, SendFails, reads_nothing};
-ghost use Rattle.input_package.specs.Reading.{package_in};
+ghost use Rattle.xlsx_commands.specs.Words.{texts, request_meant, request_of, request_parts};
+ghost use Rattle.xlsx_tool.specs.Run.{Streams, Succeeds, RefusesRun, AnswersExactly, NoPackage};
+ghost use Rattle.xlsx_tool.specs.Run.{PackageFed, FeedingFails, AnswerRead, ReadingFails, IsSent};
+ghost use Rattle.xlsx_tool.specs.Run.{SendFails, reads_nothing};
+ghost use Rattle.input_package.specs.Reading.{package_of_input};
 ghost use Rattle.xlsx_commands.specs.declared.error.ToolError.TheVariants.{WriteFault};
 
 use crate::input::read_input;
@@ -21,7 +19,7 @@ use xlsx_commands::{
 /// The package that the bytes are.
 fn package_from(alloc: Global, bytes: Vec<u8>) -> Result<InputPackage, ToolError>
     requires { length bytes.items < 2 ^ 56 }
-    ensures ok { IfOk result (λ held. package_in bytes.items ≡ Some held.parts) }
+    ensures ok { IfOk result (λ held. package_of_input bytes.items ≡ Some held.parts) }
     ensures err { IfErr result (NoPackage bytes.items) }
 {
     match read_package(alloc, bytes) {
@@ -102,7 +100,7 @@ fn run_request<S: Source, K: Sink>(
     ensures err { let words = texts words.now in
         let old : Streams = record { source = S.state source.old; sink = K.state sink.old } in
         let new : Streams = record { source = S.state source.new; sink = K.state sink.new } in
-        IfErr result (Refuses words old new) }
+        IfErr result (RefusesRun words old new) }
     ensures unread { reads_nothing (request_of (texts words.now)) ≡ true
         → S.state source.new ≡ S.state source.old }
     ensures unwritten { IfErr result (λ e. e ≢ WriteFault → K.state sink.new ≡ K.state sink.old) }
@@ -133,7 +131,7 @@ pub fn run<S: Source, K: Sink>(
     ensures err { let words = texts words.now in
         let old : Streams = record { source = S.state source.old; sink = K.state sink.old } in
         let new : Streams = record { source = S.state source.new; sink = K.state sink.new } in
-        IfErr result (Refuses words old new) }
+        IfErr result (RefusesRun words old new) }
     ensures unread { reads_nothing (request_of (texts words.now)) ≡ true
         → S.state source.new ≡ S.state source.old }
     ensures unwritten { IfErr result (λ e. e ≢ WriteFault → K.state sink.new ≡ K.state sink.old) }

@@ -1,7 +1,7 @@
-ghost use Rattle.std.specs.Prelude.{◌≡◌, ◌<◌, ◌≤◌, ◌↔◌, [], length, take, true, IsErr, IfOk};
-ghost use Rattle.std.specs.Prelude.{OnOk, OnErr};
+ghost use Rattle.std.specs.Prelude.{◌≡◌, ◌<◌, ◌≤◌, ◌↔◌, [], length, take, true, IsErr, IfOk, OnOk};
+ghost use Rattle.std.specs.Prelude.{OnErr};
 ghost use Rattle.std.specs.Io.KnownBytes.{Appends};
-ghost use Rattle.part_events.specs.Package.{RisesByOne};
+ghost use Rattle.part_events.specs.Words.{RisesByOne};
 ghost use Rattle.xlsx_tool.specs.Sink.{SinkState, KeepsSink, TakesFront, SinkFails};
 ghost use Rattle.xlsx_tool.specs.MemoryForms.{sink_state, FailsToWrite, CountsWrite};
 ghost use Rattle.xlsx_tool.specs.StdForms.{untold_sink, HoldsFront};
@@ -27,7 +27,7 @@ pub trait Sink {
         ensures ok { OnOk result ((state self.new).faults ≡ (state self.old).faults) }
         ensures bytes { let old = state self.old in
             let new = state self.new in
-            old.is_told ≡ true → IfOk result (λ n. TakesFront n piece.now old new) }
+            old.is_visible ≡ true → IfOk result (λ n. TakesFront n piece.now old new) }
         ensures failed { OnErr result (SinkFails (state self.old) (state self.new)) };
 
     /// How often a call failed. The count never falls, and stops at its last value.

@@ -1,5 +1,5 @@
-ghost use Rattle.std.specs.Prelude.{◌≡◌, ◌<◌, ◌≤◌, ◌↔◌, length, true, Contains, IsErr};
-ghost use Rattle.std.specs.Prelude.{IfOk, OnOk, OnErr};
+ghost use Rattle.std.specs.Prelude.{◌≡◌, ◌<◌, ◌≤◌, ◌↔◌, length, true, Contains, IsErr, IfOk, OnOk};
+ghost use Rattle.std.specs.Prelude.{OnErr};
 ghost use Rattle.std.specs.Io.KnownBytes.{ReadConsumes};
 ghost use Rattle.xlsx_tool.specs.Source.{SourceState, KeepsSource, GivesFront, EndsAtZero};
 ghost use Rattle.xlsx_tool.specs.Source.{SourceFails};
@@ -26,9 +26,9 @@ pub trait Source {
         ensures ok { OnOk result ((state self.new).faults ≡ (state self.old).faults) }
         ensures bytes { let old = state self.old in
             let new = state self.new in
-            old.is_told ≡ true → IfOk result (λ n. GivesFront n into.new old new) }
+            old.is_visible ≡ true → IfOk result (λ n. GivesFront n into.new old new) }
         ensures end { let old = state self.old in
-            old.is_told ≡ true → IfOk result (λ n. EndsAtZero n into.new old) }
+            old.is_visible ≡ true → IfOk result (λ n. EndsAtZero n into.new old) }
         ensures failed { OnErr result (SourceFails (state self.old) (state self.new)) };
 
     /// How often a call failed. The count never falls, and stops at its last value.

@@ -7,8 +7,7 @@ use Rattle.std.specs.Char.{to_ascii_lowercase}
 use Rattle.std.proofs.lemmas.Bool.Decides.{same_from_decides}
 use Rattle.std.proofs.lemmas.Slice.Eq.{bytes_eq-Decides}
 use Rattle.std.proofs.lemmas.Option.{slice_get-map, slice_get_past}
-use Rattle.xlsx_sections.specs.NumberText.{number_text}
-use Rattle.xlsx_sections.specs.Refusal.{plain, lacks_string, wrong_truth}
+use Rattle.xlsx_sections.specs.Words.{number_text, plain, lacks_string, wrong_truth}
 use Rattle.xlsx_values.specs.Value.{shared_value, truth_value, trimmed_truth, lower_truth}
 
 pub decided : (b : Bool) (text other : List ℕ)
@@ -35,7 +34,7 @@ no_truth_trimmed : (written trimmed : List ℕ) → (length trimmed == 0) ≡ fa
 no_truth_trimmed written [] some none = absurd (cc)
 no_truth_trimmed written (b ∷ bs) some none = rw none refl
 
--- a text that names no truth value is refused
+-- a text that names no boolean is refused
 pub no_truth : (text trimmed copy : List ℕ) → trimmed ≡ trim text → copy ≡ text
     → (length trimmed == 0) ≡ false → lower_truth (str_to_ascii_lowercase trimmed) ≡ None
     → truth_value text ≡ Err (plain (wrong_truth copy))

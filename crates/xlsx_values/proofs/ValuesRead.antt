@@ -1,29 +1,24 @@
 -- How the value of a cell is read, and how one that is refused makes its element refused.
 use Rattle.std.proofs.Common.{◌≡◌, ℕ, ◌+◌, ◌-◌, ◌<◌, List, [], ◌∷◌, length, true, false, None, Ok}
 use Rattle.std.proofs.Common.{Err, sym, ◌∙◌, ap, arith, codes}
-use Rattle.part_events.specs.Event.{Event}
-use Rattle.part_events.specs.Nesting.{starts_in, ends_in}
-use Rattle.part_events.specs.Reading.{Reading, IsReadingElement, ahead}
-use Rattle.part_events.specs.Section.{content}
-use Rattle.part_events.specs.Walk.{section_ahead, TakesInside}
+use Rattle.part_events.specs.Words.{Event, starts_in, ends_in, Reading, IsReadingElement, ahead}
+use Rattle.part_events.specs.Words.{content, section_ahead, TakesInside}
 use Rattle.part_events.specs.declared.fault.XmlFault.TheVariants.{Break, Unclosed, Entity}
 use Rattle.xlsx_error.specs.declared.error.XlsxError.{XlsxError}
 use Rattle.xlsx_error.specs.declared.error.XlsxError.TheVariants.{OutOfMemory, Io, Xml, XmlEof}
 use Rattle.xlsx_error.specs.declared.error.XlsxError.TheVariants.{Unexpected, Unrecognized}
 use Rattle.xlsx_error.specs.declared.error.XlsxError.TheVariants.{CellError, ParseFloat}
 use Rattle.xlsx_error.specs.declared.error.XlsxError.TheVariants.{CellTAttribute}
-use Rattle.xlsx_sections.specs.Elements.{IsTextError, IsEndError}
-use Rattle.xlsx_sections.specs.ElementText.{element_text}
-use Rattle.xlsx_sections.specs.PartSection.{always, inside_of, section_left}
-use Rattle.xlsx_sections.specs.Refusal.{Refusal, ElementFails}
-use Rattle.xlsx_sections.specs.Elements.{ElementReadFails, IsInsideRefused}
+use Rattle.xlsx_sections.specs.Words.{IsTextError, IsEndError, element_text, always, inside_of}
+use Rattle.xlsx_sections.specs.Words.{section_left, Refusal, ElementFails, ElementReadFails}
+use Rattle.xlsx_sections.specs.Words.{IsInsideRefused}
 use Rattle.xlsx_sections.proofs.ElementsRead.{own_inside}
 use Rattle.xlsx_sections.proofs.Refused.{event_refused, refused_as}
 use Rattle.xlsx_values.specs.CellType.{CellKind}
 use Rattle.xlsx_strings.specs.Strings.{string_of, end_in_string}
 use Rattle.cell_data.specs.CellValue as value
 use Rattle.xlsx_values.specs.Value.{of_joined, value_of_joined, joined_value, inline_value}
-use Rattle.xlsx_values.specs.Book.{IsTextValueError, IsValueError}
+use Rattle.xlsx_values.specs.ValueContext.{IsTextValueError, IsValueError}
 
 pub text_value : (error : XlsxError) → IsTextValueError error → IsValueError error
 text_value OutOfMemory is = tt
@@ -65,7 +60,7 @@ some_past [] n same some = absurd (omega (arith, same, some))
 some_past (event ∷ past) n same some = omega arith
 
 -- the start of an element was taken
-started : (old : Reading) → IsReadingElement old → old.source.is_told ≡ true → 0 < old.at
+started : (old : Reading) → IsReadingElement old → old.source.is_visible ≡ true → 0 < old.at
 started old is told =
     let tracked = is.reading.tracked told in
     omega (
@@ -77,7 +72,7 @@ started old is told =
 -- the joined text of the element at whose start a reader stood has no value
 pub joined_refused : (kind : CellKind) (old new : Reading) (text : List ℕ) (error : XlsxError)
     → IsReadingElement old
-    → (old.source.is_told ≡ true → element_text false (content 0 (ahead old)) ≡ Ok text)
+    → (old.source.is_visible ≡ true → element_text false (content 0 (ahead old)) ≡ Ok text)
     → ((at behind : ℕ) → ElementFails (value_of_joined kind text) at behind error)
     → ElementReadFails (always (codes "v")) (joined_value kind) old new error
 joined_refused kind old new text error is read fails =

@@ -2,7 +2,7 @@
 use Rattle.std.specs.Prelude.{ℕ, List, Bool, true, false, if◌then◌else◌, codes, Option, Some, None}
 use Rattle.std.specs.Str.{bytes_eq}
 
--- the types of cells
+-- the types of cells, as the attribute `t` tells them
 pub data CellKind : Type 0 where
   untyped : CellKind
   of_number : CellKind
@@ -40,7 +40,7 @@ is_joined of_date = true
 is_joined of_inline = false
 is_joined (of_unknown typ) = true
 
--- no `v` of this type counts
+-- the type of a cell is that of an inline string, for which no `v` counts
 abbrev pub is_inline : CellKind → Bool
 is_inline untyped = false
 is_inline of_number = false

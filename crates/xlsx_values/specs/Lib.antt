@@ -1,3 +1,4 @@
 pub mod CellType
 pub mod Value
-pub mod Book
+pub mod ValueContext
+pub mod Words

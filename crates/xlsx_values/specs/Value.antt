@@ -1,28 +1,22 @@
 -- The value of a cell.
-use Rattle.std.specs.Prelude.{ℕ, ℤ, List, [], ◌∷◌, slice_get}
-use Rattle.std.specs.Prelude.{Bool, true, false, if◌then◌else◌, codes, Option, Some, None, is_some}
-use Rattle.std.specs.Prelude.{option_map, option_and_then, unwrap_or, Result, Ok, Err}
+use Rattle.std.specs.Prelude.{ℕ, ℤ, List, [], ◌∷◌, slice_get, Bool, true, false, if◌then◌else◌}
+use Rattle.std.specs.Prelude.{codes, Option, Some, None, is_some, option_map, option_and_then}
+use Rattle.std.specs.Prelude.{unwrap_or, Result, Ok, Err}
 use Rattle.std.specs.Str.{bytes_eq, str_to_ascii_lowercase, trim}
-use Rattle.attr_text.specs.Attributes.{lookup}
-use Rattle.attr_text.specs.Text.{unescaped}
+use Rattle.attr_text.specs.Words.{lookup, unescaped}
 use Rattle.attr_text.specs.declared.fault.AttrFault.{AttrFault}
-use Rattle.part_events.specs.Event.{Tag, Event, start, end, leaf, text, char_data, entity_ref}
-use Rattle.part_events.specs.Event.{flaw, other}
-use Rattle.part_events.specs.Section.{Element, children, is_named}
-use Rattle.cell_data.specs.CellError.{cell_error}
+use Rattle.part_events.specs.Words.{Tag, Event, start, end, leaf, text, char_data, entity_ref, flaw}
+use Rattle.part_events.specs.Words.{other, Element, children, is_named}
+use Rattle.cell_data.specs.Words.{cell_error, CellValue}
 use Rattle.cell_data.specs.CellValue as value
-use Rattle.cell_data.specs.CellValue.{CellValue}
-use Rattle.decimals.specs.Decimals.{decimal_of}
+use Rattle.decimals.specs.Words.{decimal_of}
 use Rattle.cell_data.specs.declared.format.CellFormat.{CellFormat}
 use Rattle.cell_data.specs.declared.format.CellFormat.TheVariants as format
 use Rattle.cell_data.specs.declared.value.CellErrorType.{CellErrorType}
 use Rattle.cell_data.specs.declared.value.ExcelDateTimeType.TheVariants as counts
-use Rattle.xlsx_sections.specs.Answers.{last_answer, with_three}
-use Rattle.xlsx_sections.specs.ElementText.{element_text}
-use Rattle.xlsx_sections.specs.NumberText.{number_text}
-use Rattle.xlsx_sections.specs.Refusal.{Refusal, plain, lookup_fault, stray_child, lacks_string}
-use Rattle.xlsx_sections.specs.Refusal.{wrong_truth, wrong_error, wrong_number, wrong_type}
-use Rattle.xlsx_sections.specs.Refusal.{in_element}
+use Rattle.xlsx_sections.specs.Words.{last_answer, with_three, element_text, number_text, Refusal}
+use Rattle.xlsx_sections.specs.Words.{plain, lookup_fault, stray_child, lacks_string, wrong_truth}
+use Rattle.xlsx_sections.specs.Words.{wrong_error, wrong_number, wrong_type, in_element}
 use Rattle.xlsx_strings.specs.Strings.{string_of}
 use Rattle.xlsx_values.specs.CellType.{CellKind, untyped, of_number, of_shared, of_truth, of_error}
 use Rattle.xlsx_values.specs.CellType.{of_text, of_date, of_inline, of_unknown, kind_named}
@@ -30,7 +24,7 @@ use Rattle.xlsx_values.specs.CellType.{is_joined, is_inline}
 
 -- what the values of a workbook's cells rest on: its shared strings, the formats of its styles, and
 -- whether its dates count from 1904
-pub record Grounds : Type 0 where
+pub record ValueContext : Type 0 where
   pub strings : List (List ℕ)
   pub formats : List CellFormat
   pub is_1904 : Bool
@@ -71,7 +65,7 @@ abbrev pub shared_value : List (List ℕ) → List ℕ → Result CellValue Refu
 shared_value strings [] = Ok value.nothing
 shared_value strings (b ∷ bs) = string_at strings (unwrap_or (number_text (b ∷ bs)) 0)
 
--- the truth value of a text in small letters
+-- the boolean of a text in small letters
 abbrev pub lower_truth : List ℕ → Option Bool
 lower_truth lower =
     if bytes_eq lower (codes "0") then Some false
@@ -80,18 +74,18 @@ lower_truth lower =
     else (if bytes_eq lower (codes "true") then Some true
     else None)))
 
--- a truth value, or the refusal of a text that is none
+-- a boolean, or the refusal of a text that is none
 abbrev pub or_wrong_truth : List ℕ → Option Bool → Result CellValue Refusal
 or_wrong_truth written None = Err (plain (wrong_truth written))
 or_wrong_truth written (Some b) = Ok (value.truth b)
 
--- the value of a truth value's text, which is told by `written` where it has none
+-- the value of a boolean's text, which is told by `written` where it has none
 abbrev pub trimmed_truth : List ℕ → List ℕ → Result CellValue Refusal
 trimmed_truth written [] = Ok value.nothing
 trimmed_truth written (b ∷ bs) =
     or_wrong_truth written (lower_truth (str_to_ascii_lowercase (b ∷ bs)))
 
--- the truth value of a text, without the blanks around it
+-- the boolean of a text, without the blanks around it
 abbrev pub truth_value : List ℕ → Result CellValue Refusal
 truth_value written = trimmed_truth written (trim written)
 
@@ -123,18 +117,18 @@ number_value is_1904 format typed (b ∷ bs) =
     or_no_number typed (b ∷ bs) (option_map (formatted is_1904 format) (decimal_of (b ∷ bs)))
 
 -- what the text of a `v` of a type says that is one text; other types say nothing
-abbrev pub value_of_first : Grounds → CellFormat → CellKind → List ℕ → Result CellValue Refusal
-value_of_first grounds format untyped written = number_value grounds.is_1904 format false written
-value_of_first grounds format of_number written = number_value grounds.is_1904 format true written
-value_of_first grounds format of_shared written = shared_value grounds.strings written
-value_of_first grounds format of_truth written = truth_value written
-value_of_first grounds format of_error written = error_value written
-value_of_first grounds format of_text written = Ok value.nothing
-value_of_first grounds format of_date written = Ok value.nothing
-value_of_first grounds format of_inline written = Ok value.nothing
-value_of_first grounds format (of_unknown typ) written = Ok value.nothing
+abbrev pub value_of_first : ValueContext → CellFormat → CellKind → List ℕ → Result CellValue Refusal
+value_of_first context format untyped written = number_value context.is_1904 format false written
+value_of_first context format of_number written = number_value context.is_1904 format true written
+value_of_first context format of_shared written = shared_value context.strings written
+value_of_first context format of_truth written = truth_value written
+value_of_first context format of_error written = error_value written
+value_of_first context format of_text written = Ok value.nothing
+value_of_first context format of_date written = Ok value.nothing
+value_of_first context format of_inline written = Ok value.nothing
+value_of_first context format (of_unknown typ) written = Ok value.nothing
 
--- and what it says of a type whose text is joined
+-- what the text of a `v` says of a type whose text is joined; other types say nothing
 abbrev pub value_of_joined : CellKind → List ℕ → Result CellValue Refusal
 value_of_joined untyped written = Ok value.nothing
 value_of_joined of_number written = Ok value.nothing
@@ -160,19 +154,20 @@ of_joined read (Err refusal) = Err refusal
 
 -- what a `v` says of the value of a cell of a type by its first event, and by its joined text
 abbrev pub first_event_value :
-    Grounds → CellFormat → CellKind → List Event → Result CellValue Refusal
-first_event_value grounds format kind inside =
-    of_first (value_of_first grounds format kind) (first_text inside)
+    ValueContext → CellFormat → CellKind → List Event → Result CellValue Refusal
+first_event_value context format kind inside =
+    of_first (value_of_first context format kind) (first_text inside)
 
 -- the value of a cell whose texts are joined
 abbrev pub joined_value : CellKind → List Event → Result CellValue Refusal
 joined_value kind inside = of_joined (value_of_joined kind) (element_text false inside)
 
 -- what a `v` says of the value of a cell of a type, where it counts
-abbrev pub counted_value : Grounds → CellFormat → CellKind → List Event → Result CellValue Refusal
-counted_value grounds format kind inside =
+abbrev pub counted_value : ValueContext → CellFormat → CellKind → List Event
+    → Result CellValue Refusal
+counted_value context format kind inside =
     if is_joined kind then joined_value kind inside
-    else first_event_value grounds format kind inside
+    else first_event_value context format kind inside
 
 -- a value that is there
 abbrev pub some_value : Result CellValue Refusal → Result (Option CellValue) Refusal
@@ -181,11 +176,11 @@ some_value (Err refusal) = Err refusal
 
 -- what a `v` says of the value of a cell of a type; under an inline type it doesn't count
 abbrev pub value_element :
-    Grounds → CellFormat → CellKind → List Event → Result (Option CellValue) Refusal
-value_element grounds format kind inside =
-    if is_inline kind then Ok None else some_value (counted_value grounds format kind inside)
+    ValueContext → CellFormat → CellKind → List Event → Result (Option CellValue) Refusal
+value_element context format kind inside =
+    if is_inline kind then Ok None else some_value (counted_value context format kind inside)
 
--- what an `is` says
+-- what an `is`, an inline string, says of its cell's value
 abbrev pub inline_value : List Event → Result CellValue Refusal
 inline_value inside = of_joined (λ (written : List ℕ). Ok (value.text written)) (string_of inside)
 
@@ -195,18 +190,18 @@ is_child own tag = is_named (own ∷ []) tag
 
 -- what a child of a cell says of the cell's value, by its start and what stands in it
 abbrev pub said_value :
-    Grounds → CellFormat → CellKind → Tag → List Event → Result (Option CellValue) Refusal
-said_value grounds format kind tag inside =
+    ValueContext → CellFormat → CellKind → Tag → List Event → Result (Option CellValue) Refusal
+said_value context format kind tag inside =
     if is_child (codes "f") tag then Ok None
-    else (if is_child (codes "v") tag then value_element grounds format kind inside
+    else (if is_child (codes "v") tag then value_element context format kind inside
     else (if is_child (codes "is") tag then some_value (inline_value inside)
     else Err (plain stray_child)))
 
 -- the value that a child of a cell gives
 abbrev pub child_value :
-    Grounds → CellFormat → CellKind → Element → Result (Option CellValue) Refusal
-child_value grounds format kind child =
-    in_element child (said_value grounds format kind child.tag child.inside)
+    ValueContext → CellFormat → CellKind → Element → Result (Option CellValue) Refusal
+child_value context format kind child =
+    in_element child (said_value context format kind child.tag child.inside)
 
 -- the value that was given, or nothing
 abbrev pub or_nothing : Result (Option CellValue) Refusal → Result CellValue Refusal
@@ -215,28 +210,29 @@ or_nothing (Ok None) = Ok value.nothing
 or_nothing (Err refusal) = Err refusal
 
 -- the value of a cell of a type, in the format of its style: that of its last child that counts
-abbrev pub value_in : Grounds → CellFormat → CellKind → List Event → Result CellValue Refusal
-value_in grounds format kind inside =
-    or_nothing (last_answer (child_value grounds format kind) (children inside))
+abbrev pub value_in : ValueContext → CellFormat → CellKind → List Event → Result CellValue Refusal
+value_in context format kind inside =
+    or_nothing (last_answer (child_value context format kind) (children inside))
 
 -- the value of a cell, by its style, its type and what stands in it
 abbrev pub typed_value :
-    Grounds → List Event → Option (List ℕ) → Option (List ℕ) → Result CellValue Refusal
-typed_value grounds inside style typ =
-    value_in grounds (format_of grounds.formats style) (kind_named typ) inside
+    ValueContext → List Event → Option (List ℕ) → Option (List ℕ) → Result CellValue Refusal
+typed_value context inside style typ =
+    value_in context (format_of context.formats style) (kind_named typ) inside
 
--- the position isn't the value's, but the three keys are looked up together
+-- the value of a cell by its three attributes that are looked up together, its position among them,
+-- which isn't the value's
 abbrev pub looked_value :
-    Grounds → List Event → Result (List (Option (List ℕ))) AttrFault → Result CellValue Refusal
-looked_value grounds inside (Ok values) =
-    with_three (λ position style typ. typed_value grounds inside style typ) (Ok value.nothing)
+    ValueContext → List Event → Result (List (Option (List ℕ))) AttrFault → Result CellValue Refusal
+looked_value context inside (Ok values) =
+    with_three (λ position style typ. typed_value context inside style typ) (Ok value.nothing)
     values
-looked_value grounds inside (Err fault) = Err (plain (lookup_fault fault))
+looked_value context inside (Err fault) = Err (plain (lookup_fault fault))
 
 -- the value of a cell, by its start and what stands in it
-abbrev pub cell_value : Grounds → Tag → List Event → Result CellValue Refusal
-cell_value grounds tag inside =
-    looked_value grounds inside
+abbrev pub cell_value : ValueContext → Tag → List Event → Result CellValue Refusal
+cell_value context tag inside =
+    looked_value context inside
     (lookup (codes "r" ∷ codes "s" ∷ codes "t" ∷ []) tag.attributes)
 
 -- The end of the part in a `v` is told as `v`, but one that is read by its first event is skipped

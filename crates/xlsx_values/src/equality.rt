@@ -1,8 +1,8 @@
 //! What `==` and a copy of the types of this crate are.
 ghost use Rattle.equalities.specs.Equality.{IsEqualityBy, CopiesItself};
-ghost use Rattle.xlsx_values.specs.Book.{kind_of};
+ghost use Rattle.xlsx_values.specs.ValueContext.{kind_of};
 
-use crate::book::Book;
+use crate::context::ValueContext;
 use crate::types::CellType;
 
 /// `a == b` exactly where all fields are the same, at each type of this crate, texts by their
@@ -13,5 +13,5 @@ pub fn equality_is_by_all_fields()
 
 /// A copy of a value is that value, at each type of this crate that is `Copy`.
 pub fn copies_are_the_same<'a>()
-    ensures { CopiesItself ⟦<Book<'a> as Clone>⟧.is_clone ⟦<Book<'a> as Clone>⟧.is_infallible }
+    ensures { CopiesItself ⟦<ValueContext<'a> as Clone>⟧.is_clone ⟦<ValueContext<'a> as Clone>⟧.is_infallible }
 {}

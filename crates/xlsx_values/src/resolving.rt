@@ -1,5 +1,5 @@
 ghost use Rattle.std.specs.Prelude.{◌≡◌, [], slice_get, unwrap_or, map, string_bytes, IfOk};
-ghost use Rattle.cell_data.specs.CellValue.{value_of_data, value_of_data_ref};
+ghost use Rattle.cell_data.specs.Words.{value_of_data, value_of_data_ref};
 ghost use Rattle.xlsx_values.specs.Value.{resolved};
 
 use cell_data::{Data, DataRef};

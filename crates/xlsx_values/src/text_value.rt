@@ -1,15 +1,15 @@
 ghost use Rattle.std.specs.Prelude.{◌≡◌, ℕ, List, ◌∷◌, Ok, map, string_bytes, IfOk, IfErr};
 ghost use Rattle.std.specs.Str.{str_to_ascii_lowercase, str_eq_ignore_ascii_case};
-ghost use Rattle.part_events.specs.Event.{Event, event_of};
-ghost use Rattle.cell_data.specs.CellValue.{value_of_data_ref};
-ghost use Rattle.decimals.specs.Decimal.{number_of};
-ghost use Rattle.xlsx_sections.specs.Refusal.{ElementFails};
-ghost use Rattle.xlsx_values.specs.Book.{kind_of, grounds_of, IsTextValueError};
+ghost use Rattle.part_events.specs.Words.{Event, event_of};
+ghost use Rattle.cell_data.specs.Words.{value_of_data_ref};
+ghost use Rattle.decimals.specs.Words.{number_of};
+ghost use Rattle.xlsx_sections.specs.Words.{ElementFails};
+ghost use Rattle.xlsx_values.specs.ValueContext.{kind_of, context_of, IsTextValueError};
 ghost use Rattle.xlsx_values.specs.Value.{shared_value, lower_truth, truth_value, error_value};
 ghost use Rattle.xlsx_values.specs.Value.{formatted, number_value, value_of_first, value_of_joined};
 ghost use Rattle.xlsx_values.specs.Value.{of_first, first_text};
 
-use crate::book::Book;
+use crate::context::ValueContext;
 use crate::types::CellType;
 use cell_data::{CellErrorType, CellFormat, DataRef, Decimal, ExcelDateTime, ExcelDateTimeType};
 use part_events::PartEvent;
@@ -44,7 +44,7 @@ fn is_same(text: &str, other: &str) -> bool
     text.eq_ignore_ascii_case(other)
 }
 
-/// The truth value of a text, in small letters or capitals.
+/// The boolean of a text, in small letters or capitals.
 fn truth_of(text: &str) -> Option<bool>
     ensures { result ≡ lower_truth (str_to_ascii_lowercase text.now) }
 {
@@ -57,7 +57,7 @@ fn truth_of(text: &str) -> Option<bool>
     }
 }
 
-/// The value of the text of a truth value.
+/// The value of the text of a boolean.
 fn truth_value(alloc: Global, text: &str) -> Result<DataRef, XlsxError>
     ensures ok { IfOk result (λ own. truth_value text.now ≡ Ok (value_of_data_ref own)) }
     ensures err { IfErr result (λ error. (at behind : ℕ) →
@@ -135,14 +135,14 @@ fn number_value(
 /// have none.
 pub(crate) fn value_of_text(
     alloc: Global,
-    book: Book<'_>,
+    book: ValueContext<'_>,
     format: CellFormat,
     typ: &CellType,
     text: &str,
 ) -> Result<DataRef, XlsxError>
-    ensures ok { let answer = value_of_first (grounds_of book.entry) format (kind_of typ.now) in
+    ensures ok { let answer = value_of_first (context_of book.entry) format (kind_of typ.now) in
         IfOk result (λ own. answer text.now ≡ Ok (value_of_data_ref own)) }
-    ensures err { let answer = value_of_first (grounds_of book.entry) format (kind_of typ.now) in
+    ensures err { let answer = value_of_first (context_of book.entry) format (kind_of typ.now) in
         IfErr result (λ error. (at behind : ℕ) →
         ElementFails (answer text.now) at behind error) }
     ensures kind { IfErr result IsTextValueError }
@@ -162,15 +162,15 @@ pub(crate) fn value_of_text(
 /// The value of the first event in a `v` whose text is one event.
 pub(crate) fn value_of_event(
     alloc: Global,
-    book: Book<'_>,
+    book: ValueContext<'_>,
     format: CellFormat,
     typ: &CellType,
     event: PartEvent<'_>,
 ) -> Result<DataRef, XlsxError>
-    ensures ok { let read = value_of_first (grounds_of book.entry) format (kind_of typ.now) in
+    ensures ok { let read = value_of_first (context_of book.entry) format (kind_of typ.now) in
         IfOk result (λ own. (others : List Event) →
         of_first read (first_text (event_of event.entry ∷ others)) ≡ Ok (value_of_data_ref own)) }
-    ensures err { let read = value_of_first (grounds_of book.entry) format (kind_of typ.now) in
+    ensures err { let read = value_of_first (context_of book.entry) format (kind_of typ.now) in
         IfErr result (λ error. (at behind : ℕ) (others : List Event) →
         ElementFails (of_first read (first_text (event_of event.entry ∷ others))) at behind error) }
     ensures kind { IfErr result IsTextValueError }

@@ -1,7 +1,7 @@
 ghost use Rattle.std.specs.Prelude.{◌≡◌, IfOk};
 ghost use Rattle.std.specs.Option.{option_copied};
 ghost use Rattle.xlsx_values.specs.CellType.{kind_named};
-ghost use Rattle.xlsx_values.specs.Book.{kind_of};
+ghost use Rattle.xlsx_values.specs.ValueContext.{kind_of};
 
 use std::alloc::{AllocError, Global};
 

@@ -1,16 +1,14 @@
 ghost use Rattle.std.specs.Prelude.{◌≡◌, true, Ok, Some, codes, option_map, IfOk, IfErr};
-ghost use Rattle.part_events.specs.Reading.{IsReadingElement, ReadsElement, ahead};
-ghost use Rattle.part_events.specs.Section.{content};
-ghost use Rattle.cell_data.specs.CellValue.{value_of_data_ref};
+ghost use Rattle.part_events.specs.Words.{IsReadingElement, ReadsElement, ahead, content};
+ghost use Rattle.cell_data.specs.Words.{value_of_data_ref};
 ghost use Rattle.xlsx_error.specs.declared.error.XlsxError.TheVariants.{Io};
-ghost use Rattle.xlsx_sections.specs.Elements.{ElementReadFails};
-ghost use Rattle.xlsx_sections.specs.PartSection.{always};
+ghost use Rattle.xlsx_sections.specs.Words.{ElementReadFails, always};
 ghost use Rattle.xlsx_strings.specs.Strings.{end_in_string, IsStringError};
-ghost use Rattle.xlsx_values.specs.Book.{kind_of, grounds_of, IsValueError};
+ghost use Rattle.xlsx_values.specs.ValueContext.{kind_of, context_of, IsValueError};
 ghost use Rattle.xlsx_values.specs.Value.{first_event_value, joined_value, value_element};
 ghost use Rattle.xlsx_values.specs.Value.{inline_value, end_in_first, end_in_value};
 
-use crate::book::Book;
+use crate::context::ValueContext;
 use crate::text_value::{value_of_event, value_of_joined};
 use crate::types::CellType;
 use cell_data::{CellFormat, DataRef};
@@ -23,17 +21,17 @@ use xlsx_strings::read_string;
 #[tactic(auto, using(crate::proofs::ValuesRead::value_errors))]
 fn read_first<P: Package>(
     xml: &mut XlReader<P>,
-    book: Book<'_>,
+    book: ValueContext<'_>,
     format: CellFormat,
     typ: &CellType,
 ) -> Result<DataRef, XlsxError>
     requires element { IsReadingElement xml.old }
     ensures reads { ReadsElement Io result xml.old xml.new }
-    ensures value { let grounds = grounds_of book.entry in
-        let answer = first_event_value grounds format (kind_of typ.now) in
-        xml.old.source.is_told ≡ true → IfOk result (λ own.
+    ensures value { let context = context_of book.entry in
+        let answer = first_event_value context format (kind_of typ.now) in
+        xml.old.source.is_visible ≡ true → IfOk result (λ own.
         answer (content 0 (ahead xml.old)) ≡ Ok (value_of_data_ref own)) }
-    ensures err { let answer = first_event_value (grounds_of book.entry) format (kind_of typ.now) in
+    ensures err { let answer = first_event_value (context_of book.entry) format (kind_of typ.now) in
         IfErr result (ElementReadFails end_in_first answer xml.old xml.new) }
     ensures kind { IfErr result IsValueError }
 {
@@ -53,7 +51,7 @@ fn read_first<P: Package>(
 fn read_joined<P: Package>(xml: &mut XlReader<P>, typ: &CellType) -> Result<DataRef, XlsxError>
     requires element { IsReadingElement xml.old }
     ensures reads { ReadsElement Io result xml.old xml.new }
-    ensures value { xml.old.source.is_told ≡ true → IfOk result (λ own.
+    ensures value { xml.old.source.is_visible ≡ true → IfOk result (λ own.
         joined_value (kind_of typ.now) (content 0 (ahead xml.old)) ≡ Ok (value_of_data_ref own)) }
     ensures err { IfErr result
         (ElementReadFails (always (codes "v")) (joined_value (kind_of typ.now)) xml.old xml.new) }
@@ -78,17 +76,17 @@ fn read_joined<P: Package>(xml: &mut XlReader<P>, typ: &CellType) -> Result<Data
 #[tactic(auto, using(crate::proofs::ValuesRead::value_errors))]
 pub fn read_value<P: Package>(
     xml: &mut XlReader<P>,
-    book: Book<'_>,
+    book: ValueContext<'_>,
     format: CellFormat,
     typ: &CellType,
 ) -> Result<Option<DataRef>, XlsxError>
     requires element { IsReadingElement xml.old }
     ensures reads { ReadsElement Io result xml.old xml.new }
-    ensures value { let answer = value_element (grounds_of book.entry) format (kind_of typ.now) in
-        xml.old.source.is_told ≡ true → IfOk result (λ found.
+    ensures value { let answer = value_element (context_of book.entry) format (kind_of typ.now) in
+        xml.old.source.is_visible ≡ true → IfOk result (λ found.
         answer (content 0 (ahead xml.old)) ≡ Ok (option_map value_of_data_ref found)) }
     ensures err { let kind = kind_of typ.now in
-        let answer = value_element (grounds_of book.entry) format kind in
+        let answer = value_element (context_of book.entry) format kind in
         IfErr result (ElementReadFails (end_in_value kind) answer xml.old xml.new) }
     ensures kind { IfErr result IsValueError }
 {
@@ -119,7 +117,7 @@ pub fn read_value<P: Package>(
 pub fn read_inline<P: Package>(xml: &mut XlReader<P>) -> Result<DataRef, XlsxError>
     requires element { IsReadingElement xml.old }
     ensures reads { ReadsElement Io result xml.old xml.new }
-    ensures value { xml.old.source.is_told ≡ true → IfOk result (λ own.
+    ensures value { xml.old.source.is_visible ≡ true → IfOk result (λ own.
         inline_value (content 0 (ahead xml.old)) ≡ Ok (value_of_data_ref own)) }
     ensures err { IfErr result (ElementReadFails end_in_string inline_value xml.old xml.new) }
     ensures kind { IfErr result IsStringError }

@@ -4,23 +4,21 @@ use Rattle.std.proofs.Common.{Option, Some, None, Result, Ok, Err, refl, sym, �
 use Rattle.std.proofs.Common.{append_assoc, string_bytes, String, Global, [], if◌then◌else◌}
 use Rattle.std.specs.List.{flat_map}
 use Rattle.std.specs.Prelude.{is_some, option_map}
-use Rattle.part_events.specs.Event.{Tag, Event, start, end, leaf, is_start}
-use Rattle.part_events.specs.JoinedText.{joined_text, event_text, is_unknown, unknown_entity}
-use Rattle.part_events.specs.Reading.{Reading, TakesEvent, StepsAhead, ahead}
-use Rattle.part_events.specs.Section.{Element, content}
-use Rattle.part_events.specs.Walk.{section_ahead, section_end, section_behind}
+use Rattle.part_events.specs.Words.{Tag, Event, start, end, leaf, is_start, joined_text, event_text}
+use Rattle.part_events.specs.Words.{is_unknown, unknown_entity, Reading, TakesEvent, StepsAhead}
+use Rattle.part_events.specs.Words.{ahead, Element, content, section_ahead, section_end}
+use Rattle.part_events.specs.Words.{section_behind}
 use Rattle.part_events.specs.declared.fault.XmlFault.TheVariants.{Entity}
 use Rattle.part_events.proofs.Walking.{next_element}
 use Rattle.xlsx_error.specs.declared.error.XlsxError.{XlsxError}
 use Rattle.xlsx_error.specs.declared.error.XlsxError.TheVariants.{OutOfMemory, Xml}
-use Rattle.xlsx_sections.specs.Answers.{some_answers, and_others_if, or_earlier, prepended}
-use Rattle.xlsx_sections.specs.PartSection.{PartSection, inside_of}
-use Rattle.xlsx_sections.specs.Refusal.{Refusal, RefusedAt, no_character, placed_at}
-use Rattle.xlsx_sections.specs.Names.{name_by}
+use Rattle.xlsx_sections.specs.Words.{some_answers, and_others_if, or_earlier, prepended}
+use Rattle.xlsx_sections.specs.Words.{PartSection, inside_of, Refusal, RefusedAt, no_character}
+use Rattle.xlsx_sections.specs.Words.{placed_at, name_by}
 use Rattle.xlsx_workbook.specs.DefinedNames.{name_with_text, defined_name, is_defined_name}
 use Rattle.xlsx_workbook.specs.DefinedNames.{names_in, behind_in_section, scope_of, scope_said}
 use Rattle.xlsx_workbook.specs.DefinedNames.{scope_where_named, scopes_in}
-use Rattle.xlsx_relationships.specs.Relationships.{Related}
+use Rattle.xlsx_relationships.specs.Words.{Related}
 use Rattle.xlsx_workbook.specs.Sheets.{is_sheet, is_properties, sheet_of, epoch_of, sheets_in}
 use Rattle.xlsx_workbook.specs.Sheets.{epoch_in}
 use Rattle.xlsx_workbook.specs.Workbook.{KeepsSheets, AreSheetsRefused, AreContentsRefused}

@@ -1,17 +1,14 @@
 -- Which refusals of the layers below are refusals of the workbook's own part.
 use Rattle.std.proofs.Common.{◌≡◌, ℕ, List, Bool, true, Option, Result, Err, codes, ap, arith}
-use Rattle.part_events.specs.Event.{Event}
-use Rattle.part_events.specs.JoinedText.{is_unknown}
+use Rattle.part_events.specs.Words.{Event, is_unknown}
 use Rattle.part_events.specs.declared.fault.XmlFault.TheVariants.{Break, Entity}
 use Rattle.xlsx_error.specs.declared.error.XlsxError.{XlsxError}
 use Rattle.xlsx_error.specs.declared.error.XlsxError.TheVariants.{OutOfMemory, Io, Xml, XmlAttr}
 use Rattle.xlsx_error.specs.declared.error.XlsxError.TheVariants.{XmlEof}
-use Rattle.xlsx_sections.specs.Names.{IsNameError}
-use Rattle.xlsx_sections.specs.PartSection.{IsStepError}
-use Rattle.xlsx_sections.specs.Refusal.{Refusal, RefusedAt, ElementFails}
-use Rattle.xlsx_sections.specs.Refusal.{IsDecodeError, no_character}
+use Rattle.xlsx_sections.specs.Words.{IsNameError, IsStepError, Refusal, RefusedAt, ElementFails}
+use Rattle.xlsx_sections.specs.Words.{IsDecodeError, no_character}
 use Rattle.xlsx_sections.proofs.Refused.{refused_at_weaker}
-use Rattle.xlsx_relationships.specs.Relationships.{Related}
+use Rattle.xlsx_relationships.specs.Words.{Related}
 use Rattle.xlsx_workbook.specs.Sheets.{named_sheet}
 use Rattle.xlsx_workbook.specs.Workbook.{TextRefused}
 use Rattle.xlsx_workbook.specs.WorkbookErrors.{IsWorkbookError}

@@ -2,15 +2,11 @@
 use Rattle.std.specs.Prelude.{ℕ, ◌+◌, ◌-◌, ◌^◌, List, [], ◌∷◌, length, Bool, false, codes, Option}
 use Rattle.std.specs.Prelude.{Some, None, Result, Ok, Err}
 use Rattle.std.specs.List.{flat_map}
-use Rattle.attr_text.specs.Attributes.{value_of}
+use Rattle.attr_text.specs.Words.{value_of}
 use Rattle.attr_text.specs.declared.fault.AttrFault.{AttrFault}
-use Rattle.part_events.specs.Event.{Tag, Event}
-use Rattle.part_events.specs.JoinedText.{joined_text, unknown_entity}
-use Rattle.part_events.specs.Section.{Element, outermost, is_named}
-use Rattle.xlsx_sections.specs.Answers.{some_answers}
-use Rattle.xlsx_sections.specs.Names.{name_by}
-use Rattle.xlsx_sections.specs.NumberText.{number_below}
-use Rattle.xlsx_sections.specs.Refusal.{Refusal, no_character}
+use Rattle.part_events.specs.Words.{Tag, Event, joined_text, unknown_entity, Element, outermost}
+use Rattle.part_events.specs.Words.{is_named}
+use Rattle.xlsx_sections.specs.Words.{some_answers, name_by, number_below, Refusal, no_character}
 use Rattle.xlsx_workbook.specs.declared.name_scope.NameScope.{NameScope}
 use Rattle.xlsx_workbook.specs.declared.name_scope.NameScope.TheVariants.{Workbook, Sheet, Unread}
 
@@ -40,7 +36,7 @@ defined_name element =
     name_with_text element.inside element.behind
     (name_by (record { tag = element.tag; behind = element.behind }))
 
--- a start is a defined name
+-- a start of the element `definedName`
 abbrev pub is_defined_name : Tag → Bool
 is_defined_name tag = is_named (codes "definedName" ∷ []) tag
 

@@ -4,7 +4,7 @@ use Rattle.std.specs.Arc.{arc_str_bytes}
 use Rattle.std.specs.declared.alloc.Global.{Global}
 use Rattle.xlsx_workbook.specs.Paths.{sheet_part}
 use Rattle.xlsx_workbook.specs.Sheets as sheets
-use Rattle.xlsx_workbook.specs.declared.paths.KeptPath.{KeptPath}
+use Rattle.xlsx_workbook.specs.declared.paths.PartPath.{PartPath}
 use Rattle.xlsx_workbook.specs.declared.sheet.Metadata.{Metadata}
 use Rattle.xlsx_workbook.specs.declared.sheet.Sheet.{Sheet}
 use Rattle.xlsx_workbook.specs.declared.sheet.SheetEntry.{SheetEntry}
@@ -12,7 +12,7 @@ use Rattle.xlsx_workbook.specs.declared.sheet.SheetType.{SheetType}
 use Rattle.xlsx_workbook.specs.declared.sheet.SheetVisible.{SheetVisible}
 
 -- the path of a sheet's part, of which its folder and its target are kept
-abbrev pub path_kept : KeptPath → List ℕ
+abbrev pub path_kept : PartPath → List ℕ
 path_kept path = sheet_part (arc_str_bytes path.folder) (arc_str_bytes path.target)
 
 -- the sheet of an entry, with its path

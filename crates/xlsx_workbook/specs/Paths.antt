@@ -1,18 +1,20 @@
 -- The paths of a workbook's parts.
 use Rattle.std.specs.Prelude.{ℕ, List, ◌++◌, length, ◌==◌, if◌then◌else◌, codes, unwrap_or}
-use Rattle.xlsx_relationships.specs.Paths.{behind_slash, last_piece, folder_of}
+use Rattle.xlsx_relationships.specs.Words.{behind_slash, last_piece, folder_of}
 
 -- the name of the workbook's part in its folder
-abbrev pub file_of : List ℕ → List ℕ
-file_of path = if length (last_piece path) == 0 then codes "workbook.xml" else last_piece path
+abbrev pub name_in_folder : List ℕ → List ℕ
+name_in_folder path = if length (last_piece path) == 0 then codes "workbook.xml"
+    else last_piece path
 
--- where the workbook's own part is, and its relationships, shared strings, theme and styles
+-- the path of the workbook's own part
 abbrev pub workbook_part : List ℕ → List ℕ
-workbook_part path = folder_of path ++ file_of path
+workbook_part path = folder_of path ++ name_in_folder path
 
 -- the path of the relationships of the workbook at this path
 abbrev pub relationships_part : List ℕ → List ℕ
-relationships_part path = ((folder_of path ++ codes "_rels/") ++ file_of path) ++ codes ".rels"
+relationships_part path = ((folder_of path ++ codes "_rels/") ++ name_in_folder path)
+    ++ codes ".rels"
 
 -- the path of the shared strings beside the workbook at this path
 abbrev pub strings_part : List ℕ → List ℕ
@@ -26,6 +28,6 @@ theme_part path = folder_of path ++ codes "theme/theme1.xml"
 abbrev pub styles_part : List ℕ → List ℕ
 styles_part path = folder_of path ++ codes "styles.xml"
 
--- where a sheet's part is, by the target of its relationship
+-- the path of a sheet's part, by the target of its relationship
 abbrev pub sheet_part : List ℕ → List ℕ → List ℕ
 sheet_part folder target = unwrap_or (behind_slash target) (folder ++ target)

@@ -2,16 +2,14 @@
 use Rattle.std.specs.Prelude.{ℕ, List, [], ◌∷◌, Bool, ◌||◌, if◌then◌else◌, codes, Option, Some}
 use Rattle.std.specs.Prelude.{None, unwrap_or, option_map, Result, Ok, Err}
 use Rattle.std.specs.Str.{bytes_eq}
-use Rattle.attr_text.specs.Attributes.{lookup, value_of, value_of_local}
+use Rattle.attr_text.specs.Words.{lookup, value_of, value_of_local}
 use Rattle.attr_text.specs.declared.fault.AttrFault.{AttrFault}
-use Rattle.part_events.specs.Event.{Tag, Event}
-use Rattle.part_events.specs.Section.{PlacedTag, starts_by, is_named}
-use Rattle.xlsx_sections.specs.Answers.{all_answers, last_answer, with_two}
-use Rattle.xlsx_sections.specs.Refusal.{Refusal, plain, lookup_fault, unknown_state, unrelated}
-use Rattle.xlsx_sections.specs.Refusal.{unknown_type, decoded_at}
-use Rattle.xlsx_relationships.specs.Paths.{last_piece}
+use Rattle.part_events.specs.Words.{Tag, Event, PlacedTag, starts_by, is_named}
+use Rattle.xlsx_sections.specs.Words.{all_answers, last_answer, with_two, Refusal, plain}
+use Rattle.xlsx_sections.specs.Words.{lookup_fault, unknown_state, unrelated, unknown_type}
+use Rattle.xlsx_sections.specs.Words.{decoded_at}
+use Rattle.xlsx_relationships.specs.Words.{last_piece, Related}
 use Rattle.xlsx_workbook.specs.Paths.{sheet_part}
-use Rattle.xlsx_relationships.specs.Relationships.{Related}
 use Rattle.xlsx_workbook.specs.declared.sheet.SheetType.{SheetType}
 use Rattle.xlsx_workbook.specs.declared.sheet.SheetType.TheVariants.{WorkSheet, ChartSheet}
 use Rattle.xlsx_workbook.specs.declared.sheet.SheetType.TheVariants.{DialogSheet}
@@ -32,7 +30,7 @@ state_named text =
     else (if bytes_eq text (codes "hidden") then Some Hidden
     else (if bytes_eq text (codes "veryHidden") then Some VeryHidden else None))
 
--- the type that a text names
+-- the type of a sheet that a text names
 abbrev pub type_named : List ℕ → Option SheetType
 type_named text =
     if bytes_eq text (codes "worksheet") then Some WorkSheet
@@ -101,7 +99,7 @@ sheet_of folder related start =
     sheet_by folder related start
     (lookup (codes "name" ∷ codes "state" ∷ []) start.tag.attributes)
 
--- a start is a sheet of the workbook
+-- a start of the element `sheet`, a sheet of the workbook
 abbrev pub is_sheet : Tag → Bool
 is_sheet tag = is_named (codes "sheet" ∷ []) tag
 
@@ -124,10 +122,11 @@ epoch_by (Err fault) = Err (plain (lookup_fault fault))
 abbrev pub epoch_of : PlacedTag → Result (Option Bool) Refusal
 epoch_of start = epoch_by (value_of (codes "date1904") start.tag.attributes)
 
--- a start tells the properties of the workbook
+-- a start of the element `workbookPr`, which tells the properties of the workbook
 abbrev pub is_properties : Tag → Bool
 is_properties tag = is_named (codes "workbookPr" ∷ []) tag
 
--- what the last start says of it that says something
+-- whether dates count from 1904, by the last start that tells the properties of the workbook and
+-- says so
 abbrev pub epoch_in : List Event → Result (Option Bool) Refusal
 epoch_in inside = last_answer epoch_of (starts_by is_properties inside)

@@ -2,24 +2,20 @@
 use Rattle.std.specs.Prelude.{◌≡◌, ◌⊎◌, ⊤, ℕ, List, length, map, Bool, true, false, Option, Result}
 use Rattle.std.specs.Prelude.{Ok, Err}
 use Rattle.std.specs.Arc.{arc_str_bytes}
-use Rattle.part_events.specs.Event.{Event, start, end, leaf}
-use Rattle.part_events.specs.JoinedText.{is_unknown}
-use Rattle.part_events.specs.Section.{content}
+use Rattle.part_events.specs.Words.{Event, start, end, leaf, is_unknown, content}
 use Rattle.part_events.specs.declared.fault.XmlFault.TheVariants.{Entity}
 use Rattle.xlsx_error.specs.declared.error.XlsxError.{XlsxError}
 use Rattle.xlsx_error.specs.declared.error.XlsxError.TheVariants.{OutOfMemory, Xml}
-use Rattle.xlsx_sections.specs.Answers.{and_others_if, or_earlier, prepended}
-use Rattle.xlsx_sections.specs.PartSection.{PartSection, inside_of}
-use Rattle.xlsx_sections.specs.Refusal.{Refusal}
+use Rattle.xlsx_sections.specs.Words.{and_others_if, or_earlier, prepended, PartSection, inside_of}
+use Rattle.xlsx_sections.specs.Words.{Refusal}
 use Rattle.xlsx_workbook.specs.DefinedNames.{name_with_text, is_defined_name, names_in, scopes_in}
 use Rattle.xlsx_workbook.specs.KeptContents.{pair_of, sheet_of_entry}
-use Rattle.xlsx_relationships.specs.KeptRelationships.{related_by_id}
-use Rattle.xlsx_relationships.specs.Relationships.{Related}
+use Rattle.xlsx_relationships.specs.Words.{related_by_id, Related}
 use Rattle.xlsx_workbook.specs.Sheets.{PlacedSheet, sheets_in, epoch_in}
 use Rattle.xlsx_workbook.specs.declared.workbook.SheetPlaces.{SheetPlaces}
 use Rattle.xlsx_workbook.specs.declared.workbook.WorkbookContents.{WorkbookContents}
 
--- the sheets of a workbook
+-- the sheets of a workbook as they are kept, with their paths
 abbrev pub sheets_of : WorkbookContents → List PlacedSheet
 sheets_of found = map sheet_of_entry found.entries.items
 
@@ -114,7 +110,7 @@ IsContentsAt places inside found =
     IsContents (arc_str_bytes places.folder.now) (related_by_id places.relationships.now) inside
     found
 
--- and why it can't be taken
+-- why a workbook's section can't be taken, whose sheets lie at these places
 abbrev pub AreContentsRefusedAt : SheetPlaces → PartSection → Refusal → Type 0
 AreContentsRefusedAt places =
     AreContentsRefused (arc_str_bytes places.folder.now) (related_by_id places.relationships.now)

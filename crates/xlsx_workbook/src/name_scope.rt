@@ -1,7 +1,7 @@
 ghost use Rattle.std.specs.Prelude.{◌≡◌, ◌++◌, ◌^◌, [], ◌∷◌, if◌then◌else◌, Ok, OnOk};
 ghost use Rattle.std.specs.Option.{option_copied};
-ghost use Rattle.part_events.specs.Event.{tag_of};
-ghost use Rattle.xlsx_sections.specs.NumberText.{number_below};
+ghost use Rattle.part_events.specs.Words.{tag_of};
+ghost use Rattle.xlsx_sections.specs.Words.{number_below};
 ghost use Rattle.xlsx_workbook.specs.DefinedNames.{scope_numbered, scope_by, scope_of};
 
 use attr_text::RawAttributes;

@@ -1,4 +1,4 @@
-use crate::paths::KeptPath;
+use crate::paths::PartPath;
 
 /// What kind of a sheet it is.
 #[derive(Clone, Copy, Debug, PartialEq, Eq, Hash)]
@@ -36,5 +36,5 @@ pub struct Metadata {
 #[derive(Debug, Drop)]
 pub struct SheetEntry {
     pub sheet: Sheet,
-    pub path: KeptPath,
+    pub path: PartPath,
 }

@@ -2,17 +2,16 @@ ghost use Rattle.std.specs.Prelude.{◌≡◌, ℕ, List, Bool, map, Option, Res
 ghost use Rattle.std.specs.Prelude.{string_bytes, IfOk, OnOk, IfErr, MatchResult};
 ghost use Rattle.std.specs.Arc.{arc_str_bytes};
 ghost use Rattle.std.specs.Option.{option_copied};
-ghost use Rattle.part_events.specs.Event.{tag_of};
-ghost use Rattle.xlsx_sections.specs.Answers.{and_others, prepended, or_earlier, or_later};
-ghost use Rattle.xlsx_sections.specs.Refusal.{Refusal, plain, ElementFails, lookup_fault};
-ghost use Rattle.xlsx_sections.specs.Refusal.{placed_at};
-ghost use Rattle.xlsx_relationships.specs.KeptRelationships.{relationship_of, related_by_id};
+ghost use Rattle.part_events.specs.Words.{tag_of};
+ghost use Rattle.xlsx_sections.specs.Words.{and_others, prepended, or_earlier, or_later, Refusal};
+ghost use Rattle.xlsx_sections.specs.Words.{plain, ElementFails, lookup_fault, placed_at};
+ghost use Rattle.xlsx_relationships.specs.Words.{relationship_of, related_by_id};
 ghost use Rattle.xlsx_workbook.specs.KeptContents.{sheet_of_entry};
 ghost use Rattle.xlsx_workbook.specs.Sheets.{PlacedSheet, state_named, type_named, sheet_of};
 ghost use Rattle.xlsx_workbook.specs.Sheets.{related_sheet, is_true_text, epoch_of};
 ghost use Rattle.xlsx_workbook.specs.WorkbookErrors.{IsWorkbookError};
 
-use crate::paths::KeptPath;
+use crate::paths::PartPath;
 use crate::sheet::{Sheet, SheetEntry, SheetType, SheetVisible};
 use attr_text::{AttrFault, RawAttributes, get_attrs};
 use part_events::StartTag;
@@ -66,7 +65,7 @@ fn related_sheet(
     let Some(relationship) = relationship else {
         return Err(XlsxError::RelationshipNotFound);
     };
-    let path = KeptPath::new(folder, &relationship.target)?;
+    let path = PartPath::new(folder, &relationship.target)?;
     match type_named(last_piece(relationship.typ.as_str())) {
         Some(typ) => Ok(SheetEntry {
             sheet: Sheet { name, typ, visible },

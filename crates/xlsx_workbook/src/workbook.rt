@@ -1,26 +1,21 @@
-ghost use Rattle.std.specs.Prelude.{◌≡◌, ◌<◌, ◌≤◌, List, ◌∷◌, ◌++◌, suc, codes, length, map};
-ghost use Rattle.std.specs.Prelude.{true, false, None, Ok, option_map, option_to_list};
-ghost use Rattle.std.specs.Prelude.{string_bytes, IfOk, OnOk, IfErr, MatchOption, IsSomeAnd};
+ghost use Rattle.std.specs.Prelude.{◌≡◌, ◌<◌, ◌≤◌, List, ◌∷◌, ◌++◌, suc, codes, length, map, true};
+ghost use Rattle.std.specs.Prelude.{false, None, Ok, option_map, option_to_list, string_bytes};
+ghost use Rattle.std.specs.Prelude.{IfOk, OnOk, IfErr, MatchOption, IsSomeAnd};
 ghost use Rattle.std.specs.Arc.{arc_str_bytes};
-ghost use Rattle.part_events.specs.Event.{Event, start, tag_of, event_of};
-ghost use Rattle.part_events.specs.JoinedText.{event_text, is_unknown};
-ghost use Rattle.part_events.specs.Package.{Uses, part_of, event_count};
-ghost use Rattle.part_events.specs.Reading.{IsReading, ReadsElement, ReadsPart, ahead};
-ghost use Rattle.part_events.specs.Section.{content};
-ghost use Rattle.part_events.specs.Walk.{section_ahead, is_closed_ahead, section_end};
+ghost use Rattle.part_events.specs.Words.{Event, start, tag_of, event_of, event_text, is_unknown};
+ghost use Rattle.part_events.specs.Words.{Uses, part_of, event_count, IsReading, ReadsElement};
+ghost use Rattle.part_events.specs.Words.{ReadsPart, ahead, content, section_ahead};
+ghost use Rattle.part_events.specs.Words.{is_closed_ahead, section_end};
 ghost use Rattle.xlsx_error.specs.declared.error.XlsxError.TheVariants.{Io, OutOfMemory};
-ghost use Rattle.xlsx_sections.specs.PartSection.{always, KeepsSection, SectionFails};
-ghost use Rattle.xlsx_sections.specs.PartSection.{OptionalPartFails, closed_section_of};
-ghost use Rattle.xlsx_sections.specs.Refusal.{RefusedAt};
-ghost use Rattle.xlsx_sections.specs.SectionEvents.{ReadsToEnd};
-ghost use Rattle.xlsx_relationships.specs.KeptRelationships.{related_by_id};
+ghost use Rattle.xlsx_sections.specs.Words.{always, KeepsSection, SectionFails, OptionalPartFails};
+ghost use Rattle.xlsx_sections.specs.Words.{closed_section_of, RefusedAt, ReadsToEnd};
+ghost use Rattle.xlsx_relationships.specs.Words.{related_by_id};
 ghost use Rattle.xlsx_workbook.specs.DefinedNames.{is_defined_name};
 ghost use Rattle.xlsx_workbook.specs.KeptContents.{pair_of};
 ghost use Rattle.xlsx_workbook.specs.Workbook.{KeepsSheets, AreSheetsRefused, names_of};
-ghost use Rattle.xlsx_workbook.specs.Workbook.{TextRefused, KeepsName};
-ghost use Rattle.xlsx_workbook.specs.Workbook.{is_name_start, IsContents, AreContentsRefused};
-ghost use Rattle.xlsx_workbook.specs.Workbook.{KeepsSheetsAt, IsNameRefusedAt, IsContentsAt};
-ghost use Rattle.xlsx_workbook.specs.Workbook.{AreContentsRefusedAt};
+ghost use Rattle.xlsx_workbook.specs.Workbook.{TextRefused, KeepsName, is_name_start, IsContents};
+ghost use Rattle.xlsx_workbook.specs.Workbook.{AreContentsRefused, KeepsSheetsAt, IsNameRefusedAt};
+ghost use Rattle.xlsx_workbook.specs.Workbook.{IsContentsAt, AreContentsRefusedAt};
 ghost use Rattle.xlsx_workbook.specs.WorkbookErrors.{IsWorkbookError};
 
 use crate::name_scope::{NameScope, push_scope, scope_of};
@@ -179,11 +174,11 @@ fn read_name<P: Package>(
     requires within { base < length xml.old.names }
     ensures reads { ReadsElement Io result xml.old xml.new }
     ensures section { OnOk result (KeepsSection base xml.old xml.new) }
-    ensures sheets { xml.old.source.is_told ≡ true →
+    ensures sheets { xml.old.source.is_visible ≡ true →
         OnOk result (KeepsSheetsAt places.entry
         found.old (section_ahead base xml.old) found.new (section_ahead base xml.new)) }
     ensures names { let inside = content 0 (ahead xml.old) in
-        xml.old.source.is_told ≡ true →
+        xml.old.source.is_visible ≡ true →
         OnOk result (KeepsName (option_map string_bytes name) inside
         (length (section_ahead base xml.old)) (names_of found.old) (names_of found.new)) }
     ensures scopes { OnOk result (found.new.scopes ≡ found.old.scopes) }
@@ -227,11 +222,11 @@ fn contents_in<P: Package>(
     requires reading { IsReading xml.old }
     requires within { base ≤ length xml.old.names }
     ensures reads { ReadsPart Io result xml.old xml.new }
-    ensures closed { xml.old.source.is_told ≡ true →
+    ensures closed { xml.old.source.is_visible ≡ true →
         OnOk result (is_closed_ahead base xml.old ≡ true) }
-    ensures ends { xml.old.source.is_told ≡ true →
+    ensures ends { xml.old.source.is_visible ≡ true →
         OnOk result (xml.new.at ≡ suc (section_end base xml.old)) }
-    ensures contents { xml.old.source.is_told ≡ true →
+    ensures contents { xml.old.source.is_visible ≡ true →
         IfOk result (IsContentsAt places.entry (section_ahead base xml.old)) }
     ensures err { let refused = AreContentsRefusedAt places.entry in
         IfErr result (SectionFails (always (codes "workbook")) refused base xml.old xml.new) }
@@ -276,7 +271,7 @@ pub fn read_contents<P: Package>(
         let folder = arc_str_bytes places.entry.folder.now in
         let related = related_by_id places.entry.relationships.now in
         let inside = closed_section_of (codes "workbook") part.now old.parts in
-        old.is_told ≡ true → IfOk result (λ found. MatchOption found
+        old.is_visible ≡ true → IfOk result (λ found. MatchOption found
         (part_of old.parts part.now ≡ None)
         (λ contents. IsSomeAnd inside (λ inside. IsContents folder related inside contents))) }
     ensures err { let folder = arc_str_bytes places.entry.folder.now in

@@ -1,21 +1,20 @@
 -- An archive that is written, read from its end.
-use Rattle.std.proofs.Common.{◌≡◌, ℕ, ◌+◌, ◌-◌, List, [], ◌∷◌, ◌++◌, length, take}
-use Rattle.std.proofs.Common.{true, false, Some, Ok, refl, sym, ap, ap₂, ◌∙◌, arith, nat_lt}
-use Rattle.std.proofs.Common.{length-append, append_assoc, length-drop, nat_le, drop, Bool, ◌==◌}
-use Rattle.std.proofs.Common.{◌&&◌, ◌≤◌}
+use Rattle.std.proofs.Common.{◌≡◌, ℕ, ◌+◌, ◌-◌, List, [], ◌∷◌, ◌++◌, length, take, true, false}
+use Rattle.std.proofs.Common.{Some, Ok, refl, sym, ap, ap₂, ◌∙◌, arith, nat_lt, length-append}
+use Rattle.std.proofs.Common.{append_assoc, length-drop, nat_le, drop, Bool, ◌==◌, ◌&&◌, ◌≤◌}
 use Rattle.std.specs.Str.{bytes_eq}
 use Rattle.std.proofs.lemmas.Bool.{and_from, cond-false, eq-eqb, le-leb, le-ltb, leb-true}
 use Rattle.std.proofs.Math.Seq.{drop-append_seam}
 use Rattle.std.proofs.lemmas.List.{drop-append-le, take-append-le}
-use Rattle.inflate.specs.Bits.{number_of}
-use Rattle.zip_writer.specs.Written.{File, entry, entries, directory, ending, written, IsWritable}
-use Rattle.zip_writer.specs.Written.{IsPlain, front, has_locator}
+use Rattle.inflate.specs.Bits.{number_spelled}
+use Rattle.zip_writer.specs.Written.{File, entry, entries, directory, ending, written}
+use Rattle.zip_writer.specs.Written.{IsWritableArchive, IsPlain, front, has_locator}
 use Rattle.zip_writer.proofs.Lengths.{length-ending, length-written, length_both}
-use Rattle.zip_archive.specs.Ends.{is_end, is_wide, last_end, end_before}
+use Rattle.zip_archive.specs.Words.{is_end, is_wide, end_before, archive_at, archive_by}
+use Rattle.zip_archive.specs.Words.{archive_with, compound_mark, entries_from, field_number}
+use Rattle.zip_archive.specs.Ends.{last_end}
+use Rattle.zip_archive.specs.Entries.{archive_of}
 use Rattle.zip_archive.specs.Ends as ends
-use Rattle.zip_archive.specs.Entries.{archive_at, archive_by, archive_of, archive_with}
-use Rattle.zip_archive.specs.Entries.{compound_mark, entries_from}
-use Rattle.zip_archive.specs.Fields.{field}
 use Rattle.zip_archive.specs.declared.ends.Directory.{Directory}
 use Rattle.zip_archive.proofs.LastEnds.{end_here}
 use Rattle.zip_reads_back.specs.ReadArchive.{AreBytes, archive_of_files}
@@ -59,7 +58,7 @@ end_long files =
       length-ending (length files) (length (directory 0 files)) (length (entries files)),
     )
 
-told : (files : List File) → IsWritable files →
+told : (files : List File) → IsWritableArchive files →
     EndTells (length (directory 0 files)) (length (entries files)) (last files)
 told files is =
     let all = length-written files in
@@ -68,19 +67,19 @@ told files is =
     (omega (arith, is.size)) (omega (arith, is.size))
 
 end_field : (files : List File) (n k : ℕ) →
-    field n (length (front files) + k) (written files) ≡ field n k (last files)
+    field_number n (length (front files) + k) (written files) ≡ field_number n k (last files)
 end_field files n k =
-    ap (field n (length (front files) + k)) (cut_at_end files)
+    ap (field_number n (length (front files) + k)) (cut_at_end files)
     ∙ field_behind n k (front files) (last files)
 
-end_mark : (files : List File) → field 4 (length (front files)) (written files)
-    ≡ field 4 0 (last files)
+end_mark : (files : List File) → field_number 4 (length (front files)) (written files)
+    ≡ field_number 4 0 (last files)
 end_mark files =
-    ap (field 4 (length (front files))) (cut_at_end files)
-    ∙ ap (λ bytes. number_of (take 4 bytes)) (drop-append_seam (front files) (last files))
+    ap (field_number 4 (length (front files))) (cut_at_end files)
+    ∙ ap (λ bytes. number_spelled (take 4 bytes)) (drop-append_seam (front files) (last files))
 
 -- the record of the end stands where it was written
-end_is : (files : List File) → IsWritable files →
+end_is : (files : List File) → IsWritableArchive files →
     is_end (length (front files)) (written files) ≡ true
 end_is files is =
     let long = end_long files in
@@ -89,7 +88,7 @@ end_is files is =
     (eq-eqb _ _ (end_mark files ∙ (told files is).mark)))
     (le-leb _ _ (omega (arith, end_field files 2 20, (told files is).comment_length)))
 
-last_end_there : (files : List File) → IsWritable files →
+last_end_there : (files : List File) → IsWritableArchive files →
     last_end (written files) ≡ Some (length (front files))
 unfolding last_end
 last_end_there files is =
@@ -101,25 +100,26 @@ last_end_there files is =
 
 -- what stands in front of the record of the end is read as it stands
 mark_there : (bytes more : List ℕ) → 20 ≤ length bytes →
-    field 4 (length bytes - 20) (bytes ++ more)
-    ≡ number_of (take 4 (drop (length bytes - 20) bytes))
+    field_number 4 (length bytes - 20) (bytes ++ more)
+    ≡ number_spelled (take 4 (drop (length bytes - 20) bytes))
 mark_there bytes more long =
-    ap (λ xs. number_of (take 4 xs)) (drop-append-le (length bytes - 20) bytes more (omega arith))
-    ∙ ap number_of (take-append-le 4 (drop (length bytes - 20) bytes) more
+    ap (λ xs. number_spelled (take 4 xs)) (drop-append-le (length bytes - 20) bytes more
+    (omega arith))
+    ∙ ap number_spelled (take-append-le 4 (drop (length bytes - 20) bytes) more
     (omega (arith, length-drop (length bytes - 20) bytes)))
 
 -- without the mark of a locator, there are no records of 64 bits
 narrow_by : (long : Bool) (bytes more : List ℕ) → nat_le 76 (length bytes) ≡ long →
     has_locator bytes ≡ false → is_wide (length bytes) (bytes ++ more) ≡ false
 narrow_by false bytes more is plain =
-    ap (λ b. b && field 4 (length bytes - 20) (bytes ++ more) == 0x07064b50
-    && field 4 (length bytes - 76) (bytes ++ more) == 0x06064b50) is
+    ap (λ b. b && field_number 4 (length bytes - 20) (bytes ++ more) == 0x07064b50
+    && field_number 4 (length bytes - 76) (bytes ++ more) == 0x06064b50) is
 narrow_by true bytes more is plain =
     let far : 76 ≤ length bytes = leb-true 76 (length bytes) is in
-    let mark = number_of (take 4 (drop (length bytes - 20) bytes)) == 0x07064b50 in
+    let mark = number_spelled (take 4 (drop (length bytes - 20) bytes)) == 0x07064b50 in
     let near : nat_le 20 (length bytes) ≡ true = le-leb 20 (length bytes) (omega arith) in
     let none : mark ≡ false = sym (ap (λ b. b && mark) near) ∙ plain in
-    let other = field 4 (length bytes - 76) (bytes ++ more) == 0x06064b50 in
+    let other = field_number 4 (length bytes - 76) (bytes ++ more) == 0x06064b50 in
     ap (λ n. nat_le 76 (length bytes) && n == 0x07064b50 && other)
     (mark_there bytes more (omega arith))
     ∙ ap (λ b. nat_le 76 (length bytes) && b && other) none
@@ -132,8 +132,8 @@ narrow_there files plain =
     ∙ narrow_by (nat_le 76 (length (front files))) (front files) (last files) refl plain
 
 -- the directory, by the record of the end
-directory_there : (files : List File) → IsWritable files → IsPlain files →
-    ends.directory (length (front files)) (written files)
+directory_there : (files : List File) → IsWritableArchive files → IsPlain files →
+    ends.directory_found (length (front files)) (written files)
     ≡ record {
       stop = length (front files);
       size = length (directory 0 files);
@@ -159,7 +159,7 @@ archive_there file stop size offset is =
     ∙ ap₂ (λ n b. archive_with offset (entries_from n b offset stop file)) turns none
 
 -- what is written is the archive of the files
-pub written_read : (files : List File) → IsWritable files → IsPlain files → AreBytes files →
+pub written_read : (files : List File) → IsWritableArchive files → IsPlain files → AreBytes files →
     archive_of (written files) ≡ Ok (archive_of_files files)
 unfolding archive_of
 written_read files is plain bytes =

@@ -1,6 +1,5 @@
 -- A checksum has 32 bits.
-use Rattle.std.proofs.Common.{ℕ, ◌*◌, ◌/◌, ◌%◌, ◌^◌, ◌<◌, List, [], ◌∷◌, zero, suc, arith}
-use Rattle.std.proofs.Common.{bit_xor}
+use Rattle.std.proofs.Common.{ℕ, ◌*◌, ◌/◌, ◌%◌, ◌^◌, ◌<◌, List, [], ◌∷◌, zero, suc, arith, bit_xor}
 use Rattle.std.specs.List.{All}
 use Rattle.std.proofs.lemmas.Nat.{xor_of_32}
 use Rattle.crc32.specs.Crc.{after_bit, after_bits, after_byte, after_bytes, crc_of, divisor}

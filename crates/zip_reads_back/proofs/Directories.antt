@@ -1,17 +1,15 @@
 -- The directory of an archive that is written, header by header.
 use Rattle.std.proofs.Common.{◌≡◌, ℕ, ◌+◌, ◌-◌, ◌^◌, ◌<◌, ◌≤◌, ◌==◌, List, [], ◌∷◌, ◌++◌, length}
-use Rattle.std.proofs.Common.{take}
-use Rattle.std.proofs.Common.{true, Ok, refl, sym, ap, ap₂, ◌∙◌, arith, ◌⊎◌, inl, inr, nat_le}
+use Rattle.std.proofs.Common.{take, true, Ok, refl, sym, ap, ap₂, ◌∙◌, arith, ◌⊎◌, inl, inr, nat_le}
 use Rattle.std.proofs.Common.{length-append, append_assoc}
 use Rattle.std.proofs.lemmas.Bool.{and_from, and_right, cond-false, eq-eqb, le-leb}
 use Rattle.std.proofs.Math.Seq.{drop-append_seam}
-use Rattle.inflate.specs.Bits.{number_of}
+use Rattle.inflate.specs.Bits.{number_spelled}
 use Rattle.zip_writer.specs.Written.{File, entry, header, directory, name_flags}
 use Rattle.zip_writer.proofs.Lengths.{length-header}
-use Rattle.zip_archive.specs.Entries.{Entry, entry_at, entry_with, entries_from, header_length}
-use Rattle.zip_archive.specs.Entries.{is_header, onto}
-use Rattle.zip_archive.specs.Entries.{wide_fields, is_widened, widened, wide_rest}
-use Rattle.zip_archive.specs.Fields.{between, field}
+use Rattle.zip_archive.specs.Words.{Entry, entry_at, entry_with, entries_from, header_length}
+use Rattle.zip_archive.specs.Words.{is_header, onto, wide_fields, is_widened, wide_field, wide_rest}
+use Rattle.zip_archive.specs.Words.{bytes_from, field_number}
 use Rattle.zip_archive.proofs.Headers.{entries_step, entries_end}
 use Rattle.zip_reads_back.specs.ReadArchive.{entry_of, entries_of}
 use Rattle.zip_reads_back.proofs.Fitting.{IsFit, AreFit, flags_within}
@@ -23,7 +21,7 @@ flags_fit name (inl is) = omega arith
 flags_fit name (inr is) = omega arith
 
 -- no number is widened without wide fields
-not_widened : (n : ℕ) → widened n [] ≡ n
+not_widened : (n : ℕ) → wide_field n [] ≡ n
 not_widened n = cond-false (is_widened n []) _ _ (and_right (n == 0xFFFFFFFF) (nat_le 8 0) refl)
 
 none_behind : (n : ℕ) → wide_rest n [] ≡ []
@@ -45,9 +43,10 @@ same_entry a b name flags method checksum packed size header =
 
 -- the fields of a header behind other bytes
 header_here : (at : ℕ) (file : File) (front more : List ℕ) (n : ℕ) →
-    field n (length front) (front ++ (header at file ++ more)) ≡ field n 0 (header at file ++ more)
+    field_number n (length front) (front ++ (header at file ++ more))
+    ≡ field_number n 0 (header at file ++ more)
 header_here at file front more n =
-    ap (λ bytes. number_of (take n bytes)) (drop-append_seam front (header at file ++ more))
+    ap (λ bytes. number_spelled (take n bytes)) (drop-append_seam front (header at file ++ more))
 
 tells : (at : ℕ) (file : File) (more : List ℕ) → IsFit at file →
     HeaderTells at file (header at file ++ more)
@@ -88,36 +87,42 @@ entry_there at file front more fit =
     let all = front ++ bytes in
     let told = tells at file more fit in
     let at_field = λ (n k : ℕ). field_behind n k front bytes in
-    let wide : wide_fields (field 2 (length front + 30) all)
-    (between (field 2 (length front + 30) all)
-    (length front + 46 + field 2 (length front + 28) all) all) ≡ [] =
-    ap (λ n. wide_fields n (between (field 2 (length front + 30) all)
-    (length front + 46 + field 2 (length front + 28) all) all))
+    let wide : wide_fields (field_number 2 (length front + 30) all)
+    (bytes_from (field_number 2 (length front + 30) all)
+    (length front + 46 + field_number 2 (length front + 28) all) all) ≡ [] =
+    ap (λ n. wide_fields n (bytes_from (field_number 2 (length front + 30) all)
+    (length front + 46 + field_number 2 (length front + 28) all) all))
     (at_field 2 30 ∙ told.extra_length) in
-    let name : between (field 2 (length front + 28) all) (length front + 46) all ≡ file.name =
-    ap (λ n. between n (length front + 46) all) (at_field 2 28 ∙ told.name_length)
+    let name : bytes_from (field_number 2 (length front + 28) all) (length front + 46) all
+    ≡ file.name =
+    ap (λ n. bytes_from n (length front + 46) all) (at_field 2 28 ∙ told.name_length)
     ∙ between_behind (length file.name) 46 front bytes ∙ told.name in
-    let place : widened (field 4 (length front + 42) all)
-    (wide_rest (field 4 (length front + 20) all) (wide_rest (field 4 (length front + 24) all) []))
+    let place : wide_field (field_number 4 (length front + 42) all)
+    (wide_rest (field_number 4 (length front + 20) all)
+    (wide_rest (field_number 4 (length front + 24) all) []))
     ≡ at =
     ap
-    (λ w. widened (field 4 (length front + 42) all) (wide_rest (field 4 (length front + 20) all)
+    (λ w. wide_field (field_number 4 (length front + 42) all)
+    (wide_rest (field_number 4 (length front + 20) all)
     w))
-    (none_behind (field 4 (length front + 24) all))
-    ∙ ap (widened (field 4 (length front + 42) all)) (none_behind (field 4 (length front + 20) all))
-    ∙ not_widened (field 4 (length front + 42) all) ∙ at_field 4 42 ∙ told.header in
-    let packed : widened (field 4 (length front + 20) all)
-    (wide_rest (field 4 (length front + 24) all) [])
+    (none_behind (field_number 4 (length front + 24) all))
+    ∙ ap (wide_field (field_number 4 (length front + 42) all))
+    (none_behind (field_number 4 (length front + 20) all))
+    ∙ not_widened (field_number 4 (length front + 42) all) ∙ at_field 4 42 ∙ told.header in
+    let packed : wide_field (field_number 4 (length front + 20) all)
+    (wide_rest (field_number 4 (length front + 24) all) [])
     ≡ length file.bytes =
-    ap (widened (field 4 (length front + 20) all)) (none_behind (field 4 (length front + 24) all))
-    ∙ not_widened (field 4 (length front + 20) all) ∙ at_field 4 20 ∙ told.packed in
-    let size : widened (field 4 (length front + 24) all) [] ≡ length file.bytes =
-    not_widened (field 4 (length front + 24) all) ∙ at_field 4 24 ∙ told.size in
+    ap (wide_field (field_number 4 (length front + 20) all))
+    (none_behind (field_number 4 (length front + 24) all))
+    ∙ not_widened (field_number 4 (length front + 20) all) ∙ at_field 4 20 ∙ told.packed in
+    let size : wide_field (field_number 4 (length front + 24) all) [] ≡ length file.bytes =
+    not_widened (field_number 4 (length front + 24) all) ∙ at_field 4 24 ∙ told.size in
     let flags = at_field 2 8 ∙ told.flags in
     let method = at_field 2 10 ∙ told.method in
     let checksum = at_field 4 16 ∙ told.checksum in
-    let before : 0 + widened (field 4 (length front + 42) all)
-    (wide_rest (field 4 (length front + 20) all) (wide_rest (field 4 (length front + 24) all) []))
+    let before : 0 + wide_field (field_number 4 (length front + 42) all)
+    (wide_rest (field_number 4 (length front + 20) all)
+    (wide_rest (field_number 4 (length front + 24) all) []))
     ≡ at = omega (arith, place) in
     ap (entry_with 0 (length front) all) wide
     ∙ same_entry _ (entry_of at file) name flags method checksum packed size before

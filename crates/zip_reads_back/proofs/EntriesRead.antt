@@ -1,23 +1,20 @@
 -- The entries of an archive that is written, opened.
 use Rattle.std.proofs.Common.{◌≡◌, ℕ, ◌+◌, ◌/◌, ◌%◌, ◌<◌, ◌≤◌, ◌==◌, List, [], ◌∷◌, ◌++◌, length}
-use Rattle.std.proofs.Common.{take, drop}
-use Rattle.std.proofs.Common.{true, false, ◌||◌, min, Ok, refl, sym, ap, ◌∙◌, arith, nat_lt, ◌⊎◌}
-use Rattle.std.proofs.Common.{inl, inr}
-use Rattle.std.proofs.Common.{length-append, append_assoc, zero, suc, subst, get_or}
+use Rattle.std.proofs.Common.{take, drop, true, false, ◌||◌, min, Ok, refl, sym, ap, ◌∙◌, arith}
+use Rattle.std.proofs.Common.{nat_lt, ◌⊎◌, inl, inr, length-append, append_assoc, zero, suc, subst}
+use Rattle.std.proofs.Common.{get_or}
 use Rattle.std.specs.Str.{bytes_eq}
 use Rattle.std.proofs.lemmas.Bool.{and_from, cond-true, cond-false, eq-eqb, le-leb, le-ltb, lt-ltb}
 use Rattle.std.proofs.lemmas.List.{take-append-drop, drop_more}
 use Rattle.std.proofs.lemmas.Slice.Eq.{bytes_eq-Decides}
 use Rattle.std.proofs.Math.Seq.{drop-append_seam}
 use Rattle.crc32.specs.Crc.{crc_of}
-use Rattle.inflate.specs.Bits.{number_of}
-use Rattle.zip_writer.specs.Written.{File, directory, entry, entries, IsWritable, name_flags}
+use Rattle.inflate.specs.Bits.{number_spelled}
+use Rattle.zip_writer.specs.Written.{File, directory, entry, entries, IsWritableArchive, name_flags}
 use Rattle.zip_writer.specs.Written.{written}
 use Rattle.zip_writer.proofs.Lengths.{length-entry}
-use Rattle.zip_archive.specs.Fields.{between}
-use Rattle.zip_archive.specs.Members.{no_entry}
-use Rattle.zip_archive.specs.Opened.{checked, data_place, has_header, held, next_place, opened}
-use Rattle.zip_archive.specs.Opened.{unpacked}
+use Rattle.zip_archive.specs.Words.{bytes_from, no_entry, checked, data_place, has_header}
+use Rattle.zip_archive.specs.Words.{data_held, next_place, opened, unpacked}
 use Rattle.zip_archive.proofs.OpenedSteps.{opened_held}
 use Rattle.zip_reads_back.specs.ReadArchive.{AreBytes, archive_of_files, entries_of, entry_of}
 use Rattle.zip_reads_back.specs.ReadArchive.{no_file}
@@ -105,7 +102,7 @@ header_there file front more start told within =
     and_from _ _
     (and_from _ _
     (and_from _ _ (le-leb (at + 30) start (omega arith))
-    (eq-eqb _ _ (ap (λ b. number_of (take 4 b)) (drop-append_seam front bytes) ∙ told.mark)))
+    (eq-eqb _ _ (ap (λ b. number_spelled (take 4 b)) (drop-append_seam front bytes) ∙ told.mark)))
     (eq-eqb _ _ (field_behind 2 26 front bytes ∙ told.name_length)))
     (ap (λ b. bytes_eq b file.name)
     (between_behind (length file.name) 30 front bytes ∙ told.name)
@@ -114,7 +111,7 @@ header_there file front more start told within =
 -- what an entry's data hold
 held_there : (file : File) (front more : List ℕ) (stop : ℕ) → EntryTells file (entry file ++ more) →
     stop ≡ length front + length (entry file) →
-    held (entry_of (length front) file) stop (front ++ (entry file ++ more)) ≡ Ok file.bytes
+    data_held (entry_of (length front) file) stop (front ++ (entry file ++ more)) ≡ Ok file.bytes
 held_there file front more stop told is =
     let bytes = entry file ++ more in
     let all = front ++ bytes in
@@ -123,7 +120,7 @@ held_there file front more stop told is =
     let place : data_place e all ≡ length front + (30 + length file.name) =
     omega (arith, field_behind 2 28 front bytes, told.extra_length) in
     let long = length-entry file in
-    let data_is = ap (λ p. between n p all) place
+    let data_is = ap (λ p. bytes_from n p all) place
     ∙ between_behind n (30 + length file.name) front bytes ∙ told.held in
     cond-false (nat_lt stop (data_place e all + n)) _ _
     (le-ltb stop (data_place e all + n) (omega arith))
@@ -141,7 +138,7 @@ next_at at files n start is =
 
 -- a file among others
 pub file_opened : (limit : ℕ) (front after : List File) (file : File) →
-    IsWritable (front ++ file ∷ after) → AreBytes (front ++ file ∷ after) →
+    IsWritableArchive (front ++ file ∷ after) → AreBytes (front ++ file ∷ after) →
     length file.bytes ≤ limit →
     opened limit (archive_of_files (front ++ file ∷ after)) (written (front ++ file ∷ after))
     (entry_of (length (entries front)) file)
@@ -184,7 +181,7 @@ file_opened limit front after file is bytes small =
     (plain (name_flags file.name) (flags_within file.name))
     (and_from _ _ refl (unpatched (name_flags file.name) (flags_within file.name))) small
     (header_there file before more archive.start told (omega arith))
-    ∙ ap (λ n. held e n (before ++ (entry file ++ more))) next
+    ∙ ap (λ n. data_held e n (before ++ (entry file ++ more))) next
     ∙ held_there file before more (length before + length (entry file)) told refl
 
 -- the entry at a place among the others
@@ -202,7 +199,7 @@ entry_among p (file ∷ files) (suc i) below =
     ∙ ap (λ n. entry_of n (get_or files i no_file)) same
 
 -- each file is held by its entry
-pub files_opened : (files : List File) (i limit : ℕ) → IsWritable files → AreBytes files →
+pub files_opened : (files : List File) (i limit : ℕ) → IsWritableArchive files → AreBytes files →
     i < length files → length (get_or files i no_file).bytes ≤ limit →
     opened limit (archive_of_files files) (written files) (get_or (entries_of 0 files) i no_entry)
     ≡ Ok (get_or files i no_file).bytes
@@ -218,5 +215,5 @@ files_opened files i limit is bytes below small =
     (λ fs. opened limit (archive_of_files fs) (written fs)
     (entry_of (length (entries front)) file))
     split
-    ∙ file_opened limit front (drop (i + 1) files) file (subst IsWritable split is)
+    ∙ file_opened limit front (drop (i + 1) files) file (subst IsWritableArchive split is)
     (subst AreBytes split bytes) small

@@ -1,10 +1,9 @@
 -- Files whose headers tell what they are.
-use Rattle.std.proofs.Common.{◌≡◌, ℕ, ◌+◌, ◌^◌, ◌<◌, List, [], ◌∷◌, length, suc, arith}
-use Rattle.std.proofs.Common.{Bool, true, false, if◌then◌else◌, nat_lt, ◌⊎◌, inl, inr, refl}
-use Rattle.std.proofs.Common.{length-append}
+use Rattle.std.proofs.Common.{◌≡◌, ℕ, ◌+◌, ◌^◌, ◌<◌, List, [], ◌∷◌, length, suc, arith, Bool, true}
+use Rattle.std.proofs.Common.{false, if◌then◌else◌, nat_lt, ◌⊎◌, inl, inr, refl, length-append}
 use Rattle.std.specs.List.{All, list_all}
 use Rattle.crc32.specs.Crc.{crc_of}
-use Rattle.zip_writer.specs.Written.{name_flags, File, entry, entries, IsWritable}
+use Rattle.zip_writer.specs.Written.{name_flags, File, entry, entries, IsWritableArchive}
 use Rattle.zip_writer.proofs.Lengths.{length-entry, length-written, length_both}
 use Rattle.zip_reads_back.specs.ReadArchive.{AreBytes}
 use Rattle.zip_reads_back.proofs.Checksums.{crc_fits}
@@ -37,7 +36,7 @@ fit_from at (file ∷ files) names bytes size =
           (λ k d h. bytes (suc k) d (omega arith)) (omega arith),
     )
 
-pub fit_all : (files : List File) → IsWritable files → AreBytes files → AreFit 0 files
+pub fit_all : (files : List File) → IsWritableArchive files → AreBytes files → AreFit 0 files
 fit_all files is bytes =
     fit_from 0 files is.names bytes
     (omega (arith, is.size, length-written files, length_both 0 files))

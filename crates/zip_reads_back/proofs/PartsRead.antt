@@ -1,20 +1,18 @@
 -- The entries of an archive that is written, by their names.
-use Rattle.std.proofs.Common.{◌≡◌, ℕ, ◌+◌, ◌/◌, ◌%◌, ◌<◌, ◌==◌, List, [], ◌∷◌, ◌++◌, length}
-use Rattle.std.proofs.Common.{Bool, true, false, if◌then◌else◌, Option, None, Some, refl, sym, ap}
-use Rattle.std.proofs.Common.{ap₂, ◌∙◌, arith, nat_lt}
-use Rattle.std.proofs.Common.{zero, suc, get_or, slice_get}
+use Rattle.std.proofs.Common.{◌≡◌, ℕ, ◌+◌, ◌/◌, ◌%◌, ◌<◌, ◌==◌, List, [], ◌∷◌, ◌++◌, length, Bool}
+use Rattle.std.proofs.Common.{true, false, if◌then◌else◌, Option, None, Some, refl, sym, ap, ap₂}
+use Rattle.std.proofs.Common.{◌∙◌, arith, nat_lt, zero, suc, get_or, slice_get}
 use Rattle.std.specs.List.{All, cons_option, list_all}
 use Rattle.std.specs.Option.{option_and_then}
 use Rattle.std.specs.Str.{bytes_eq, is_utf8}
 use Rattle.std.proofs.lemmas.Bool.{and_parts, cond-true, cond-false, false_from_ne_true}
 use Rattle.std.proofs.lemmas.Option.{slice_get-get_or}
 use Rattle.std.proofs.lemmas.Slice.Eq.{bytes_eq-Decides}
-use Rattle.part_events.specs.Package.{folded}
+use Rattle.part_events.specs.Words.{folded}
 use Rattle.zip_writer.specs.Written.{File, entry, name_flags}
-use Rattle.zip_archive.specs.Entries.{Entry}
-use Rattle.zip_archive.specs.Members.{no_entry}
-use Rattle.zip_archive.specs.Names.{Member, characters, first_text, is_foreign, last_entry}
-use Rattle.zip_archive.specs.Names.{members, named, part_entry, text_of}
+use Rattle.zip_archive.specs.Words.{Entry, no_entry, Member, characters, first_same_name}
+use Rattle.zip_archive.specs.Words.{is_foreign, last_entry, part_entries, entry_named, entry_name}
+use Rattle.zip_archive.specs.Names.{part_entry}
 use Rattle.zip_reads_back.specs.ReadArchive.{ArePartNames, entries_of, entry_of, no_file}
 
 -- ASCII is the same in both
@@ -38,7 +36,7 @@ text_told name false is utf8 =
     ap (λ (b : Bool). text_by (if b then 0 else 2048) name) is ∙ cond-true (is_utf8 name) _ _ utf8
 
 text_there : (at : ℕ) (file : File) → is_utf8 file.name ≡ true →
-    text_of (entry_of at file) ≡ Some file.name
+    entry_name (entry_of at file) ≡ Some file.name
 text_there at file utf8 =
     text_told file.name (list_all (λ b. nat_lt b 128) file.name) refl utf8
 
@@ -51,15 +49,15 @@ members_of p (file ∷ files) =
 
 member_there : (p : ℕ) (file : File) → is_utf8 file.name ≡ true →
     is_foreign (folded file.name) ≡ false →
-    named (entry_of p file) (text_of (entry_of p file))
+    entry_named (entry_of p file) (entry_name (entry_of p file))
     ≡ Some (record { text = file.name; entry = entry_of p file })
 member_there p file utf8 own =
-    ap (named (entry_of p file)) (text_there p file utf8)
+    ap (entry_named (entry_of p file)) (text_there p file utf8)
     ∙ cond-false (is_foreign (folded file.name)) _ _ own
 
 pub members_there : (p : ℕ) (files : List File) → All (λ file. is_utf8 file.name ≡ true) files →
     All (λ file. is_foreign (folded file.name) ≡ false) files →
-    members (entries_of p files) ≡ members_of p files
+    part_entries (entries_of p files) ≡ members_of p files
 members_there p [] utf8 own = refl
 members_there p (file ∷ files) utf8 own =
     ap₂ cons_option
@@ -80,7 +78,7 @@ IsFirst files i =
     ≡ folded (get_or files i no_file).name → ⊥
 
 first_there : (p : ℕ) (files : List File) (i : ℕ) → i < length files → IsFirst files i →
-    first_text (members_of p files) (get_or files i no_file).name
+    first_same_name (members_of p files) (get_or files i no_file).name
     ≡ Some (get_or files i no_file).name
 first_there p [] i below first = absurd (omega arith)
 first_there p (file ∷ files) zero below first =
@@ -143,7 +141,7 @@ parts_found files i are below =
     let first : IsFirst files i = λ k less same. are.apart k i no_file less below same in
     let last : IsLast files i = λ k more within same. are.apart i k no_file more within (sym same)
     in
-    ap (λ ms. option_and_then (λ text. last_entry None ms text) (first_text ms name))
+    ap (λ ms. option_and_then (λ text. last_entry None ms text) (first_same_name ms name))
     (members_there 0 files are.texts are.own)
     ∙ ap (option_and_then (λ text. last_entry None (members_of 0 files) text))
     (first_there 0 files i below first)

@@ -1,5 +1,4 @@
-use Rattle.std.proofs.Common.{◌≡◌, ◌∙◌, ◌<◌, ◌≤◌, [], length, get_or, slice_range, sym}
-use Rattle.std.proofs.Common.{arith}
+use Rattle.std.proofs.Common.{◌≡◌, ◌∙◌, ◌<◌, ◌≤◌, [], length, get_or, slice_range, sym, arith}
 use Rattle.std.proofs.lemmas.List.{get_or_past}
 use Rattle.calculation_order.specs.KeptLinks.{cut_at}
 use Rattle.calculation_order.proofs.CutLinks.{cut_bounds, cut_index, length-cut_at}

@@ -1,5 +1,4 @@
-use Rattle.std.proofs.Common.{◌∙◌, ◌+◌, ◌-◌, ap, arith, Bool, cond, filter, Option, Some, sym}
-use Rattle.std.proofs.Common.{ℕ}
+use Rattle.std.proofs.Common.{◌∙◌, ◌+◌, ◌-◌, ap, arith, Bool, cond, filter, Option, Some, sym, ℕ}
 use Rattle.std.specs.List.{range_with_len}
 use Rattle.calculation_order.specs.Edges.{are_together, first_of}
 use Rattle.calculation_order.proofs.Members.{first_step}

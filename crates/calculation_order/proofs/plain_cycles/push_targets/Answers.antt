@@ -1,5 +1,5 @@
-use Rattle.std.proofs.Common.{◌≡◌, ◌∙◌, ◌+◌, ap, arith, drop, flat_map, List, suc}
-use Rattle.std.proofs.Common.{get_or, sym, ℕ, ◌∷◌}
+use Rattle.std.proofs.Common.{◌≡◌, ◌∙◌, ◌+◌, ap, arith, drop, flat_map, List, suc, get_or, sym, ℕ}
+use Rattle.std.proofs.Common.{◌∷◌}
 use Rattle.std.proofs.Math.Seq.{drop-cons}
 use Rattle.calculation_order.specs.Edges.{needs_of, with_numbers}
 use Rattle.calculation_order.proofs.Members.{with_both}

@@ -1,7 +1,6 @@
 use Rattle.std.proofs.Common.{◌≡◌}
-use Rattle.part_events.specs.Package.{SameParts}
-use Rattle.xlsx_cells.specs.CellsReader.{stream_by, reference_of}
-use Rattle.xlsx_cells.specs.Stream.{IsStreaming}
+use Rattle.part_events.specs.Words.{SameParts}
+use Rattle.xlsx_cells.specs.Words.{stream_by, reference_of, IsStreaming}
 use Rattle.call_answers.proofs.cells.count_cells.Given as goal
 
 abbrev pub invariant-cells : goal.invariant-cells

@@ -1,5 +1,4 @@
-use Rattle.xlsx_cells.specs.CellsReader.{stream_by}
-use Rattle.xlsx_cells.specs.Stream.{IsStreaming}
+use Rattle.xlsx_cells.specs.Words.{stream_by, IsStreaming}
 use Rattle.call_answers.proofs.cells.push_calls.Given as goal
 
 abbrev pub invariant-calls : goal.invariant-calls

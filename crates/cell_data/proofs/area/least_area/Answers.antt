@@ -1,7 +1,7 @@
 use Rattle.std.proofs.Common.{◌∙◌, ◌∷◌, [], ◌++◌, ap, sym, map, Some, ℕ}
 use Rattle.std.proofs.lemmas.List.{map-append}
-use Rattle.cell_refs.specs.Positions.{area_with, least_area}
-use Rattle.sorted_cells.specs.Placed.{placed_left, given_cell}
+use Rattle.cell_refs.specs.Words.{area_with, least_area}
+use Rattle.sorted_cells.specs.Words.{placed_left, given_cell}
 use Rattle.cell_data.proofs.LeastAreas.{least_end}
 use Rattle.cell_data.proofs.Placing.{one_further}
 use Rattle.cell_data.proofs.area.least_area.Goals as goal

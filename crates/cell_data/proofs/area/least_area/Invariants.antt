@@ -1,7 +1,6 @@
 use Rattle.std.proofs.Common.{◌≡◌, ◌++◌, map}
-use Rattle.cell_refs.specs.Positions.{least_area}
-use Rattle.sorted_cells.specs.Kept.{kept_cells}
-use Rattle.sorted_cells.specs.Placed.{placed_left, given_cell}
+use Rattle.cell_refs.specs.Words.{least_area}
+use Rattle.sorted_cells.specs.Words.{kept_cells, placed_left, given_cell}
 use Rattle.cell_data.proofs.area.least_area.Given as goal
 
 abbrev pub invariant-loop-pos : goal.invariant-loop-pos

@@ -1,10 +1,8 @@
 use Rattle.std.proofs.Common.{rules, ◌≡◌, [], ◌++◌, ◌∙◌, ap, sym}
 use Rattle.std.proofs.lemmas.List.{append-nil}
-use Rattle.cell_refs.specs.Positions.{last_of_each}
-use Rattle.cell_data.proofs.Placing.{nothing_last}
-use Rattle.sorted_cells.specs.Kept.{kept_cells}
-use Rattle.sorted_cells.specs.Owned.{owned_left}
-use Rattle.cell_data.proofs.Placing.{one_more, one_further}
+use Rattle.cell_refs.specs.Words.{last_of_each}
+use Rattle.cell_data.proofs.Placing.{nothing_last, one_more, one_further}
+use Rattle.sorted_cells.specs.Words.{kept_cells, owned_left}
 use Rattle.cell_data.proofs.gathered.by_position.Goals as goal
 
 pub loop-pos-init : goal.loop-pos-init

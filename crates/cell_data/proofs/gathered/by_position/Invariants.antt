@@ -1,7 +1,6 @@
 use Rattle.std.proofs.Common.{◌≡◌, ◌++◌}
-use Rattle.cell_refs.specs.Positions.{last_of_each}
-use Rattle.sorted_cells.specs.Kept.{kept_cells}
-use Rattle.sorted_cells.specs.Owned.{owned_left}
+use Rattle.cell_refs.specs.Words.{last_of_each}
+use Rattle.sorted_cells.specs.Words.{kept_cells, owned_left}
 use Rattle.cell_data.proofs.gathered.by_position.Given as goal
 
 abbrev pub invariant-loop-pos : goal.invariant-loop-pos

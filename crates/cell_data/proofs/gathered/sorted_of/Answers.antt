@@ -1,6 +1,6 @@
 use Rattle.std.proofs.Common.{rules, ◌≡◌, ◌∷◌, ◌++◌, ◌∙◌, ap, sym}
-use Rattle.cell_refs.specs.Positions.{position_cmp, is_rising}
-use Rattle.sorted_cells.specs.Kept.{kept_cells}
+use Rattle.cell_refs.specs.Words.{position_cmp, is_rising}
+use Rattle.sorted_cells.specs.Words.{kept_cells}
 use Rattle.sorted_cells.proofs.Orders.{after_sorted}
 use Rattle.cell_data.proofs.gathered.sorted_of.Goals as goal
 

@@ -1,5 +1,5 @@
 use Rattle.std.proofs.Common.{◌≡◌, ◌++◌, length}
-use Rattle.sorted_cells.specs.Kept.{kept_cells}
+use Rattle.sorted_cells.specs.Words.{kept_cells}
 use Rattle.cell_data.proofs.gathered.sorted_of.Given as goal
 
 abbrev pub invariant-loop-pos : goal.invariant-loop-pos

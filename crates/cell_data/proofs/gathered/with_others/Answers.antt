@@ -1,6 +1,6 @@
 use Rattle.std.proofs.Common.{◌∙◌, ap, sym}
 use Rattle.std.proofs.lemmas.List.{append-nil}
-use Rattle.cell_refs.specs.Positions.{last_of_each}
+use Rattle.cell_refs.specs.Words.{last_of_each}
 use Rattle.cell_data.proofs.Placing.{one_placed}
 use Rattle.cell_data.proofs.gathered.with_others.Goals as goal
 

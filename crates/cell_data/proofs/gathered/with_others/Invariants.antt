@@ -1,5 +1,5 @@
 use Rattle.std.proofs.Common.{◌≡◌, ◌++◌, ℕ, List}
-use Rattle.cell_refs.specs.Positions.{last_of_each}
+use Rattle.cell_refs.specs.Words.{last_of_each}
 use Rattle.cell_data.specs.Cells.{placed_cells}
 use Rattle.cell_data.proofs.gathered.with_others.Given as goal
 

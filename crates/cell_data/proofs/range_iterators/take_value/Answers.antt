@@ -1,6 +1,6 @@
 use Rattle.std.proofs.Common.{◌∙◌, ap, sym}
 use Rattle.std.specs.Option.{option_copied, unwrap_or}
-use Rattle.sorted_cells.specs.Placed.{placed_left}
+use Rattle.sorted_cells.specs.Words.{placed_left}
 use Rattle.cell_data.specs.Range.{bounds_of, cells_of, blank_of}
 use Rattle.cell_data.proofs.CellSteps.{taken, unwrapped}
 use Rattle.cell_data.proofs.range_iterators.take_value.Goals as goal

@@ -1,7 +1,7 @@
 use Rattle.std.proofs.Common.{arith, rules, subst, ℕ, ◌≡◌, ◌<◌, ◌^◌, ◌*◌, ◌∙◌}
 use Rattle.std.specs.Prelude.{SomeIff, nat_abs}
 use Rattle.std.proofs.lemmas.Int.{ints}
-use Rattle.decimals.specs.Rounding.{nearest}
+use Rattle.decimals.specs.Words.{nearest}
 use Rattle.excel_dates.specs.Serials.{day_length}
 use Rattle.excel_dates.proofs.SerialSteps.{whole_days, part_days}
 use Rattle.excel_dates.proofs.milliseconds.milliseconds_of.Goals as goal

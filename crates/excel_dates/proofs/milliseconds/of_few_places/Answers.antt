@@ -1,7 +1,7 @@
 use Rattle.std.proofs.Common.{arith, rules, subst, ℕ, ◌≡◌, ◌<◌, ◌^◌, ◌+◌, ◌*◌}
 use Rattle.std.specs.Prelude.{SomeIff}
 use Rattle.decimals.proofs.Rounded.{unit_some}
-use Rattle.decimals.specs.Rounding.{nearest}
+use Rattle.decimals.specs.Words.{nearest}
 use Rattle.excel_dates.specs.Serials.{day_length}
 use Rattle.excel_dates.proofs.SerialSteps.{few_units, in_two_places}
 use Rattle.excel_dates.proofs.milliseconds.of_few_places.Goals as goal

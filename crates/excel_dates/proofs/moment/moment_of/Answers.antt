@@ -1,5 +1,5 @@
 use Rattle.std.proofs.Common.{arith, rules, ◌∙◌, ◌≡◌, ◌<◌, ◌^◌}
-use Rattle.decimals.specs.Decimal.{number_of}
+use Rattle.decimals.specs.Words.{number_of}
 use Rattle.excel_dates.specs.Serials.{milliseconds_of}
 use Rattle.excel_dates.proofs.SerialSteps.{untold, passed, below_zero, dated}
 use Rattle.excel_dates.proofs.moment.moment_of.Goals as goal

@@ -1,6 +1,6 @@
-use Rattle.cell_data.specs.Pairs.{value_pairs, formula_pairs}
-use Rattle.xlsx_out.specs.WrittenSheet.{written_parts}
-use Rattle.xlsx_out.specs.declared.form.WrittenForm.TheVariants.{WorkbookFile}
+use Rattle.cell_data.specs.Words.{value_pairs, formula_pairs}
+use Rattle.xlsx_writer.specs.Words.{written_parts}
+use Rattle.xlsx_writer.specs.declared.form.WrittenForm.TheVariants.{WorkbookFile}
 use Rattle.file_reads_back.proofs.SheetsFiled.{sheet_filed}
 use Rattle.file_reads_back.proofs.laws.written_files_are_read_back.Goals as goal
 

@@ -1,5 +1,5 @@
 use Rattle.std.proofs.Common.{◌≡◌, ◌≤◌, take}
-use Rattle.cell_refs.specs.A1.{letters_value}
+use Rattle.cell_refs.specs.Words.{letters_value}
 use Rattle.cell_refs.specs.declared.TheConstants.{MAX_COLUMNS}
 use Rattle.formula_shift.proofs.corner.column_of_letters.Given as goal
 

@@ -1,9 +1,9 @@
-use Rattle.std.proofs.Common.{◌++◌, append-nil, append_assoc, string_bytes}
-use Rattle.std.proofs.Common.{rules, refl, sym, ap, ◌∙◌, arith}
+use Rattle.std.proofs.Common.{◌++◌, append-nil, append_assoc, string_bytes, rules, refl, sym, ap}
+use Rattle.std.proofs.Common.{◌∙◌, arith}
 use Rattle.std.proofs.Math.ListN.{drop_of_length-le}
 use Rattle.std.proofs.lemmas.Result.{MatchResult-from_err}
 use Rattle.formula_shift.specs.Pieces.{piece_text, pieces, joined_pieces}
-use Rattle.formula_shift.specs.Relocation.{first_byte, moved_piece, moved}
+use Rattle.formula_shift.specs.Relocation.{first_byte, shifted_piece, moved}
 use Rattle.formula_shift.proofs.Moving.{moved-nil, moved-next, length-moved-next}
 use Rattle.formula_shift.proofs.PieceEnds.{end_found, ends_behind, no_ends}
 use Rattle.formula_shift.proofs.cut_formula.push_cut.Goals as goal
@@ -36,7 +36,7 @@ pub loop-end-preserved : goal.loop-end-preserved
 loop-end-preserved c =
     let behind = c.cut_first.result.1.now in
     let own = piece_text c.cut_first.result.0 in
-    let image = joined_pieces (moved_piece c.args.offset own (first_byte behind)) in
+    let image = joined_pieces (shifted_piece c.args.offset own (first_byte behind)) in
     let next = moved-next c.loop-end.rest.now behind behind c.args.offset own
     c.cut_first.ensures refl in
     let longer = length-moved-next c.loop-end.rest.now behind behind c.args.offset own

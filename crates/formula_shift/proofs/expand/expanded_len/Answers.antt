@@ -21,7 +21,7 @@ overflow_add-len c =
       arith,
       longer,
       c.loop-piece.invariant,
-      c.moved_len.ensures,
+      c.shifted_len.ensures,
       length-moved-le c.args.formula.now c.offset_between-offset.result,
     )
 
@@ -30,7 +30,7 @@ loop-piece-preserved c =
     let longer = length-moved-next c.loop-piece.pieces.rest.now c.next.new.self.rest.now
     c.as_str.result.now c.offset_between-offset.result
     (piece_text c.in-Some.piece) c.in-Some.ensures.steps c.as_str.ensures in
-    omega (arith, longer, c.loop-piece.invariant, c.moved_len.ensures)
+    omega (arith, longer, c.loop-piece.invariant, c.shifted_len.ensures)
 
 pub returns : goal.returns
 returns c =

@@ -2,7 +2,7 @@ use Rattle.std.proofs.Common.{◌+◌, ◌++◌, length, append-nil, append_asso
 use Rattle.std.proofs.Common.{sym, ap, ◌∙◌, arith}
 use Rattle.std.proofs.lemmas.Result.{MatchResult-from_err}
 use Rattle.formula_shift.specs.Pieces.{piece_text, joined_pieces}
-use Rattle.formula_shift.specs.Relocation.{first_byte, moved_piece, moved}
+use Rattle.formula_shift.specs.Relocation.{first_byte, shifted_piece, moved}
 use Rattle.formula_shift.proofs.Moving.{moved-nil, moved-next, length-moved-next}
 use Rattle.formula_shift.proofs.expand.push_moved.Goals as goal
 
@@ -20,7 +20,7 @@ pub loop-piece-preserved : goal.loop-piece-preserved
 loop-piece-preserved c =
     let text = c.loop-piece.pieces.rest.now in
     let rest = c.next.new.self.rest.now in
-    let image = joined_pieces (moved_piece c.args.offset (piece_text c.in-Some.piece)
+    let image = joined_pieces (shifted_piece c.args.offset (piece_text c.in-Some.piece)
     (first_byte c.as_str.result.now)) in
     let next = moved-next text rest c.as_str.result.now c.args.offset
     (piece_text c.in-Some.piece) c.in-Some.ensures.steps c.as_str.ensures in

@@ -1,5 +1,5 @@
 use Rattle.std.proofs.Common.{◌≡◌, map, string_bytes, take}
-use Rattle.attr_text.specs.Text.{unescaped}
+use Rattle.attr_text.specs.Words.{unescaped}
 use Rattle.graph_reading.proofs.book.column_names.Given as goal
 
 abbrev pub invariant-loop-column : goal.invariant-loop-column

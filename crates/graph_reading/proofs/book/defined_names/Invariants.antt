@@ -1,6 +1,6 @@
 use Rattle.std.proofs.Common.{◌≡◌, ◌++◌, length, map}
 use Rattle.book_names.specs.Told.{name_told}
-use Rattle.xlsx_workbook.specs.KeptContents.{pair_of}
+use Rattle.xlsx_workbook.specs.Words.{pair_of}
 use Rattle.graph_reading.specs.BookRead.{scoped_names}
 use Rattle.graph_reading.proofs.book.defined_names.Given as goal
 

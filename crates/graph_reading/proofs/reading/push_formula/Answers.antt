@@ -1,6 +1,6 @@
 use Rattle.std.proofs.Common.{◌<◌, ap, arith, length, string_bytes}
 use Rattle.std.proofs.lemmas.List.{length-map}
-use Rattle.xlsx_core.specs.FormulaList.{formula_read}
+use Rattle.xlsx_core.specs.Words.{formula_read}
 use Rattle.graph_reading.proofs.FormulasPushed.{refused_one}
 use Rattle.graph_reading.proofs.reading.push_formula.Goals as goal
 

@@ -1,6 +1,6 @@
 use Rattle.std.proofs.Common.{◌≡◌, ◌∙◌, ◌∷◌, ap, drop, drop-cons, map, suc, sym}
 use Rattle.std.proofs.lemmas.Result.{err_from_is_err_and}
-use Rattle.xlsx_core.specs.FormulaList.{formula_read}
+use Rattle.xlsx_core.specs.Words.{formula_read}
 use Rattle.xlsx_core.specs.declared.formula_list.SheetFormula.{SheetFormula}
 use Rattle.graph_reading.proofs.FormulasPushed.{refused_together}
 use Rattle.graph_reading.proofs.reading.push_formulas.Goals as goal

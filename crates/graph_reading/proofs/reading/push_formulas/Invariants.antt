@@ -1,6 +1,6 @@
 use Rattle.std.proofs.Common.{◌≡◌, ◌++◌, drop, length, map}
-use Rattle.xlsx_core.specs.FormulaList.{formula_read}
-use Rattle.xlsx_graph.specs.Gathered.{IsMeasured}
+use Rattle.xlsx_core.specs.Words.{formula_read}
+use Rattle.xlsx_graph.specs.Words.{IsMeasured}
 use Rattle.graph_reading.specs.GraphRead.{named_formulas}
 use Rattle.graph_reading.proofs.reading.push_formulas.Given as goal
 

@@ -2,14 +2,12 @@ use Rattle.std.proofs.Common.{◌∙◌, arith, map}
 use Rattle.std.proofs.lemmas.Result.{err_from_is_err_and}
 use Rattle.part_events.proofs.Uses.{leaves_then, uses_then}
 use Rattle.xlsx_tables.specs.Tables.{loaded_of}
-use Rattle.xlsx_core.specs.FormulaList.{formula_read}
-use Rattle.xlsx_core.specs.Merges.{sheets_of_book}
+use Rattle.xlsx_core.specs.Words.{formula_read, sheets_of_book}
 use Rattle.graph_reading.specs.BookRead.{book_of}
 use Rattle.graph_reading.proofs.ReadingFails.{book_behind, events_behind, formulas_made}
 use Rattle.graph_reading.proofs.ReadingFails.{formulas_refused, leaves_reading, names_refused}
 use Rattle.graph_reading.proofs.ReadingFails.{said_behind, same_sheets, tables_refused}
-use Rattle.graph_reading.proofs.ReadingFails.{taken_behind}
-use Rattle.graph_reading.proofs.ReadingFails.{too_much_named}
+use Rattle.graph_reading.proofs.ReadingFails.{taken_behind, too_much_named}
 use Rattle.graph_reading.proofs.reading.read_graph.Goals as goal
 
 pub returns-in_err-tables-clause-uses : goal.returns-in_err-tables-clause-uses
@@ -67,7 +65,7 @@ returns-in_err-graph_of-clause-err g c =
     (names_refused old old.xml.source new.xml.source c.in_err-graph_of.field-0.0 _
     (λ told. too_much_named old old.xml.source.parts tables said (first.answers.said told)
     (said_behind old mid old.xml.source.parts mid.xml.source.parts said first.rest same.parts
-    (second.answers.said (same.is_told ∙ told))) (book_of new tables)
+    (second.answers.said (same.is_visible ∙ told))) (book_of new tables)
     (book_behind old mid new tables first.rest second.rest))
     (rw (c.deref.ensures.value, c.deref-2.ensures.value) at c.in_err-graph_of.ensures.large))
 
@@ -88,7 +86,7 @@ returns-clause-to_end g c = λ told.
     let same = first.answers.uses.parts in
     taken_behind old mid old.xml.source.parts mid.xml.source.parts old.xml.source.taken
     mid.xml.source.taken c.read_formulas.new.self.xml.source.taken first.rest same.parts
-    (first.answers.to_end told) (second.answers.to_end (same.is_told ∙ told))
+    (first.answers.to_end told) (second.answers.to_end (same.is_visible ∙ told))
 
 pub returns-clause-reads : goal.returns-clause-reads
 returns-clause-reads g c = λ told.
@@ -106,7 +104,7 @@ returns-clause-reads g c = λ told.
       has =
           formulas_made old old.xml.source.parts tables said (first.answers.said told)
           (said_behind old mid old.xml.source.parts mid.xml.source.parts said first.rest same.parts
-          (second.answers.said (same.is_told ∙ told))) made.book made.graph.formulas
+          (second.answers.said (same.is_visible ∙ told))) made.book made.graph.formulas
           ((rw c.deref.ensures.value at makes.book)
           ∙ book_behind old mid new tables first.rest second.rest)
           (rw c.deref-2.ensures.value at makes.formulas);

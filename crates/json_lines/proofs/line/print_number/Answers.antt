@@ -1,6 +1,5 @@
 use Rattle.std.proofs.Common.{rules, ◌≡◌, subst, sym}
-use Rattle.decimals.specs.Decimal.{number_of}
-use Rattle.decimals.specs.Decimals.{printed}
+use Rattle.decimals.specs.Words.{number_of, printed}
 use Rattle.json.specs.Print.{IsNumber}
 use Rattle.json_lines.specs.JsonLines.{IsOfDecimal}
 use Rattle.json_lines.proofs.NumberTexts.{printed_number}

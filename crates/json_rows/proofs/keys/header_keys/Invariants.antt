@@ -1,6 +1,6 @@
 use Rattle.std.proofs.Common.{◌≡◌, ◌++◌, map, string_bytes}
-use Rattle.cell_data.specs.RangeItems.{row_left}
-use Rattle.xlsx_rows.specs.RowsText.{data_field}
+use Rattle.cell_data.specs.Words.{row_left}
+use Rattle.csv_rows.specs.RowsText.{data_field}
 use Rattle.json_rows.proofs.keys.header_keys.Given as goal
 
 abbrev pub invariant-loop-value : goal.invariant-loop-value

@@ -1,6 +1,6 @@
 use Rattle.std.proofs.Common.{◌≡◌, ◌++◌}
 use Rattle.std.specs.List.{flat_map}
-use Rattle.cell_data.specs.RangeItems.{rows_left}
+use Rattle.cell_data.specs.Words.{rows_left}
 use Rattle.json_rows.specs.RowForms.{form_line}
 use Rattle.json_rows.proofs.rows.lines_of.Given as goal
 

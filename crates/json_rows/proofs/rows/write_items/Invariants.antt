@@ -1,6 +1,5 @@
 use Rattle.std.proofs.Common.{◌≡◌, ◌++◌, map}
-use Rattle.cell_data.specs.CellValue.{value_of_data}
-use Rattle.cell_data.specs.RangeItems.{row_left}
+use Rattle.cell_data.specs.Words.{value_of_data, row_left}
 use Rattle.json.specs.Tree.{items_tokens}
 use Rattle.json_rows.specs.RowValues.{row_json}
 use Rattle.json_rows.proofs.rows.write_items.Given as goal

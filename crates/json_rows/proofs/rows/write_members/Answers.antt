@@ -1,7 +1,6 @@
 use Rattle.std.proofs.Common.{rules, ◌≡◌, ◌∙◌, ◌++◌, [], List, map, string_bytes, sym, ap}
 use Rattle.std.proofs.lemmas.Result.{on_ok_weaker}
-use Rattle.cell_data.specs.CellValue.{value_of_data}
-use Rattle.cell_data.specs.RangeItems.{row_left}
+use Rattle.cell_data.specs.Words.{value_of_data, row_left}
 use Rattle.cell_data.specs.declared.value.Data.{Data}
 use Rattle.json.specs.Json.{Members, no_members}
 use Rattle.json.specs.Tree.{members_tokens}

@@ -1,6 +1,5 @@
 use Rattle.std.proofs.Common.{◌≡◌, ◌++◌, map, string_bytes}
-use Rattle.cell_data.specs.CellValue.{value_of_data}
-use Rattle.cell_data.specs.RangeItems.{row_left}
+use Rattle.cell_data.specs.Words.{value_of_data, row_left}
 use Rattle.json.specs.Tree.{members_tokens}
 use Rattle.json_rows.specs.RowObjects.{row_members}
 use Rattle.json_rows.proofs.rows.write_members.Given as goal

@@ -1,6 +1,6 @@
 use Rattle.std.proofs.Common.{◌≡◌, true, false, drop, sym, ap, ◌∙◌}
 use Rattle.std.proofs.lemmas.List.{take_rest, drop_all}
-use Rattle.markup.specs.Marks.{begins_with, place_of}
+use Rattle.markup.specs.Marks.{begins_with, first_place_of}
 use Rattle.markup.proofs.Places.{shifted, place_here, place_later, place_nowhere}
 use Rattle.markup.proofs.marks.place_of.Goals as goal
 
@@ -29,6 +29,6 @@ returns-clause-value c =
     let needle = c.args.needle.now in
     let i = c.loop-at.at in
     sym (c.loop-at.invariant
-    ∙ ap (λ rest. shifted i (place_of needle rest))
+    ∙ ap (λ rest. shifted i (first_place_of needle rest))
     (drop_all i c.args.bytes.now c.loop-at-test.false)
     ∙ place_nowhere needle i)

@@ -1,6 +1,6 @@
 use Rattle.std.proofs.Common.{◌∙◌, ◌++◌, ◌∷◌, [], ap, sym, arith, map, string_bytes}
 use Rattle.std.proofs.lemmas.List.{map-append, take_all}
-use Rattle.part_events.specs.Package.{Part}
+use Rattle.part_events.specs.Words.{Part}
 use Rattle.zip_writer.specs.Files.{file_of}
 use Rattle.package_file.specs.PackageFile.{part_bytes, part_file, part_files}
 use Rattle.package_file.proofs.Taken.{mapped_more, same_at, same_length}

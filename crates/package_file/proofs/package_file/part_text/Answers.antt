@@ -1,7 +1,6 @@
 use Rattle.std.proofs.Common.{◌∙◌, ◌++◌, List, ℕ, ap, sym, arith}
-use Rattle.part_events.specs.Event.{event_of}
-use Rattle.part_events.specs.Memory.{part_at}
-use Rattle.markup.specs.Spelled.{spelled_event}
+use Rattle.part_events.specs.Words.{event_of, part_at}
+use Rattle.markup.specs.Words.{spelled_event}
 use Rattle.package_file.proofs.Taken.{bytes_more}
 use Rattle.package_file.proofs.package_file.part_text.Goals as goal
 

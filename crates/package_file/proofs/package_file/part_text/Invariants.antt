@@ -1,5 +1,5 @@
 use Rattle.std.proofs.Common.{◌≡◌, take, string_bytes}
-use Rattle.part_events.specs.Memory.{part_at}
+use Rattle.part_events.specs.Words.{part_at}
 use Rattle.package_file.specs.PackageFile.{part_bytes}
 use Rattle.package_file.proofs.package_file.part_text.Given as goal
 

@@ -1,6 +1,6 @@
 use Rattle.std.proofs.Common.{◌∙◌, ◌++◌, ◌∷◌, [], ap, sym, arith, map, string_bytes}
 use Rattle.std.proofs.lemmas.List.{map-append}
-use Rattle.part_events.specs.Package.{Part}
+use Rattle.part_events.specs.Words.{Part}
 use Rattle.package_file.specs.PackageFile.{part_bytes}
 use Rattle.package_file.proofs.Taken.{mapped_more}
 use Rattle.package_file.proofs.package_file.part_texts.Goals as goal

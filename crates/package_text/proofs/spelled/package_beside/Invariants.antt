@@ -1,7 +1,7 @@
 use Rattle.std.proofs.Common.{◌≡◌, ◌++◌, drop}
 use Rattle.std.specs.Option.{option_map}
 use Rattle.serde_json.specs.View.{items_view}
-use Rattle.part_events.specs.Memory.{closed}
+use Rattle.part_events.specs.Words.{closed}
 use Rattle.package_text.specs.PackageText.{parts_beside}
 use Rattle.package_text.proofs.spelled.package_beside.Given as goal
 

@@ -1,5 +1,5 @@
 use Rattle.std.proofs.Common.{◌∙◌, sym, ◌+◌}
-use Rattle.part_events.specs.Memory.{part_at}
+use Rattle.part_events.specs.Words.{part_at}
 use Rattle.package_text.proofs.EventTexts.{end_found, other_found}
 use Rattle.package_text.proofs.written.is_end_behind.Goals as goal
 

@@ -1,6 +1,6 @@
 use Rattle.std.proofs.Common.{◌≡◌, ◌≤◌, ◌-◌, ◌++◌, drop, length, false, string_bytes}
 use Rattle.serde_json.specs.Written.{items_text}
-use Rattle.part_events.specs.Memory.{part_at}
+use Rattle.part_events.specs.Words.{part_at}
 use Rattle.package_text.specs.WrittenPackage.{event_texts, events_data}
 use Rattle.package_text.proofs.written.push_events.Given as goal
 

@@ -1,7 +1,7 @@
 use Rattle.std.proofs.Common.{◌∙◌, ap, ◌++◌, List, ℕ, string_bytes}
 use Rattle.serde_json.specs.Written.{compact_text}
 use Rattle.serde_json.specs.Data.{string}
-use Rattle.part_events.specs.Memory.{part_at}
+use Rattle.part_events.specs.Words.{part_at}
 use Rattle.package_text.specs.WrittenPackage.{event_texts, events_data}
 use Rattle.package_text.proofs.WrittenTexts.{part_joined}
 use Rattle.package_text.proofs.written.push_part.Goals as goal

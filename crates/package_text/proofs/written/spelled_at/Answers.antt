@@ -1,5 +1,5 @@
 use Rattle.std.proofs.Common.{◌+◌, drop, sym, ◌∙◌}
-use Rattle.part_events.specs.Memory.{part_at}
+use Rattle.part_events.specs.Words.{part_at}
 use Rattle.package_text.proofs.EventTexts.{pair_written, alone_written, other_alone}
 use Rattle.part_events.specs.declared.event.PartEvent.TheVariants.{Start}
 use Rattle.package_text.proofs.written.spelled_at.Goals as goal

@@ -1,4 +1,4 @@
-use Rattle.sorted_cells.specs.Placed.{placed_left}
+use Rattle.sorted_cells.specs.Words.{placed_left}
 use Rattle.sheet_listing.specs.SheetListing.{ids_left}
 use Rattle.sheet_listing.proofs.SheetListingLemmas.{first_is_found}
 use Rattle.sheet_listing.proofs.lines.first_position.Goals as goal

@@ -1,11 +1,9 @@
 use Rattle.std.proofs.Common.{◌≡◌, ◌∙◌, ◌++◌, List, ap, map, sym}
-use Rattle.cell_data.specs.Range.{cells_of}
-use Rattle.cell_styles.specs.StyleItems.{styled_entry, id_among, style_named}
-use Rattle.cell_styles.specs.StyleMap.{StyledCell}
-use Rattle.sorted_cells.specs.Placed.{placed_left}
-use Rattle.sheet_listing.specs.SheetListing.{cell_values, cell_formulas, ids_left}
+use Rattle.cell_data.specs.Words.{cells_of}
+use Rattle.cell_styles.specs.Words.{styled_entry, id_among, style_named, StyledCell}
+use Rattle.sorted_cells.specs.Words.{placed_left}
+use Rattle.sheet_listing.specs.SheetListing.{cell_values, cell_formulas, ids_left, placed_ids}
 use Rattle.sheet_listing.specs.CellObjects.{lines_in}
-use Rattle.sheet_listing.specs.SheetListing.{placed_ids}
 use Rattle.sheet_listing.proofs.SheetListingLemmas.{by_ids, styled_order}
 use Rattle.sheet_listing.proofs.lines.lines_listed.Goals as goal
 

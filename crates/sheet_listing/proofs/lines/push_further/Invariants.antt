@@ -1,5 +1,5 @@
 use Rattle.std.proofs.Common.{◌≡◌, ◌++◌, drop, map, string_bytes}
-use Rattle.cell_data.specs.CellValue.{value_of_data}
+use Rattle.cell_data.specs.Words.{value_of_data}
 use Rattle.sheet_listing.specs.SheetListing.{further_fields}
 use Rattle.sheet_listing.proofs.lines.push_further.Given as goal
 

@@ -1,7 +1,7 @@
 use Rattle.std.proofs.Common.{string_bytes, ◌++◌, ◌∙◌, ap}
 use Rattle.std.specs.Option.{option_copied}
-use Rattle.cell_styles.specs.StyleItems.{style_named}
-use Rattle.sorted_cells.specs.Placed.{placed_left}
+use Rattle.cell_styles.specs.Words.{style_named}
+use Rattle.sorted_cells.specs.Words.{placed_left}
 use Rattle.cell_data.proofs.Stepping.{next_splits}
 use Rattle.sheet_listing.specs.SheetListing.{ids_left}
 use Rattle.sheet_listing.proofs.SheetListingLemmas.{lines_on, lines_end, lines_left, shorter}
@@ -37,7 +37,8 @@ positions-preserved c =
     let splits_d = next_splits p id ids ds c.positions.invariant.ids_order
     c.in-Some.ensures.before_ids c.next_at-id.ensures.value c.next_at-id.ensures.left in
     record {
-      printed = lines_on c.args.form style p value formula id (option_copied c.style_with_id-style.result)
+      printed = lines_on c.args.form style p value formula id
+          (option_copied c.style_with_id-style.result)
           values vs formulas fs ids ds (string_bytes c.positions.out)
           (string_bytes c.push_line.new.out)
           (string_bytes c.args.out.now

@@ -1,9 +1,7 @@
 use Rattle.std.proofs.Common.{ap, string_bytes}
 use Rattle.std.proofs.lemmas.List.Elements.{All-rest}
-use Rattle.cell_data.specs.CellValue.{value_of_data}
-use Rattle.cell_data.specs.Cells.{IsPlacedInSheet}
-use Rattle.cell_data.specs.Range.{cells_of}
-use Rattle.sorted_cells.specs.Placed.{placed_left}
+use Rattle.cell_data.specs.Words.{value_of_data, IsPlacedInSheet, cells_of}
+use Rattle.sorted_cells.specs.Words.{placed_left}
 use Rattle.sheet_listing.specs.SheetListing.{cell_values, value_line, value_lines}
 use Rattle.sheet_listing.proofs.SheetListingLemmas.{goes_on}
 use Rattle.sheet_listing.proofs.lines.value_lines_of.Goals as goal

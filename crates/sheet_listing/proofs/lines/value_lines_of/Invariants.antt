@@ -1,7 +1,6 @@
 use Rattle.std.proofs.Common.{◌≡◌, ◌++◌, All, string_bytes}
-use Rattle.cell_data.specs.Cells.{IsPlacedInSheet}
-use Rattle.cell_data.specs.Range.{cells_of}
-use Rattle.sorted_cells.specs.Placed.{placed_left}
+use Rattle.cell_data.specs.Words.{IsPlacedInSheet, cells_of}
+use Rattle.sorted_cells.specs.Words.{placed_left}
 use Rattle.sheet_listing.specs.SheetListing.{cell_values, value_lines}
 use Rattle.sheet_listing.proofs.lines.value_lines_of.Given as goal
 

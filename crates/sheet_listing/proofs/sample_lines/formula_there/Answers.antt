@@ -1,5 +1,5 @@
 use Rattle.std.proofs.Common.{◌∙◌, Some, None}
-use Rattle.cell_data.specs.Range.{cells_of}
+use Rattle.cell_data.specs.Words.{cells_of}
 use Rattle.sheet_listing.proofs.SheetListingLemmas.{formula_found}
 use Rattle.sheet_listing.proofs.sample_lines.formula_there.Goals as goal
 

@@ -1,6 +1,6 @@
 use Rattle.std.proofs.Common.{subst}
-use Rattle.cell_styles.specs.StyleItems.{RiseOnSheet}
-use Rattle.sorted_cells.specs.Kept.{kept_cells}
+use Rattle.cell_styles.specs.Words.{RiseOnSheet}
+use Rattle.sorted_cells.specs.Words.{kept_cells}
 use Rattle.sheet_listing.specs.SheetListing.{placed_ids}
 use Rattle.sheet_listing.proofs.SheetListingLemmas.{styled_after}
 use Rattle.sheet_listing.proofs.sample_lines.styled_cells.Goals as goal

@@ -1,6 +1,6 @@
 use Rattle.std.proofs.Common.{◌≡◌, ◌++◌, map}
-use Rattle.cell_styles.specs.StyleItems.{styled_entry}
-use Rattle.sorted_cells.specs.Kept.{kept_cells}
+use Rattle.cell_styles.specs.Words.{styled_entry}
+use Rattle.sorted_cells.specs.Words.{kept_cells}
 use Rattle.sheet_listing.specs.SheetListing.{placed_ids}
 use Rattle.sheet_listing.proofs.sample_lines.styled_cells.Given as goal
 

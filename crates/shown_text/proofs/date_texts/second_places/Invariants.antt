@@ -1,5 +1,5 @@
 use Rattle.std.proofs.Common.{◌≡◌, ◌+◌, ◌≤◌, drop, min}
-use Rattle.format_codes.specs.TimedPieces.{second_places}
+use Rattle.format_codes.specs.Words.{second_places}
 use Rattle.shown_text.proofs.date_texts.second_places.Given as goal
 
 abbrev pub invariant-loop-piece : goal.invariant-loop-piece

@@ -1,7 +1,7 @@
 use Rattle.std.proofs.Common.{◌≡◌, ◌+◌, ◌≤◌, length, take}
 use Rattle.std.specs.Prelude.{not}
 use Rattle.std.specs.List.{suffix_len}
-use Rattle.format_codes.specs.Pieces.{is_digit}
+use Rattle.format_codes.specs.Words.{is_digit}
 use Rattle.shown_text.proofs.digits.last_place.Given as goal
 
 abbrev pub invariant-loop-last : goal.invariant-loop-last

@@ -1,5 +1,5 @@
 use Rattle.std.proofs.Common.{◌≡◌, ◌++◌, drop, string_bytes}
-use Rattle.escaped_text.specs.Escaped.{Extends}
+use Rattle.escaped_text.specs.Escaped.{AddsBehind}
 use Rattle.shown_text.specs.Digits.{in_places}
 use Rattle.shown_text.specs.GivenDigits.{digits_in}
 use Rattle.shown_text.proofs.digits.push_in_places.Given as goal
@@ -10,5 +10,5 @@ invariant-loop-piece l = record {
       ++ in_places l.grouped (digits_in l.digits) l.forced l.left (drop l.piece-index l.pieces)
       ≡ string_bytes l.initial.out
       ++ in_places l.grouped (digits_in l.digits) l.initial.forced l.initial.left l.pieces;
-  extends : Extends (string_bytes l.initial.out) (string_bytes l.out);
+  extends : AddsBehind (string_bytes l.initial.out) (string_bytes l.out);
 }

@@ -1,14 +1,14 @@
 use Rattle.std.proofs.Common.{◌≡◌, ◌+◌, ◌≤◌, length, take}
 use Rattle.std.specs.Prelude.{not}
 use Rattle.std.specs.List.{suffix_len}
-use Rattle.format_codes.specs.Pieces.{is_zero}
+use Rattle.format_codes.specs.Words.{is_zero_place}
 use Rattle.shown_text.proofs.digits.unforced_places.Given as goal
 
 abbrev pub invariant-loop-last : goal.invariant-loop-last
 invariant-loop-last l = record {
   within : l.last ≤ length l.pieces;
-  cut : l.last + suffix_len (λ p. not (is_zero p)) l.pieces
-      ≡ length l.pieces + suffix_len (λ p. not (is_zero p)) (take l.last l.pieces);
+  cut : l.last + suffix_len (λ p. not (is_zero_place p)) l.pieces
+      ≡ length l.pieces + suffix_len (λ p. not (is_zero_place p)) (take l.last l.pieces);
 }
 
 abbrev pub decreases-loop-last : goal.decreases-loop-last

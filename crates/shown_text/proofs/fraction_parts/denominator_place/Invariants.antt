@@ -1,7 +1,7 @@
 use Rattle.std.proofs.Common.{◌≡◌, ◌+◌, ◌-◌, ◌≤◌, length, drop}
 use Rattle.std.specs.Prelude.{not}
 use Rattle.std.specs.List.{prefix_len}
-use Rattle.format_codes.specs.Kinds.{is_denominator}
+use Rattle.format_codes.specs.Words.{is_denominator}
 use Rattle.shown_text.proofs.fraction_parts.denominator_place.Given as goal
 
 abbrev pub invariant-loop-place : goal.invariant-loop-place

@@ -1,6 +1,6 @@
 use Rattle.std.proofs.Common.{◌≡◌, ◌+◌, ◌≤◌, length, take}
 use Rattle.std.specs.List.{suffix_len}
-use Rattle.format_codes.specs.Pieces.{is_digit}
+use Rattle.format_codes.specs.Words.{is_digit}
 use Rattle.shown_text.proofs.fraction_parts.run_place.Given as goal
 
 abbrev pub invariant-loop-place : goal.invariant-loop-place

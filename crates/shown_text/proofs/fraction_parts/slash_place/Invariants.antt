@@ -1,13 +1,13 @@
 use Rattle.std.proofs.Common.{◌≡◌, ◌+◌, ◌-◌, ◌≤◌, length, drop}
 use Rattle.std.specs.List.{position_or_len}
-use Rattle.format_codes.specs.Pieces.{is_slash}
+use Rattle.format_codes.specs.Words.{is_slash_piece}
 use Rattle.shown_text.proofs.fraction_parts.slash_place.Given as goal
 
 abbrev pub invariant-loop-place : goal.invariant-loop-place
 invariant-loop-place l = record {
   within : l.place ≤ length l.section;
-  found : l.place + position_or_len is_slash (drop l.place l.section)
-      ≡ position_or_len is_slash l.section;
+  found : l.place + position_or_len is_slash_piece (drop l.place l.section)
+      ≡ position_or_len is_slash_piece l.section;
 }
 
 abbrev pub decreases-loop-place : goal.decreases-loop-place

@@ -1,9 +1,9 @@
-use Rattle.std.proofs.Common.{rules, ◌≡◌, ◌++◌, ◌∷◌, ◌-◌, List, ℕ, subst, sym}
-use Rattle.std.proofs.Common.{append-nil, arith, length, replicate}
+use Rattle.std.proofs.Common.{rules, ◌≡◌, ◌++◌, ◌∷◌, ◌-◌, List, ℕ, subst, sym, append-nil, arith}
+use Rattle.std.proofs.Common.{length, replicate}
 use Rattle.std.specs.Prelude.{string_bytes, OnOk}
 use Rattle.std.specs.Fmt.{decimal}
 use Rattle.std.proofs.lemmas.Grind.{common_steps}
-use Rattle.decimals.specs.Decimals.{without_trailing_zeros}
+use Rattle.decimals.specs.Words.{without_trailing_zeros}
 use Rattle.shown_text.proofs.Zeros.{cut_some, zero_cut}
 use Rattle.shown_text.proofs.general.push_places.Goals as goal
 

@@ -1,6 +1,6 @@
 use Rattle.std.proofs.Common.{rules, ◌≡◌, ◌++◌, ◌^◌, ◌<◌, ◌+ℤ◌, List, ℕ, Some, pos, subst}
 use Rattle.std.specs.Prelude.{string_bytes, OnOk}
-use Rattle.excel_dates.specs.Serials.{nearest_at}
+use Rattle.excel_dates.specs.Words.{nearest_at}
 use Rattle.shown_text.specs.GeneralText.{general_places, first_power}
 use Rattle.shown_text.proofs.SizeSteps.{past_limit}
 use Rattle.shown_text.proofs.general.push_size.Goals as goal

@@ -1,6 +1,6 @@
 use Rattle.std.proofs.Common.{◌≡◌, ◌+◌, ◌-◌, ◌≤◌, length, drop}
 use Rattle.std.specs.List.{position_or_len}
-use Rattle.format_codes.specs.Pieces.{is_exponent}
+use Rattle.format_codes.specs.Words.{is_exponent}
 use Rattle.shown_text.proofs.numbers.exponent_place.Given as goal
 
 abbrev pub invariant-loop-place : goal.invariant-loop-place

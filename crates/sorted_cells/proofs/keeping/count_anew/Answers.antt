@@ -1,5 +1,5 @@
-use Rattle.std.proofs.Common.{rules, ◌≡◌, ◌∷◌, ◌+◌, arith, length, take, drop, get_or, true}
-use Rattle.std.proofs.Common.{subst, sym, List}
+use Rattle.std.proofs.Common.{rules, ◌≡◌, ◌∷◌, ◌+◌, arith, length, take, drop, get_or, true, subst}
+use Rattle.std.proofs.Common.{sym, List}
 use Rattle.std.proofs.lemmas.List.{drop_more}
 use Rattle.sorted_cells.specs.declared.row.Row.{Row}
 use Rattle.sorted_cells.specs.Rows.{are_rows, row_size}

@@ -1,7 +1,5 @@
 use Rattle.std.proofs.Common.{List, [], ◌∷◌, ◌++◌, ap, ◌∙◌}
-use Rattle.part_events.specs.Event.{event_of}
-use Rattle.part_events.specs.Memory.{Contents, closed, with_event}
-use Rattle.part_events.specs.Package.{Part}
+use Rattle.part_events.specs.Words.{event_of, Contents, closed, with_event, Part}
 use Rattle.workbook_file.specs.OpenEvents.{rest_of}
 use Rattle.workbook_file.proofs.KeptParts.{event_behind, split_more}
 use Rattle.workbook_file.proofs.in_memory.push_part.Goals as goal

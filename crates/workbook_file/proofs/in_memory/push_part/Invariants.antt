@@ -1,6 +1,5 @@
 use Rattle.std.proofs.Common.{◌≡◌, List, [], ◌∷◌, ◌++◌}
-use Rattle.part_events.specs.Event.{Event}
-use Rattle.part_events.specs.Memory.{closed}
+use Rattle.part_events.specs.Words.{Event, closed}
 use Rattle.workbook_file.specs.OpenEvents.{rest_of}
 use Rattle.workbook_file.proofs.in_memory.push_part.Given as goal
 

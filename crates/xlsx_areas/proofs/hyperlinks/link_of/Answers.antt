@@ -1,11 +1,10 @@
 use Rattle.std.proofs.Common.{◌≡◌, option_map, string_bytes, rules, refl}
 use Rattle.std.specs.Option.{option_copied}
 use Rattle.std.proofs.lemmas.Result.{err_from_is_err_and}
-use Rattle.cell_refs.specs.A1.{area}
-use Rattle.part_events.specs.Event.{tag_of}
-use Rattle.xlsx_sections.specs.Placed.{placed}
-use Rattle.xlsx_sections.specs.Refusal.{placed_at}
-use Rattle.xlsx_relationships.specs.LinkTargets.{target_held}
+use Rattle.cell_refs.specs.Words.{area}
+use Rattle.part_events.specs.Words.{tag_of}
+use Rattle.xlsx_sections.specs.Words.{placed, placed_at}
+use Rattle.xlsx_relationships.specs.Words.{target_held}
 use Rattle.xlsx_areas.specs.Hyperlinks.{optional_text, linked, some_link, link_of}
 use Rattle.xlsx_sections.proofs.Refused.{handed_on}
 use Rattle.xlsx_areas.proofs.hyperlinks.link_of.Goals as goal

@@ -1,9 +1,8 @@
 use Rattle.std.proofs.Common.{◌≡◌, ℕ, List, Option, Result, Err, option_map, string_bytes, rules}
 use Rattle.std.specs.Option.{option_copied}
 use Rattle.std.proofs.lemmas.Result.{err_from_is_err_and}
-use Rattle.cell_refs.specs.A1.{area}
-use Rattle.xlsx_sections.specs.Placed.{placed}
-use Rattle.xlsx_sections.specs.Refusal.{Refusal}
+use Rattle.cell_refs.specs.Words.{area}
+use Rattle.xlsx_sections.specs.Words.{placed, Refusal}
 use Rattle.xlsx_areas.specs.Hyperlinks.{Link, optional_text, linked}
 use Rattle.xlsx_sections.proofs.Refused.{handed_on}
 use Rattle.xlsx_areas.proofs.hyperlinks.linked.Goals as goal

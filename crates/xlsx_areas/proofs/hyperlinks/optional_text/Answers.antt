@@ -1,9 +1,9 @@
 use Rattle.std.proofs.Common.{◌≡◌, rules}
 use Rattle.std.specs.Option.{option_copied}
 use Rattle.std.proofs.lemmas.Result.{err_from_is_err_and}
-use Rattle.xlsx_sections.specs.Names.{some_text}
+use Rattle.xlsx_sections.specs.Words.{some_text}
 use Rattle.xlsx_sections.proofs.TextsRead.{some_text_fails}
-use Rattle.xlsx_relationships.specs.LinkTargets.{link_text}
+use Rattle.xlsx_relationships.specs.Words.{link_text}
 use Rattle.xlsx_areas.specs.Hyperlinks.{optional_text}
 use Rattle.xlsx_areas.proofs.hyperlinks.optional_text.Goals as goal
 

@@ -1,11 +1,9 @@
 use Rattle.std.proofs.Common.{◌≡◌, List, Ok, codes, map, subst, sym}
 use Rattle.std.specs.Prelude.{IfOk, IfErr}
-use Rattle.part_events.specs.Event.{Event}
-use Rattle.part_events.specs.Reading.{Reading}
-use Rattle.xlsx_sections.specs.Elements.{ElementReadFails}
-use Rattle.xlsx_sections.specs.PartSection.{always}
+use Rattle.part_events.specs.Words.{Event, Reading}
+use Rattle.xlsx_sections.specs.Words.{ElementReadFails, always}
 use Rattle.xlsx_sections.proofs.ElementsRead.{own_inside}
-use Rattle.xlsx_relationships.specs.LinkTargets.{target_held}
+use Rattle.xlsx_relationships.specs.Words.{target_held}
 use Rattle.xlsx_areas.specs.Hyperlinks.{links_in, link_said}
 use Rattle.xlsx_areas.proofs.hyperlinks.read_hyperlinks.Goals as goal
 

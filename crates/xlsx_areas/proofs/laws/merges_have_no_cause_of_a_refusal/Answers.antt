@@ -1,5 +1,5 @@
 use Rattle.std.proofs.Common.{[], codes}
-use Rattle.xlsx_sections.specs.PartSection.{always}
+use Rattle.xlsx_sections.specs.Words.{always}
 use Rattle.xlsx_parts.proofs.SoundParts.{no_lacking_cause, no_whole_cause}
 use Rattle.xlsx_areas.specs.MergedCells.{merges_in}
 use Rattle.xlsx_areas.proofs.SoundMerges.{no_regions_cause}

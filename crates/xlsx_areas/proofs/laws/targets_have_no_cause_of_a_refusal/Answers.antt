@@ -1,10 +1,8 @@
 use Rattle.std.proofs.Common.{[], codes}
-use Rattle.part_events.specs.Package.{part_of}
-use Rattle.xlsx_sections.specs.PartSection.{always}
+use Rattle.part_events.specs.Words.{part_of}
+use Rattle.xlsx_sections.specs.Words.{always}
 use Rattle.xlsx_parts.proofs.SoundParts.{no_said_cause}
-use Rattle.xlsx_relationships.specs.LinkTargets.{link_targets_in}
-use Rattle.xlsx_relationships.specs.Paths.{relationships_beside}
-use Rattle.xlsx_relationships.specs.RelatedParts.{all_lead_to}
+use Rattle.xlsx_relationships.specs.Words.{link_targets_in, relationships_beside, all_lead_to}
 use Rattle.xlsx_areas.proofs.laws.targets_have_no_cause_of_a_refusal.Goals as goal
 
 pub returns-clause-related : goal.returns-clause-related

@@ -1,12 +1,10 @@
 use Rattle.std.proofs.Common.{◌∙◌, [], ap, codes, length}
 use Rattle.std.proofs.lemmas.Result.{IfErr-weaker}
-use Rattle.part_events.specs.Reading.{events_of}
-use Rattle.xlsx_sections.specs.Elements.{IsInsideRefused}
-use Rattle.xlsx_sections.specs.Failing.{FailsBy}
-use Rattle.xlsx_sections.specs.PartSection.{always, SectionFails}
+use Rattle.part_events.specs.Words.{events_of}
+use Rattle.xlsx_sections.specs.Words.{IsInsideRefused, FailsBy, always, SectionFails}
 use Rattle.xlsx_sections.proofs.ElementsRead.{own_inside, own_end}
 use Rattle.xlsx_parts.proofs.SaidRead.{said_or_there, section_lacking_refused}
-use Rattle.xlsx_relationships.specs.LinkTargets.{target_held}
+use Rattle.xlsx_relationships.specs.Words.{target_held}
 use Rattle.xlsx_areas.specs.Hyperlinks.{links_in}
 use Rattle.xlsx_areas.specs.LinkErrors.{LinksCause}
 use Rattle.xlsx_areas.proofs.LinksRead.{both_known}
@@ -18,7 +16,7 @@ returns-clause-links g c = λ told.
     let old = c.args.xml.now in
     let mid = c.find_section.new.xml in
     let meaning = links_in (target_held c.args.targets.now) in
-    let still = c.in_ok-find_section.ensures.reads.moves.parts.is_told ∙ told in
+    let still = c.in_ok-find_section.ensures.reads.moves.parts.is_visible ∙ told in
     let there = rw c.if-not-branch.false at (c.in_ok-find_section.ensures.found told) in
     both_known c.read_hyperlinks.result _
     (λ links is passes. said_or_there [] name (events_of old) meaning there

@@ -1,7 +1,6 @@
 use Rattle.std.proofs.Common.{[], List, Ok, Option, Result, ap, ◌∙◌, append-nil}
 use Rattle.cell_refs.specs.declared.dimensions.Dimensions.{Dimensions}
-use Rattle.xlsx_sections.specs.Answers.{prepended, and_others_if}
-use Rattle.xlsx_sections.specs.Refusal.{Refusal}
+use Rattle.xlsx_sections.specs.Words.{prepended, and_others_if, Refusal}
 use Rattle.xlsx_areas.proofs.merged_cells.push_merge.Goals as goal
 
 pub returns-in_ok-push-in-Some-clause-ok : goal.returns-in_ok-push-in-Some-clause-ok

@@ -2,11 +2,8 @@ use Rattle.std.proofs.Common.{◌≡◌, ◌∙◌, List, [], Ok, ap, map, subst
 use Rattle.std.proofs.lemmas.Result.{IfOk-weaker}
 use Rattle.std.specs.Prelude.{IfOk, IfErr}
 use Rattle.cell_refs.specs.declared.dimensions.Dimensions.{Dimensions}
-use Rattle.part_events.specs.Event.{Event}
-use Rattle.part_events.specs.Reading.{Reading, ahead}
-use Rattle.part_events.specs.Section.{content}
-use Rattle.xlsx_sections.specs.Elements.{ElementReadFails}
-use Rattle.xlsx_sections.specs.PartSection.{always}
+use Rattle.part_events.specs.Words.{Event, Reading, ahead, content}
+use Rattle.xlsx_sections.specs.Words.{ElementReadFails, always}
 use Rattle.xlsx_sections.proofs.ElementsRead.{own_inside}
 use Rattle.xlsx_sections.proofs.StartsKept.{own_items}
 use Rattle.xlsx_areas.specs.MergedCells.{merges_in}

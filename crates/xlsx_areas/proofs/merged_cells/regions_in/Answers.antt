@@ -1,16 +1,14 @@
 use Rattle.std.proofs.Common.{◌≡◌, ◌∙◌, [], List, Ok, Option, Result, refl, sym, subst, ap}
 use Rattle.cell_refs.specs.declared.dimensions.Dimensions.{Dimensions}
-use Rattle.part_events.specs.Event.{Event, tag_of}
-use Rattle.part_events.specs.Walk.{section_ahead}
-use Rattle.xlsx_sections.specs.Answers.{prepended, and_others_if}
-use Rattle.xlsx_sections.specs.Keeping.{changed_in, put_behind}
-use Rattle.xlsx_sections.specs.Refusal.{Refusal, placed_at}
+use Rattle.part_events.specs.Words.{Event, tag_of, section_ahead}
+use Rattle.xlsx_sections.specs.Words.{prepended, and_others_if, changed_in, put_behind, Refusal}
+use Rattle.xlsx_sections.specs.Words.{placed_at}
 use Rattle.xlsx_sections.proofs.Failing.{given_back}
 use Rattle.xlsx_sections.proofs.Refused.{handed_on}
 use Rattle.xlsx_sections.proofs.StartsKept.{put_in, refused_same}
 use Rattle.xlsx_sections.proofs.StartsSaid.{at_start, changes_behind, changed_further}
 use Rattle.xlsx_sections.proofs.StartsSaid.{changed_refused}
-use Rattle.xlsx_parts.specs.WholePart.{IsMeaningRefused}
+use Rattle.xlsx_parts.specs.Words.{IsMeaningRefused}
 use Rattle.xlsx_parts.proofs.SaidRead.{whole_there}
 use Rattle.xlsx_parts.proofs.WholeRead.{begins_part, whole_refused, whole_step_refused}
 use Rattle.xlsx_areas.specs.MergedCells.{is_merge, merge_of, merges_in}

@@ -1,5 +1,5 @@
 use Rattle.std.proofs.Common.{[]}
-use Rattle.xlsx_sections.specs.Keeping.{changed_in, put_behind}
+use Rattle.xlsx_sections.specs.Words.{changed_in, put_behind}
 use Rattle.xlsx_sections.proofs.StartsSaid.{KeepsSaid, changes_behind}
 use Rattle.xlsx_areas.specs.MergedCells.{is_merge, merge_of}
 use Rattle.xlsx_areas.proofs.merged_cells.regions_in.Given as goal

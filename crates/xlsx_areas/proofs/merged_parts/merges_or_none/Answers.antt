@@ -1,7 +1,7 @@
 use Rattle.std.proofs.Common.{◌≡◌, codes, length, Some, rules}
-use Rattle.part_events.specs.Reading.{events_of}
+use Rattle.part_events.specs.Words.{events_of}
 use Rattle.xlsx_error.specs.declared.error.XlsxError.TheVariants.{OutOfMemory, Io}
-use Rattle.xlsx_sections.specs.PartSection.{section_in, section_left}
+use Rattle.xlsx_sections.specs.Words.{section_in, section_left}
 use Rattle.xlsx_areas.proofs.MergesRead.{never_refused}
 use Rattle.xlsx_areas.proofs.merged_parts.merges_or_none.Goals as goal
 

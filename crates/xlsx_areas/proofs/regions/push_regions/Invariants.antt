@@ -1,5 +1,5 @@
 use Rattle.std.proofs.Common.{◌≡◌, ◌++◌, List, map}
-use Rattle.xlsx_parts.specs.SheetPaths.{sheet_at}
+use Rattle.xlsx_parts.specs.Words.{sheet_at}
 use Rattle.xlsx_areas.specs.Regions.{region_in, region_of}
 use Rattle.xlsx_areas.specs.declared.regions.MergedRegion.{MergedRegion}
 use Rattle.xlsx_areas.proofs.regions.push_regions.Given as goal

@@ -1,9 +1,9 @@
 use Rattle.std.proofs.Common.{◌≡◌, ◌∙◌, [], ◌∷◌, true, Ok, Err, ap, sym, codes}
-use Rattle.attr_text.specs.Attributes.{lookup}
+use Rattle.attr_text.specs.Words.{lookup}
 use Rattle.std.specs.Option.{option_copied}
 use Rattle.std.proofs.lemmas.Result.{IfErr-weaker}
-use Rattle.part_events.specs.Event.{tag_of}
-use Rattle.xlsx_values.specs.Book.{grounds_of}
+use Rattle.part_events.specs.Words.{tag_of}
+use Rattle.xlsx_values.specs.Words.{context_of}
 use Rattle.xlsx_cells.specs.Counting.{IsStartRefused, IsRefused}
 use Rattle.xlsx_cells.specs.Stream.{IsHeadRefused}
 use Rattle.xlsx_cells.specs.StyleIds.{id_named}
@@ -13,11 +13,11 @@ use Rattle.xlsx_cells.proofs.cell_read.start_of.Goals as goal
 pub returns-then-not-asked-clause-err : goal.returns-then-not-asked-clause-err
 returns-then-not-asked-clause-err c =
     let wants = c.args.asked.wants in
-    let grounds = grounds_of c.args.asked.book in
+    let context = context_of c.args.asked.book in
     let tag = tag_of c.args.tag in
     IfErr-weaker c.id_start.result
     (IsRefused (λ refusal. (wants.styles ≡ true) × (id_named tag ≡ Err refusal)))
-    (IsStartRefused (IsHeadRefused wants grounds tag)) (head_refused wants grounds tag)
+    (IsStartRefused (IsHeadRefused wants context tag)) (head_refused wants context tag)
     c.id_start.ensures.err
 
 pub returns-clause-styled : goal.returns-clause-styled

@@ -1,7 +1,6 @@
 use Rattle.std.proofs.Common.{◌≡◌, Some, Ok, refl, ap}
 use Rattle.std.proofs.lemmas.Result.{err_from_is_err_and}
-use Rattle.xlsx_formulas.specs.Formula.{some_formula, formula_text}
-use Rattle.xlsx_formulas.specs.Kept.{formula_seen}
+use Rattle.xlsx_formulas.specs.Words.{some_formula, formula_text, formula_seen}
 use Rattle.xlsx_cells.proofs.ChildrenRead.{formula_fails, kept_one, kept_none_of}
 use Rattle.xlsx_cells.proofs.children.keep_formula.Goals as goal
 use Rattle.xlsx_cells.proofs.children.keep_formula.Goals.{then-asked+in_ok-keep, else-asked}
@@ -11,8 +10,8 @@ returns-in_err-formula-clause-err g c =
     let old = c.args.xml.now in
     let new = c.read_formula.new.xml in
     let p = err_from_is_err_and c.from_residual.result c.from_residual.ensures.1 in
-    rw (p.1, p.2) (λ grounds format kind element stands named.
-    formula_fails c.args.asked.wants grounds format kind element.tag old new
+    rw (p.1, p.2) (λ context format kind element stands named.
+    formula_fails c.args.asked.wants context format kind element.tag old new
     c.in_err-formula.field-0.0
     named c.if-not-asked.false
     (c.in_err-formula.ensures.err element.tag stands.tag))

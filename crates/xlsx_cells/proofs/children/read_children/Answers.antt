@@ -1,22 +1,15 @@
-use Rattle.std.proofs.Common.{◌≡◌, ℕ, true, None, refl, ◌∙◌, ap, subst, inl, inr, arith}
-use Rattle.std.proofs.Common.{codes, rules}
+use Rattle.std.proofs.Common.{◌≡◌, ℕ, true, None, refl, ◌∙◌, ap, subst, inl, inr, arith, codes}
+use Rattle.std.proofs.Common.{rules}
 use Rattle.std.proofs.lemmas.Result.{err_from_is_err_and}
-use Rattle.part_events.specs.Reading.{ahead}
-use Rattle.part_events.specs.Section.{content, is_any}
-use Rattle.part_events.specs.Walk.{inside, element_at}
-use Rattle.xlsx_sections.specs.Elements.{end_outside, FindsElementIn}
-use Rattle.xlsx_sections.specs.PartSection.{Never, SectionFails}
-use Rattle.xlsx_sections.specs.Refusal.{in_element}
+use Rattle.part_events.specs.Words.{ahead, content, is_any, inside, element_at}
+use Rattle.xlsx_sections.specs.Words.{end_outside, FindsElementIn, Never, SectionFails, in_element}
 use Rattle.xlsx_sections.proofs.ElementsRead.{IsElementFound, IsElementPassed, element_there}
 use Rattle.xlsx_sections.proofs.ElementsRead.{element_passed, element_refused, own_inside}
 use Rattle.xlsx_sections.proofs.Kept.{last_further, last_refused}
 use Rattle.xlsx_sections.proofs.Refused.{refused_later}
-use Rattle.xlsx_values.specs.Book.{kind_of, grounds_of}
-use Rattle.xlsx_values.specs.Value.{child_value, said_value, or_nothing}
-use Rattle.xlsx_formulas.specs.Formula.{covers_in}
-use Rattle.xlsx_formulas.specs.Kept.{last_seen, covers_seen}
-use Rattle.xlsx_cells.specs.Children.{StandsAtElement, LastStep, ReadsCellFormulas}
-use Rattle.xlsx_cells.specs.Children.{value_kept}
+use Rattle.xlsx_values.specs.Words.{kind_of, context_of, child_value, said_value, or_nothing}
+use Rattle.xlsx_formulas.specs.Words.{covers_in, last_seen, covers_seen}
+use Rattle.xlsx_cells.specs.Children.{StandsAtElement, LastStep, ReadsCellFormulas, value_kept}
 use Rattle.xlsx_cells.specs.Children.{IsChildRefused, AreChildrenRefused}
 use Rattle.xlsx_cells.specs.Ends.{end_in_child, end_in_child_element, end_in_children}
 use Rattle.xlsx_sections.proofs.SectionsRead.{leaves_further}
@@ -34,7 +27,7 @@ returns-in_err-next_child_in-clause-err g c =
     let kind = kind_of c.args.start.now.typ in
     let inner = end_in_child_element wants kind in
     let now = c.children.invariant in
-    let refused = AreChildrenRefused wants (grounds_of c.args.asked.book) c.args.start.now.format
+    let refused = AreChildrenRefused wants (context_of c.args.asked.book) c.args.start.now.format
     kind in
     let p = err_from_is_err_and c.from_residual.result c.from_residual.ensures.1 in
     rw (p.1, p.2)
@@ -53,7 +46,7 @@ children-preserved g c =
     let after = c.read_child.new.xml in
     let base = c.depth-base.result in
     let now = c.children.invariant in
-    let grounds = grounds_of c.args.asked.book in
+    let context = context_of c.args.asked.book in
     let format = c.args.start.now.format in
     let kind = kind_of c.args.start.now.typ in
     let place = c.in-Some.field-0 in
@@ -63,8 +56,8 @@ children-preserved g c =
     let found : IsElementFound is_any base tag place old mid at = there.2 in
     let passed : IsElementPassed is_any base tag old mid at after =
     element_passed found c.in_ok-read_child.ensures.reads in
-    let still : old.source.is_told ≡ true → at.source.is_told ≡ true =
-    λ told. found.read.reads.moves.parts.is_told ∙ told in
+    let still : old.source.is_visible ≡ true → at.source.is_visible ≡ true =
+    λ told. found.read.reads.moves.parts.is_visible ∙ told in
     let element = element_at base tag at in
     let stand : StandsAtElement element at = record { tag = there.1; inside = refl } in
     let before : LastStep =
@@ -77,11 +70,11 @@ children-preserved g c =
       base = now.base;
       keeps = passed.keeps;
       value = λ told wanted.
-          last_further (child_value grounds format kind) (value_kept c.children.latest.value)
+          last_further (child_value context format kind) (value_kept c.children.latest.value)
           (passed.elements told)
           (or_earlier_in_element element (value_kept c.children.latest.value)
           (value_kept c.read_child.new.latest.value)
-          (said_value grounds format kind tag element.inside)
+          (said_value context format kind tag element.inside)
           (c.in_ok-read_child.ensures.takes.value (still told) wanted element stand))
           (now.value told wanted);
       formulas = λ told wanted.
@@ -117,7 +110,7 @@ returns-in_err-read_child-clause-err g c =
     let base = c.depth-base.result in
     let now = c.children.invariant in
     let wants = c.args.asked.wants in
-    let grounds = grounds_of c.args.asked.book in
+    let context = context_of c.args.asked.book in
     let format = c.args.start.now.format in
     let kind = kind_of c.args.start.now.typ in
     let place = c.in-Some.field-0 in
@@ -128,18 +121,18 @@ returns-in_err-read_child-clause-err g c =
     let element = element_at base tag at in
     let stand : StandsAtElement element at = record { tag = there.1; inside = refl } in
     let inner = end_in_child_element wants kind in
-    let refused = AreChildrenRefused wants grounds format kind in
+    let refused = AreChildrenRefused wants context format kind in
     let error = c.in_err-read_child.field-0.0 in
     let p = err_from_is_err_and c.from_residual-in_err-read_child.result
     c.from_residual-in_err-read_child.ensures.1 in
     rw (p.1, p.2)
     (subst (λ (n : ℕ). SectionFails (end_in_children wants kind) refused n old after error) now.base
     (element_refused (codes "c") inner (end_in_child wants kind tag)
-    (IsChildRefused wants grounds format kind tag) refused after error found (λ told. refl)
+    (IsChildRefused wants context format kind tag) refused after error found (λ told. refl)
     (λ told refusal is. elim is [
       | inl own ↦ inl (
         own.0,
-        ap or_nothing (last_refused (child_value grounds format kind)
+        ap or_nothing (last_refused (child_value context format kind)
             (value_kept c.children.latest.value) (found.next told).elements
             (ap (in_element element) (rw (own_inside at) at own.1)) (now.value told own.0)),
       )
@@ -168,7 +161,8 @@ returns-clause-contents g c =
       formula = λ told wanted.
           let closes : FindsElementIn is_any base None mid new =
           rw c.in_default.is at
-          (c.in_ok-next_child_in.ensures.found (now.keeps.section.reads.moves.parts.is_told ∙ told))
+          (c.in_ok-next_child_in.ensures.found (now.keeps.section.reads.moves.parts.is_visible
+          ∙ told))
           in
           subst (λ (n : ℕ). ReadsCellFormulas c.args.asked.keeps_masters (content n (ahead old))
           c.args.masters.now behind) none
@@ -176,7 +170,8 @@ returns-clause-contents g c =
       covers = λ told wanted.
           let closes : FindsElementIn is_any base None mid new =
           rw c.in_default.is at
-          (c.in_ok-next_child_in.ensures.found (now.keeps.section.reads.moves.parts.is_told ∙ told))
+          (c.in_ok-next_child_in.ensures.found (now.keeps.section.reads.moves.parts.is_visible
+          ∙ told))
           in
           subst (λ (n : ℕ). covers_seen c.children.latest.formula
           ≡ covers_in (content n (ahead old))) none

@@ -1,6 +1,5 @@
 use Rattle.std.proofs.lemmas.List.Elements.{All-push}
-use Rattle.cell_data.specs.Cells.{IsPlacedInSheet}
-use Rattle.cell_data.specs.Gathered.{cells_gathered}
+use Rattle.cell_data.specs.Words.{IsPlacedInSheet, cells_gathered}
 use Rattle.xlsx_cells.proofs.covered_cells.keep_covered.Goals as goal
 
 pub returns-clause-inside : goal.returns-clause-inside

@@ -1,8 +1,8 @@
 use Rattle.std.proofs.Common.{◌≡◌, List, true}
-use Rattle.part_events.specs.Walk.{SameAhead}
-use Rattle.xlsx_sections.specs.PartSection.{KeepsSection}
+use Rattle.part_events.specs.Words.{SameAhead}
+use Rattle.xlsx_sections.specs.Words.{KeepsSection}
 use Rattle.xlsx_cells.specs.Counting.{AreKept}
-use Rattle.xlsx_cells.specs.Marks.{Mark, is_cell}
+use Rattle.xlsx_cells.specs.Marks.{Mark, is_cell_start}
 use Rattle.xlsx_cells.proofs.Passing.{HasPassed}
 use Rattle.xlsx_cells.proofs.finding.find_cell.Given as goal
 
@@ -12,8 +12,8 @@ invariant-events g l =
     let now = l.xml in
     record {
       section : KeepsSection l.base old now;
-      same : old.source.is_told ≡ true → SameAhead is_cell l.base old now;
-      passed : old.source.is_told ≡ true → (before : List Mark) → AreKept before l.fn.counters
+      same : old.source.is_visible ≡ true → SameAhead is_cell_start l.base old now;
+      passed : old.source.is_visible ≡ true → (before : List Mark) → AreKept before l.fn.counters
           → HasPassed before l.base old now l.counters;
     }
 

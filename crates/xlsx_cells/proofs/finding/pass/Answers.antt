@@ -2,9 +2,9 @@ use Rattle.std.proofs.Common.{◌≡◌, ℕ, List, Bool, true, false, Err, ◌�
 use Rattle.std.specs.Prelude.{◌||◌}
 use Rattle.std.specs.Str.{bytes_eq}
 use Rattle.std.proofs.lemmas.Result.{err_from_is_err_and}
-use Rattle.attr_text.specs.Attributes.{local_name_of}
-use Rattle.part_events.specs.Event.{tag_of}
-use Rattle.xlsx_sections.specs.Refusal.{Refusal}
+use Rattle.attr_text.specs.Words.{local_name_of}
+use Rattle.part_events.specs.Words.{tag_of}
+use Rattle.xlsx_sections.specs.Words.{Refusal}
 use Rattle.xlsx_cells.specs.Marks.{is_row}
 use Rattle.xlsx_cells.specs.Position.{row_named}
 use Rattle.xlsx_cells.proofs.Refusing.{is_refused_weaker}

@@ -1,7 +1,6 @@
 use Rattle.std.proofs.Common.{◌≡◌, ◌∷◌, ◌∙◌, false, true, sym, ap, length}
 use Rattle.std.proofs.lemmas.Result.{err_from_is_err_and}
-use Rattle.part_events.specs.Event.{Event, event_of}
-use Rattle.part_events.specs.Reading.{StepsAhead, ahead, events_of}
+use Rattle.part_events.specs.Words.{Event, event_of, StepsAhead, ahead, events_of}
 use Rattle.part_events.proofs.Onward.{whole_at_end, reads_further}
 use Rattle.xlsx_sections.proofs.ElementsRead.{at_end}
 use Rattle.xlsx_cells.specs.Head.{dimensions_at, starts_data, other_name}
@@ -23,7 +22,7 @@ returns-in_err-take-clause-err g c =
     (head_refused old new (dimensions_at event) c.in_err-take.field-0.0 c.in_err-take.ensures.err
     (λ told refusal is.
     let steps : StepsAhead true mid new =
-    rw c.if-branch.true at (c.in_ok-next.ensures.ahead (now.reads.moves.parts.is_told ∙ told)) in
+    rw c.if-branch.true at (c.in_ok-next.ensures.ahead (now.reads.moves.parts.is_visible ∙ told)) in
     dimensions_refused (now.keeps told)
     (steps.0 ∙ ap (λ (first : Event). first ∷ ahead new) (sym c.event-event.ensures)) none is))
 
@@ -36,7 +35,8 @@ returns-clause-err g c =
     head_ends old new (other_name c.events.head) c.lacks_data.result c.lacks_data.ensures
     (λ told.
     let steps : StepsAhead false mid new =
-    rw c.if-branch.false at (c.in_ok-next.ensures.ahead (now.reads.moves.parts.is_told ∙ told)) in
+    rw c.if-branch.false at (c.in_ok-next.ensures.ahead (now.reads.moves.parts.is_visible
+    ∙ told)) in
     let keeps = now.keeps told in (
       whole_at_end {new = new} (reads_further now.reads c.in_ok-next.ensures.reads) steps.1 told,
       no_data keeps steps.0,
@@ -60,6 +60,7 @@ returns-clause-lacks g c = λ told.
     let new = c.next.new.self in
     let now = c.events.invariant in
     let steps : StepsAhead false mid new =
-    rw c.if-branch.false at (c.in_ok-next.ensures.ahead (now.reads.moves.parts.is_told ∙ told)) in
+    rw c.if-branch.false at (c.in_ok-next.ensures.ahead (now.reads.moves.parts.is_visible
+    ∙ told)) in
     tells_with c.lacks_data.result
     (at_end {new = new} (reads_further now.reads c.in_ok-next.ensures.reads) steps.1 told)

@@ -1,5 +1,5 @@
 use Rattle.std.proofs.Common.{◌≡◌, true}
-use Rattle.part_events.specs.Reading.{ReadsOn, ahead}
+use Rattle.part_events.specs.Words.{ReadsOn, ahead}
 use Rattle.xlsx_cells.proofs.HeadRead.{KeepsHead}
 use Rattle.xlsx_cells.proofs.head.enter_data.Given as goal
 
@@ -9,7 +9,7 @@ invariant-events g l =
     let now = l.xml in
     record {
       reads : ReadsOn old now;
-      keeps : old.source.is_told ≡ true → KeepsHead (ahead old) l.head (ahead now);
+      keeps : old.source.is_visible ≡ true → KeepsHead (ahead old) l.head (ahead now);
     }
 
 abbrev pub decreases-events : goal.decreases-events

@@ -1,9 +1,8 @@
 use Rattle.std.proofs.Common.{◌≡◌, true}
-use Rattle.cell_data.specs.Cells.{AreInSheet}
-use Rattle.cell_data.specs.Gathered.{cells_gathered}
-use Rattle.xlsx_sections.specs.Elements.{KeepsElements}
-use Rattle.xlsx_values.specs.Book.{grounds_of}
-use Rattle.xlsx_cells.specs.Marks.{is_cell}
+use Rattle.cell_data.specs.Words.{AreInSheet, cells_gathered}
+use Rattle.xlsx_sections.specs.Words.{KeepsElements}
+use Rattle.xlsx_values.specs.Words.{context_of}
+use Rattle.xlsx_cells.specs.Marks.{is_cell_start}
 use Rattle.xlsx_cells.specs.Stream.{stream, IsGoing}
 use Rattle.xlsx_cells.specs.StyledValues.{styled_entries}
 use Rattle.xlsx_cells.proofs.StyledCollected.{HasStyled}
@@ -15,11 +14,11 @@ invariant-cells g l =
     let now = stream l.xml l.sheet in
     record {
       base : now.base ≡ old.base;
-      keeps : KeepsElements is_cell old.base old.reading now.reading;
+      keeps : KeepsElements is_cell_start old.base old.reading now.reading;
       going : IsGoing now;
       inside : AreInSheet (cells_gathered l.cells);
-      collected : old.reading.source.is_told ≡ true →
-          HasStyled l.asked.wants (grounds_of l.asked.book) old now
+      collected : old.reading.source.is_visible ≡ true →
+          HasStyled l.asked.wants (context_of l.asked.book) old now
           (styled_entries (cells_gathered l.cells));
     }
 

@@ -2,7 +2,7 @@ use Rattle.std.proofs.Common.{rules, ◌≡◌, ℤ, pos, ◌-ℤ◌, ap, ◌∙
 use Rattle.std.specs.Prelude.{FitsSigned}
 use Rattle.std.specs.Int.{w128}
 use Rattle.std.specs.Ordering.{int_cmp}
-use Rattle.decimals.specs.Decimal.{number_of}
+use Rattle.decimals.specs.Words.{number_of}
 use Rattle.xlsx_check.specs.Evaluation.{taken_to}
 use Rattle.xlsx_check.proofs.Numbers.{both_ordered, first_order, second_order}
 use Rattle.xlsx_check.proofs.denotation.compare_numbers.Goals as goal

@@ -1,7 +1,7 @@
 use Rattle.std.proofs.Common.{rules, ◌≡◌, ℤ, ◌+ℤ◌, ◌*ℤ◌}
 use Rattle.std.specs.Prelude.{FitsSigned, SomeIff}
 use Rattle.std.specs.Int.{w128}
-use Rattle.decimals.specs.Decimal.{number_of}
+use Rattle.decimals.specs.Words.{number_of}
 use Rattle.xlsx_check.specs.Denoting.{denoted_by}
 use Rattle.xlsx_check.specs.Evaluation.{from_whole}
 use Rattle.xlsx_check.proofs.Numbers.{whole_fits}

@@ -1,7 +1,7 @@
 use Rattle.std.proofs.Common.{rules, ◌≡◌, ℤ, pos, ◌+ℤ◌, ap, ◌∙◌, of_z}
 use Rattle.std.specs.Prelude.{FitsSigned, SomeIff}
 use Rattle.std.specs.Int.{w128}
-use Rattle.decimals.specs.Decimal.{number_of}
+use Rattle.decimals.specs.Words.{number_of}
 use Rattle.xlsx_check.specs.Denoting.{denoted_by}
 use Rattle.xlsx_check.specs.Evaluation.{from_whole, taken_to}
 use Rattle.xlsx_check.proofs.Numbers.{sum_fits, first_past, second_past, sum_of_some}

@@ -1,7 +1,7 @@
 use Rattle.std.proofs.Common.{rules, ◌≡◌, ◌<◌, ◌^◌, pos, ◌-ℤ◌, ◌*ℤ◌, nat_abs, ◌∙◌, ap, of_z}
 use Rattle.std.specs.Prelude.{SomeIff, FitsSigned}
 use Rattle.std.specs.Int.{w128}
-use Rattle.decimals.specs.Decimal.{number_of}
+use Rattle.decimals.specs.Words.{number_of}
 use Rattle.xlsx_check.proofs.Numbers.{taken_past, taken_is}
 use Rattle.xlsx_check.proofs.denotation.taken_to.Goals as goal
 

@@ -1,6 +1,6 @@
 use Rattle.std.proofs.Common.{◌+◌, ◌*◌, ◌≤◌, length}
-use Rattle.xlsx_check.specs.Denoting.{denoted_by, values_of, ahead, factor_from, product_from}
-use Rattle.xlsx_check.specs.Denoting.{sum_from}
+use Rattle.xlsx_check.specs.Denoting.{denoted_by, values_of, tokens_ahead, factor_from}
+use Rattle.xlsx_check.specs.Denoting.{product_from, sum_from}
 use Rattle.xlsx_check.specs.Trees.{is_addition, is_multiplication}
 use Rattle.xlsx_check.proofs.Going.{Goes}
 use Rattle.xlsx_check.proofs.descent.+descent.Given as goal
@@ -23,19 +23,20 @@ decreases-group l = 5 * l.levels + 4
 abbrev pub invariant-product-factors : goal.invariant-product-factors
 invariant-product-factors l = record {
   goes : Goes (values_of l.values) is_multiplication (factor_from l.levels)
-      (product_from l.levels (ahead l.fn.tokens)) (denoted_by l.left) (ahead l.tokens);
-  shorter : length (ahead l.tokens) ≤ length (ahead l.fn.tokens);
+      (product_from l.levels (tokens_ahead l.fn.tokens)) (denoted_by l.left)
+      (tokens_ahead l.tokens);
+  shorter : length (tokens_ahead l.tokens) ≤ length (tokens_ahead l.fn.tokens);
 }
 
 abbrev pub decreases-product-factors : goal.decreases-product-factors
-decreases-product-factors l = length (ahead l.tokens)
+decreases-product-factors l = length (tokens_ahead l.tokens)
 
 abbrev pub invariant-sum-terms : goal.invariant-sum-terms
 invariant-sum-terms l = record {
   goes : Goes (values_of l.values) is_addition (product_from l.levels)
-      (sum_from l.levels (ahead l.fn.tokens)) (denoted_by l.left) (ahead l.tokens);
-  shorter : length (ahead l.tokens) ≤ length (ahead l.fn.tokens);
+      (sum_from l.levels (tokens_ahead l.fn.tokens)) (denoted_by l.left) (tokens_ahead l.tokens);
+  shorter : length (tokens_ahead l.tokens) ≤ length (tokens_ahead l.fn.tokens);
 }
 
 abbrev pub decreases-sum-terms : goal.decreases-sum-terms
-decreases-sum-terms l = length (ahead l.tokens)
+decreases-sum-terms l = length (tokens_ahead l.tokens)

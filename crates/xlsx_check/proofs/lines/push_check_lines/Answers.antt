@@ -1,8 +1,8 @@
 use Rattle.std.proofs.Common.{ap, map, string_bytes}
 use Rattle.std.proofs.lemmas.List.Elements.{All-rest}
-use Rattle.cell_data.specs.Cells.{IsPlacedInSheet}
+use Rattle.cell_data.specs.Words.{IsPlacedInSheet}
 use Rattle.escaped_text.proofs.Extending.{Extends-push, Extends-trans}
-use Rattle.sorted_cells.specs.Placed.{placed_left}
+use Rattle.sorted_cells.specs.Words.{placed_left}
 use Rattle.xlsx_check.specs.Denoting.{values_of}
 use Rattle.xlsx_check.specs.Lines.{formulas_of, verdict_line}
 use Rattle.xlsx_check.specs.Verdicts.{verdict_of}

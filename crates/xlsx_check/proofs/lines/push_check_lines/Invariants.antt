@@ -1,7 +1,7 @@
 use Rattle.std.proofs.Common.{◌≡◌, ◌++◌, All, map, string_bytes}
-use Rattle.cell_data.specs.Cells.{IsPlacedInSheet}
-use Rattle.escaped_text.specs.Escaped.{Extends}
-use Rattle.sorted_cells.specs.Placed.{placed_left}
+use Rattle.cell_data.specs.Words.{IsPlacedInSheet}
+use Rattle.escaped_text.specs.Escaped.{AddsBehind}
+use Rattle.sorted_cells.specs.Words.{placed_left}
 use Rattle.xlsx_check.specs.Denoting.{values_of}
 use Rattle.xlsx_check.specs.Lines.{formulas_of, check_lines}
 use Rattle.xlsx_check.proofs.lines.push_check_lines.Given as goal
@@ -12,6 +12,6 @@ invariant-loop-position l = record {
       ++ check_lines (values_of l.values)
       (map (λ cell. (cell.0, string_bytes cell.1)) (placed_left l.position-iterator))
       ≡ string_bytes l.fn.out ++ check_lines (values_of l.values) (formulas_of l.formulas);
-  extends : Extends (string_bytes l.fn.out) (string_bytes l.out);
+  extends : AddsBehind (string_bytes l.fn.out) (string_bytes l.out);
   sheet : All IsPlacedInSheet (placed_left l.position-iterator);
 }

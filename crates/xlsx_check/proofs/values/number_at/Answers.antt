@@ -1,7 +1,7 @@
 use Rattle.std.proofs.Common.{rules, ◌≡◌, Some, None, ap, sym, ◌∙◌}
 use Rattle.std.specs.FinMap.{find}
-use Rattle.cell_refs.specs.Positions.{position_cmp}
-use Rattle.cell_data.specs.Range.{cells_of}
+use Rattle.cell_refs.specs.Words.{position_cmp}
+use Rattle.cell_data.specs.Words.{cells_of}
 use Rattle.xlsx_check.specs.Evaluation.{number_in}
 use Rattle.xlsx_check.proofs.Placing.{placed_some, placed_none}
 use Rattle.xlsx_check.proofs.values.number_at.Goals as goal

@@ -1,5 +1,5 @@
 use Rattle.std.proofs.Common.{◌≡◌, ◌++◌, drop, map, string_bytes}
-use Rattle.xlsx_workbook.specs.KeptContents.{pair_of}
+use Rattle.xlsx_workbook.specs.Words.{pair_of}
 use Rattle.xlsx_commands.specs.BookLists.{name_lines}
 use Rattle.xlsx_commands.proofs.book_lists.lines_of_names.Given as goal
 

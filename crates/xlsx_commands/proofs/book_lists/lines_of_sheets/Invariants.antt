@@ -1,5 +1,5 @@
 use Rattle.std.proofs.Common.{◌≡◌, ◌++◌, drop, map, string_bytes}
-use Rattle.xlsx_open.specs.Opening.{listed_sheet}
+use Rattle.xlsx_open.specs.Words.{listed_sheet}
 use Rattle.xlsx_commands.specs.BookLists.{sheet_lines}
 use Rattle.xlsx_commands.proofs.book_lists.lines_of_sheets.Given as goal
 

@@ -1,7 +1,7 @@
 use Rattle.std.proofs.Common.{refl}
 use Rattle.input_package.specs.Told.{told_state}
 use Rattle.std.proofs.lemmas.Result.{err_from_is_err_and}
-use Rattle.xlsx_open.specs.Opening.{OpeningCause}
+use Rattle.xlsx_open.specs.Words.{OpeningCause}
 use Rattle.xlsx_commands.proofs.MemoryCalls.{memory_fails}
 use Rattle.xlsx_commands.proofs.book_lists.metadata_beside.Goals as goal
 

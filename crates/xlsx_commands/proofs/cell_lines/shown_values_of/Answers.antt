@@ -2,7 +2,7 @@ use Rattle.input_package.specs.Told.{told_state}
 use Rattle.std.proofs.Common.{◌∙◌, ap, refl}
 use Rattle.std.specs.Result.{result_from_control_flow}
 use Rattle.std.proofs.lemmas.Result.{err_from_is_err_and}
-use Rattle.xlsx_core.specs.SheetReading.{SheetCause}
+use Rattle.xlsx_core.specs.Words.{SheetCause}
 use Rattle.xlsx_commands.proofs.OutputLemmas.{err_at}
 use Rattle.xlsx_commands.proofs.MemoryCalls.{memory_fails}
 use Rattle.xlsx_commands.proofs.cell_lines.shown_values_of.Goals as goal
@@ -12,7 +12,7 @@ returns-in_err-values-clause-err c =
     let handed = err_from_is_err_and c.from_residual.result c.from_residual.ensures.1 in
     let answered = c.branch-values.ensures ∙ ap result_from_control_flow c.in_err-values.is in
     let result = c.read_sheet_shown-result.result.result in
-    let fails = err_at result _ _ answered c.read_sheet_shown-result.ensures.err in
+    let fails = err_at result _ _ answered c.read_sheet_shown-result.ensures.answers.err in
     let cause = SheetCause c.args.package.parts c.args.name.now in
     rw (handed.1, handed.2)
     (memory_fails cause cause (told_state c.args.package)

@@ -3,7 +3,7 @@ use Rattle.std.proofs.Common.{string_bytes, ℕ, List, map, take}
 use Rattle.std.specs.Prelude.{if◌then◌else◌}
 use Rattle.std.specs.BTreeSet.{contains_text}
 use Rattle.std.specs.Str.{bytes_eq}
-use Rattle.xlsx_open.specs.Opening.{listed_sheet}
+use Rattle.xlsx_open.specs.Words.{listed_sheet}
 use Rattle.xlsx_commands.specs.ChosenSheets.{is_worksheet}
 use Rattle.xlsx_commands.proofs.SheetsChosen.{is_chosen_at, chosen_here, passed_here, none_chosen}
 use Rattle.xlsx_commands.proofs.SheetsChosen.{names_more}

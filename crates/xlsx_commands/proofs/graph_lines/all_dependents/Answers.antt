@@ -1,7 +1,7 @@
-use Rattle.std.proofs.Common.{◌≡◌, ◌∙◌, ap, refl, rules, ℕ, List, ◌++◌, map, Some, None, Vec, Global}
-use Rattle.std.proofs.Common.{string_bytes}
+use Rattle.std.proofs.Common.{◌≡◌, ◌∙◌, ap, refl, rules, ℕ, List, ◌++◌, map, Some, None, Vec}
+use Rattle.std.proofs.Common.{Global, string_bytes}
 use Rattle.std.proofs.lemmas.Result.{err_from_is_err_and}
-use Rattle.xlsx_graph.specs.GraphLines.{dependents_lines}
+use Rattle.xlsx_graph.specs.Words.{all_dependents_lines}
 use Rattle.xlsx_workbook.specs.declared.sheet.Sheet.{Sheet}
 use Rattle.xlsx_commands.specs.GraphLists.{DependentsPathCause, HasLargeDependents}
 use Rattle.xlsx_commands.specs.GraphLists.{NamedDependentsCause, cell_on, sheet_called}
@@ -28,7 +28,7 @@ returns-in_default-clause-err c =
     let xlsx = c.in_ok-xlsx.xlsx in
     let opened = c.in_ok-xlsx.ensures.opens refl in
     let none : sheet_called c.args.name.now
-    (map (λ (sheet : Sheet). string_bytes sheet.name) xlsx.metadata.sheets.items) ≡ None =
+    (map (λ (sheet : Sheet). string_bytes sheet.name) xlsx.workbook.metadata.sheets.items) ≡ None =
     search rules in
     lacks_name c.args.package.parts xlsx
     (is_opened c.args.package.parts xlsx opened.0 opened.1 opened.2
@@ -41,7 +41,7 @@ returns-in_err-own-clause-err c =
     let opened = c.in_ok-xlsx.ensures.opens refl in
     let kept = c.in_ok-xlsx.ensures.uses.parts in
     let is : sheet_called c.args.name.now
-    (map (λ (sheet : Sheet). string_bytes sheet.name) xlsx.metadata.sheets.items)
+    (map (λ (sheet : Sheet). string_bytes sheet.name) xlsx.workbook.metadata.sheets.items)
     ≡ Some c.in-Some.sheet = search rules in
     let handed = err_from_is_err_and c.from_residual-in_err-own.result
     c.from_residual-in_err-own.ensures.1 in
@@ -50,7 +50,7 @@ returns-in_err-own-clause-err c =
     (is_opened c.args.package.parts xlsx opened.0 opened.1 opened.2
     (c.in_ok-xlsx.ensures.scopes refl) kept.parts)
     c.args.name.now c.in-Some.sheet c.in_err-own.field-0.0 is
-    (c.in_err-own.ensures.err kept.is_told))
+    (c.in_err-own.ensures.err kept.is_visible))
 
 pub returns-clause-ok : goal.returns-clause-ok
 returns-clause-ok c =
@@ -59,9 +59,10 @@ returns-clause-ok c =
     let kept = c.in_ok-xlsx.ensures.uses.parts in
     let own = c.in_ok-own.own in
     let sheet = c.in-Some.sheet in
-    let graph = c.in_ok-own.ensures.ok kept.is_told in
+    let graph = c.in_ok-own.ensures.ok kept.is_visible in
     let is : sheet_called c.args.name.now
-    (map (λ (sheet : Sheet). string_bytes sheet.name) xlsx.metadata.sheets.items) ≡ Some sheet =
+    (map (λ (sheet : Sheet). string_bytes sheet.name) xlsx.workbook.metadata.sheets.items)
+    ≡ Some sheet =
     search rules in
     dependents_listed c.args.package.parts xlsx
     (is_opened c.args.package.parts xlsx opened.0 opened.1 opened.2
@@ -70,5 +71,5 @@ returns-clause-ok c =
     graph.has graph.fits is
     (ap (λ (bytes : Vec ℕ Global). bytes.items) c.into_bytes.ensures.value
     ∙ c.in_ok-push_dependents_at.ensures.ok
-    ∙ ap (λ (front : List ℕ). front ++ dependents_lines own.book own.graph.formulas
+    ∙ ap (λ (front : List ℕ). front ++ all_dependents_lines own.book own.graph.formulas
     (cell_on sheet c.args.position)) c.new-out.ensures.bytes)

@@ -22,7 +22,7 @@ returns-in_err-own-clause-err c =
     (graph_refused c.args.package.parts xlsx
     (is_opened c.args.package.parts xlsx opened.0 opened.1 opened.2
     (c.in_ok-xlsx.ensures.scopes refl) kept.parts)
-    c.in_err-own.field-0.0 (c.in_err-own.ensures.err kept.is_told))
+    c.in_err-own.field-0.0 (c.in_err-own.ensures.err kept.is_visible))
 
 pub returns-clause-ok : goal.returns-clause-ok
 returns-clause-ok c =
@@ -30,7 +30,7 @@ returns-clause-ok c =
     let opened = c.in_ok-xlsx.ensures.opens refl in
     let kept = c.in_ok-xlsx.ensures.uses.parts in
     let own = c.in_ok-own.own in
-    let is = c.in_ok-own.ensures.ok kept.is_told in
+    let is = c.in_ok-own.ensures.ok kept.is_visible in
     record {
       book = own.book;
       formulas = own.graph.formulas;

@@ -1,4 +1,4 @@
-use Rattle.xlsx_core.specs.SheetReading.{events_at}
+use Rattle.xlsx_core.specs.Words.{events_at}
 use Rattle.xlsx_commands.proofs.AreasInside.{merges_lie_inside}
 use Rattle.xlsx_commands.proofs.merge_lines.merge_lines.Goals as goal
 

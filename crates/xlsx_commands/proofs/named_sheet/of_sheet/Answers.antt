@@ -1,7 +1,7 @@
 use Rattle.std.proofs.Common.{List, refl, subst}
 use Rattle.std.proofs.lemmas.Result.{err_from_is_err_and}
-use Rattle.part_events.specs.Package.{Part}
-use Rattle.xlsx_core.specs.Worksheets.{path_of}
+use Rattle.part_events.specs.Words.{Part}
+use Rattle.xlsx_core.specs.Words.{path_of}
 use Rattle.xlsx_commands.proofs.NamedSheets.{opens_at, opening_fails_named, sheet_fails_named}
 use Rattle.xlsx_commands.proofs.named_sheet.of_sheet.Goals as goal
 
@@ -36,5 +36,5 @@ returns-clause-ok g c =
       path,
       opens_at name opened.0 opened.1 opened.2,
       subst (λ (own : List Part). g.T.OfSheet.has c.in_ok-found.field-0 name path own) same.parts
-          (c.in_ok-found.ensures.ok same.is_told),
+          (c.in_ok-found.ensures.ok same.is_visible),
     )

@@ -1,7 +1,6 @@
 use Rattle.std.proofs.Common.{refl}
 use Rattle.std.proofs.lemmas.Result.{err_from_is_err_and}
-use Rattle.xlsx_pivots.specs.PivotTables.{pivots_kept}
-use Rattle.xlsx_pivots.specs.Pivots.{PivotsCause}
+use Rattle.xlsx_pivots.specs.Words.{pivots_kept, PivotsCause}
 use Rattle.xlsx_commands.proofs.PivotsListed.{has_pivots, pivots_there}
 use Rattle.xlsx_commands.proofs.SheetsOpened.{opening_unlisted, sheets_unlisted}
 use Rattle.xlsx_commands.proofs.pivot_lines.find_pivots.Goals as goal
@@ -33,4 +32,4 @@ returns-clause-ok c =
     let opened = c.in_ok-xlsx.ensures.opens refl in
     has_pivots c.args.package.parts opened.0 c.in_ok-xlsx.xlsx (pivots_kept c.in_ok-pivots.field-0)
     opened.2 opened.1 (c.in_ok-xlsx.ensures.folder refl) c.in_ok-xlsx.ensures.uses.parts.parts
-    (c.in_ok-pivots.ensures.answers.said c.in_ok-xlsx.ensures.uses.parts.is_told)
+    (c.in_ok-pivots.ensures.answers.said c.in_ok-xlsx.ensures.uses.parts.is_visible)

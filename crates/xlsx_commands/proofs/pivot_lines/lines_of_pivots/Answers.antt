@@ -1,7 +1,7 @@
 use Rattle.std.proofs.Common.{◌≡◌, ◌∷◌, ◌++◌, ◌∙◌, ap, sym, List, ℕ, string_bytes, append_assoc}
 use Rattle.std.proofs.Common.{append-nil}
 use Rattle.list_lines.specs.Lines.{pivot_line}
-use Rattle.xlsx_pivots.specs.PivotTables.{pairs_left, pair_given}
+use Rattle.xlsx_pivots.specs.Words.{pairs_left, pair_given}
 use Rattle.xlsx_commands.specs.PivotLists.{pivot_lines}
 use Rattle.xlsx_commands.proofs.pivot_lines.lines_of_pivots.Goals as goal
 

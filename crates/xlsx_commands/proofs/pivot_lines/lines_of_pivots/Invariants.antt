@@ -1,5 +1,5 @@
 use Rattle.std.proofs.Common.{◌≡◌, ◌++◌, string_bytes}
-use Rattle.xlsx_pivots.specs.PivotTables.{pairs_left, pairs_of, pivots_kept}
+use Rattle.xlsx_pivots.specs.Words.{pairs_left, pairs_of, pivots_kept}
 use Rattle.xlsx_commands.specs.PivotLists.{pivot_lines}
 use Rattle.xlsx_commands.proofs.pivot_lines.lines_of_pivots.Given as goal
 

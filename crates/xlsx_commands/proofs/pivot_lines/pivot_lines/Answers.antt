@@ -1,7 +1,6 @@
 use Rattle.std.proofs.Common.{◌∙◌, ap, ℕ, Vec, Global}
 use Rattle.std.proofs.lemmas.Result.{err_from_is_err_and}
-use Rattle.xlsx_pivots.specs.PivotTables.{pivots_kept}
-use Rattle.xlsx_pivots.specs.Pivots.{PivotsCause}
+use Rattle.xlsx_pivots.specs.Words.{pivots_kept, PivotsCause}
 use Rattle.xlsx_commands.proofs.SheetsOpened.{listing_is_listed}
 use Rattle.xlsx_commands.proofs.pivot_lines.pivot_lines.Goals as goal
 

@@ -1,19 +1,15 @@
 use Rattle.xlsx_commands.specs.Status.{of_workbook}
 use Rattle.xlsx_commands.specs.SheetsRefused.{CacheFails}
-use Rattle.part_events.specs.Reading.{Reading}
+use Rattle.part_events.specs.Words.{Reading, Event, events_of}
 use Rattle.std.proofs.Common.{◌∷◌, ◌++◌, ◌∙◌, [], ap, sym, List, ℕ, Some}
 use Rattle.std.specs.Prelude.{option_map}
-use Rattle.cell_data.specs.CellValue.{CellValue}
-use Rattle.part_events.specs.Event.{Event}
+use Rattle.cell_data.specs.Words.{CellValue}
 use Rattle.input_package.specs.Told.{told_state}
 use Rattle.sheet_listing.specs.SheetListing.{row_line}
-use Rattle.part_events.specs.Reading.{events_of}
-use Rattle.xlsx_sections.specs.Failing.{FailsBy}
-use Rattle.xlsx_pivot_cache.specs.CacheErrors.{IsRowError}
-use Rattle.xlsx_pivot_cache.specs.CacheRecords.{row_kept, RowsCause}
-use Rattle.xlsx_pivot_cache.specs.PivotRows.{pivot_rows, cache_rows_left, TakesRow, KeepsPart}
-use Rattle.xlsx_commands.proofs.CachesRead.{opening_rows_fails, row_fails, rows_moved}
-use Rattle.xlsx_commands.proofs.CachesRead.{lines_behind}
+use Rattle.xlsx_sections.specs.Words.{FailsBy}
+use Rattle.xlsx_pivot_cache.specs.Words.{IsRowError, row_kept, RowsCause, pivot_rows}
+use Rattle.xlsx_pivot_cache.specs.Words.{cache_rows_left, TakesRow, KeepsPart}
+use Rattle.xlsx_commands.proofs.CachesRead.{opening_rows_fails, row_fails, rows_moved, lines_behind}
 use Rattle.xlsx_commands.proofs.pivot_rows.lines_of_cache.Goals as goal
 
 pub returns-in-Err-clause-err : goal.returns-in-Err-clause-err
@@ -23,7 +19,7 @@ returns-in-Err-clause-err c =
     c.args.records.now (of_workbook c.in-Err.error) =
     opening_rows_fails c.args.definitions.now c.args.records.now c.new-xml.result.source
     c.open.new.xml.source c.in-Err.error (c.into_package.result, c.into_package.ensures)
-    (ap (λ (r : Reading). r.source.is_told) c.new-xml.ensures) c.in-Err.ensures.kind
+    (ap (λ (r : Reading). r.source.is_visible) c.new-xml.ensures) c.in-Err.ensures.kind
     c.in-Err.ensures.err in
     rw c.from.ensures (rw c.new-xml.ensures at fails)
 
@@ -52,7 +48,7 @@ rows-preserved c =
     rw c.in-Ok-next.is at c.in-Some.ensures.gives.reads in
     let takes : TakesRow row old new = rw c.in-Ok-next.is at c.in-Some.ensures.gives.row in
     record {
-      told = reads.moves.parts.is_told ∙ now.told;
+      told = reads.moves.parts.is_visible ∙ now.told;
       at = c.next.ensures.at;
       fields = rw c.next.ensures.fields now.fields;
       part = now.part ∙ ap (λ (own : List Event). Some own) (sym (reads.part now.told));

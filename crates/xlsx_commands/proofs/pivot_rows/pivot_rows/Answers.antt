@@ -1,6 +1,6 @@
 use Rattle.std.proofs.Common.{sym}
 use Rattle.std.proofs.lemmas.Result.{err_from_is_err_and}
-use Rattle.xlsx_pivots.specs.PivotTables.{pivots_kept}
+use Rattle.xlsx_pivots.specs.Words.{pivots_kept}
 use Rattle.xlsx_commands.specs.CacheRows.{HasCache}
 use Rattle.xlsx_commands.proofs.CachesRead.{finding_is_named, cache_is_named}
 use Rattle.xlsx_commands.proofs.pivot_rows.pivot_rows.Goals as goal

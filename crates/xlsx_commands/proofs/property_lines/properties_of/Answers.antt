@@ -1,9 +1,9 @@
 use Rattle.input_package.specs.Told.{told_state}
 use Rattle.std.proofs.Common.{refl, inl, inr, List, subst}
 use Rattle.std.proofs.lemmas.Result.{err_from_is_err_and}
-use Rattle.part_events.specs.Package.{Part}
+use Rattle.part_events.specs.Words.{Part}
 use Rattle.xlsx_properties.specs.Parts.{PropertiesCause}
-use Rattle.xlsx_open.specs.Opening.{OpeningCause}
+use Rattle.xlsx_open.specs.Words.{OpeningCause}
 use Rattle.xlsx_commands.specs.PropertyLists.{ListedPropertiesCause}
 use Rattle.xlsx_commands.proofs.MemoryCalls.{memory_fails}
 use Rattle.xlsx_commands.proofs.property_lines.properties_of.Goals as goal
@@ -32,7 +32,7 @@ returns-in_err-properties-clause-err c =
     (memory_fails (ListedPropertiesCause parts) (PropertiesCause xlsx.xml.source.parts)
     xlsx.xml.source
     c.workbook_properties-properties.new.self.xml.source error
-    (c.into_package.result, c.into_package.ensures) c.in_ok-xlsx.ensures.uses.parts.is_told
+    (c.into_package.result, c.into_package.ensures) c.in_ok-xlsx.ensures.uses.parts.is_visible
     (λ cause. inr (
       (opened.0, opened.2),
       subst (λ (own : List Part). PropertiesCause own error)

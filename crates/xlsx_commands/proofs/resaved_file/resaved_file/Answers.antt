@@ -1,6 +1,6 @@
 use Rattle.std.proofs.Common.{ap, sym}
-use Rattle.part_events.specs.Memory.{Contents}
-use Rattle.xlsx_core.specs.SheetReading.{SheetCause}
+use Rattle.part_events.specs.Words.{Contents}
+use Rattle.xlsx_core.specs.Words.{SheetCause}
 use Rattle.xlsx_commands.proofs.FilesMade.{file_made, file_refused}
 use Rattle.xlsx_commands.proofs.resaved_file.resaved_file.Goals as goal
 

@@ -1,8 +1,8 @@
 use Rattle.std.proofs.Common.{◌∙◌, ap}
 use Rattle.std.specs.Result.{result_from_control_flow}
 use Rattle.std.proofs.lemmas.Result.{err_from_is_err_and}
-use Rattle.cell_data.specs.RangeItems.{box_count}
-use Rattle.xlsx_core.specs.SheetReading.{SheetCause}
+use Rattle.cell_data.specs.Words.{box_count}
+use Rattle.xlsx_core.specs.Words.{SheetCause}
 use Rattle.xlsx_commands.specs.SheetRows.{HasLargeArea}
 use Rattle.xlsx_commands.proofs.OutputLemmas.{ok_at, err_at}
 use Rattle.xlsx_commands.proofs.RowsPlaced.{arrays_of_sheet, large_of_sheet, fits_by, rows_fail}

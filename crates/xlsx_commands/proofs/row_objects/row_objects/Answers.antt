@@ -1,10 +1,9 @@
 use Rattle.std.proofs.Common.{◌∙◌, ap}
 use Rattle.std.specs.Result.{result_from_control_flow}
 use Rattle.std.proofs.lemmas.Result.{err_from_is_err_and}
-use Rattle.cell_data.specs.Range.{bounds_of, height_of}
-use Rattle.cell_data.specs.RangeItems.{box_count, row_items}
+use Rattle.cell_data.specs.Words.{bounds_of, height_of, box_count, row_items}
 use Rattle.json_rows.specs.RowObjects.{keys_over}
-use Rattle.xlsx_core.specs.SheetReading.{SheetCause}
+use Rattle.xlsx_core.specs.Words.{SheetCause}
 use Rattle.xlsx_commands.specs.RowObjects.{HasNoHeader, HasDoubleKey}
 use Rattle.xlsx_commands.specs.SheetRows.{HasLargeArea}
 use Rattle.xlsx_commands.proofs.ObjectsPlaced.{objects_of_sheet, double_of_sheet, headless_sheet}

@@ -1,6 +1,6 @@
 use Rattle.std.proofs.Common.{◌≡◌, ◌∙◌, subst, sym, true, Option}
-use Rattle.cell_data.specs.Range.{cells_of}
-use Rattle.cell_refs.specs.Positions.{lie_inside}
+use Rattle.cell_data.specs.Words.{cells_of}
+use Rattle.cell_refs.specs.Words.{lie_inside}
 use Rattle.cell_refs.specs.declared.dimensions.Dimensions.{Dimensions}
 use Rattle.xlsx_commands.proofs.RowsPlaced.{all_kept}
 use Rattle.xlsx_commands.proofs.sheet_rows.from_first_cell.Goals as goal

@@ -1,7 +1,7 @@
-use Rattle.std.proofs.Common.{◌≡◌, ◌∷◌, ◌∙◌, ap, sym, map, drop, arith, ℕ, List}
-use Rattle.std.proofs.Common.{add-one, append-nil, string_bytes, ◌++◌}
+use Rattle.std.proofs.Common.{◌≡◌, ◌∷◌, ◌∙◌, ap, sym, map, drop, arith, ℕ, List, add-one}
+use Rattle.std.proofs.Common.{append-nil, string_bytes, ◌++◌}
 use Rattle.xlsx_tables.specs.Tables.{SheetTable}
-use Rattle.xlsx_core.specs.TableList.{loaded_tables, table_names_left}
+use Rattle.xlsx_core.specs.Words.{loaded_tables, table_names_left}
 use Rattle.xlsx_commands.specs.TableLists.{table_lines, line_of_table}
 use Rattle.xlsx_commands.proofs.TablesListed.{name_said, next_table, lines_more, none_left}
 use Rattle.xlsx_commands.proofs.table_lines.lines_of_tables.Goals as goal

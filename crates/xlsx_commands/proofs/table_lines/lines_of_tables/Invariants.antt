@@ -1,5 +1,5 @@
 use Rattle.std.proofs.Common.{◌≡◌, ◌≤◌, ◌++◌, drop, length, map, string_bytes}
-use Rattle.xlsx_core.specs.TableList.{loaded_tables, table_names_left}
+use Rattle.xlsx_core.specs.Words.{loaded_tables, table_names_left}
 use Rattle.xlsx_commands.specs.TableLists.{table_lines}
 use Rattle.xlsx_commands.proofs.TablesListed.{name_said}
 use Rattle.xlsx_commands.proofs.table_lines.lines_of_tables.Given as goal

@@ -1,6 +1,6 @@
 use Rattle.std.proofs.Common.{◌∙◌, ap, map, string_bytes, ◌++◌}
 use Rattle.std.proofs.lemmas.Result.{on_ok_weaker}
-use Rattle.xlsx_core.specs.TableList.{loaded_tables}
+use Rattle.xlsx_core.specs.Words.{loaded_tables}
 use Rattle.xlsx_commands.proofs.TablesListed.{area_lies, line_at}
 use Rattle.xlsx_commands.proofs.table_lines.push_table.Goals as goal
 

@@ -1,6 +1,6 @@
 use Rattle.std.proofs.lemmas.Result.{err_from_is_err_and}
 use Rattle.std.proofs.Common.{◌∙◌, ap, ℕ, Vec, Global}
-use Rattle.xlsx_core.specs.TableList.{loaded_tables}
+use Rattle.xlsx_core.specs.Words.{loaded_tables}
 use Rattle.xlsx_tables.specs.Tables.{TablesCause}
 use Rattle.xlsx_commands.proofs.SheetsOpened.{listing_is_listed}
 use Rattle.xlsx_commands.proofs.table_lines.table_lines.Goals as goal

@@ -2,7 +2,7 @@ use Rattle.std.proofs.Common.{◌∙◌, ap, ℕ, Vec, Global}
 use Rattle.cell_data.specs.declared.range.Range.{Range}
 use Rattle.cell_data.specs.declared.value.Data.{Data}
 use Rattle.sheet_listing.specs.SheetListing.{value_lines}
-use Rattle.cell_data.specs.Pairs.{value_pairs}
+use Rattle.cell_data.specs.Words.{value_pairs}
 use Rattle.xlsx_commands.proofs.table_lines.table_value_lines.Goals as goal
 
 pub returns-clause-ok : goal.returns-clause-ok

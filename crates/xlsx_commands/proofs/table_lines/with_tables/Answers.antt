@@ -29,5 +29,5 @@ returns-in-Ok-clause-ok c =
     let opened = c.in_ok-xlsx.ensures.opens refl in
     let same = c.in_ok-xlsx.ensures.uses.parts in
     opened_with c.args.package.parts opened.0 c.in_ok-xlsx.xlsx c.load_tables.new.self opened.2
-    opened.1 same.is_told same.parts c.in_ok-xlsx.ensures.header_row c.load_tables.ensures.book
-    c.in-Ok.ensures.answers.uses.parts (c.in-Ok.ensures.answers.said same.is_told)
+    opened.1 same.is_visible same.parts c.in_ok-xlsx.ensures.header_row c.load_tables.ensures.book
+    c.in-Ok.ensures.answers.uses.parts (c.in-Ok.ensures.answers.said same.is_visible)

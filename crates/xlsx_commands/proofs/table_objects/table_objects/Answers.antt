@@ -1,6 +1,6 @@
 use Rattle.std.proofs.Common.{◌∙◌, ap, map, string_bytes, arith, false}
 use Rattle.std.proofs.lemmas.Result.{err_from_is_err_and}
-use Rattle.cell_data.specs.RangeItems.{box_count}
+use Rattle.cell_data.specs.Words.{box_count}
 use Rattle.xlsx_commands.specs.TableLists.{NamedTableCause}
 use Rattle.xlsx_commands.specs.TableObjects.{HasDoubleName}
 use Rattle.xlsx_commands.specs.TableRows.{HasLargeTable}

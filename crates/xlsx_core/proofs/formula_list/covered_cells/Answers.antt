@@ -1,6 +1,5 @@
 use Rattle.std.proofs.Common.{rules, Some}
-use Rattle.xlsx_cells.specs.SheetPart.{EntersData}
-use Rattle.xlsx_cells.specs.Stream.{stream}
+use Rattle.xlsx_cells.specs.Words.{EntersData, stream}
 use Rattle.xlsx_core.proofs.DataTaken.{data_taken}
 use Rattle.xlsx_core.proofs.TakenOnce.{data_read}
 use Rattle.xlsx_core.proofs.formula_list.covered_cells.Goals as goal

@@ -1,9 +1,9 @@
 use Rattle.std.proofs.Common.{◌≡◌, ◌∙◌, ◌∷◌, [], add-one, ap, arith, length, map, rules, suc}
 use Rattle.std.proofs.lemmas.Result.{err_from_is_err_and}
 use Rattle.xlsx_parts.proofs.ManyRead.{leads_first, leads_on, leads_refused, answers_refused}
-use Rattle.xlsx_workbook.specs.KeptContents.{path_kept}
-use Rattle.xlsx_core.specs.FormulaList.{NumberedSheet, numbered_from, formulas_ask}
-use Rattle.xlsx_core.specs.FormulaList.{all_formulas_ask, formula_read}
+use Rattle.xlsx_workbook.specs.Words.{path_kept}
+use Rattle.xlsx_core.specs.FormulaList.{NumberedSheet, sheets_from, formulas_ask, all_formulas_ask}
+use Rattle.xlsx_core.specs.FormulaList.{formula_read}
 use Rattle.xlsx_core.specs.Merges.{sheet_paths}
 use Rattle.xlsx_core.proofs.formula_list.formulas_listed.Goals as goal
 
@@ -32,7 +32,7 @@ sheets-preserved g c =
     record {
       leads =
           rw (add-one number)
-          (leads_on formulas_ask own (numbered_from (suc number) (sheet_paths others more))
+          (leads_on formulas_ask own (sheets_from (suc number) (sheet_paths others more))
           (rw (left, rest) at now.leads) (rw there at c.in_ok-read_sheet_formulas.ensures));
       within = omega (arith, now.within, ap length left);
     }
@@ -53,6 +53,6 @@ returns-in_err-read_sheet_formulas g c =
     c.from_residual-in_err-read_sheet_formulas.ensures.1 in
     rw (handed.1, handed.2)
     (answers_refused (λ all. map formula_read all.items)
-    (leads_refused formulas_ask own (numbered_from (suc number) (sheet_paths others more)) []
+    (leads_refused formulas_ask own (sheets_from (suc number) (sheet_paths others more)) []
     (λ is. is) (rw (left, rest) at c.sheets.invariant.leads)
     (rw there at c.in_err-read_sheet_formulas.ensures)))

@@ -1,7 +1,6 @@
 use Rattle.std.proofs.Common.{◌≡◌, ◌++◌, map}
-use Rattle.sorted_cells.specs.Kept.{kept_cells}
-use Rattle.sorted_cells.specs.Owned.{owned_left}
-use Rattle.xlsx_cells.specs.CoveredFormulas.{covered_entries}
+use Rattle.sorted_cells.specs.Words.{kept_cells, owned_left}
+use Rattle.xlsx_cells.specs.Words.{covered_entries}
 use Rattle.xlsx_core.specs.FormulaList.{formula_on, formula_read}
 use Rattle.xlsx_core.proofs.formula_list.put_formulas.Given as goal
 

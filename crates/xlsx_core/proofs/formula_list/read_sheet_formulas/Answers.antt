@@ -1,6 +1,6 @@
 use Rattle.std.proofs.Common.{map}
-use Rattle.cell_data.specs.Gathered.{cells_gathered}
-use Rattle.sorted_cells.specs.Kept.{kept_cells}
+use Rattle.cell_data.specs.Words.{cells_gathered}
+use Rattle.sorted_cells.specs.Words.{kept_cells}
 use Rattle.xlsx_core.specs.FormulaList.{NumberedSheet, formula_read}
 use Rattle.xlsx_core.proofs.FormulasListed.{sheet_appends}
 use Rattle.xlsx_core.proofs.formula_list.read_sheet_formulas.Goals as goal

@@ -1,9 +1,9 @@
 use Rattle.std.proofs.Common.{◌≡◌, ◌∙◌, ◌∷◌, [], add-one, ap, arith, length, map, rules, suc}
 use Rattle.std.proofs.lemmas.Result.{err_from_is_err_and}
 use Rattle.xlsx_parts.proofs.ManyRead.{leads_first, leads_on, leads_refused, answers_refused}
-use Rattle.xlsx_workbook.specs.KeptContents.{path_kept}
+use Rattle.xlsx_workbook.specs.Words.{path_kept}
 use Rattle.xlsx_tables.specs.Tables.{loaded_of}
-use Rattle.xlsx_core.specs.FormulaList.{NumberedSheet, numbered_from}
+use Rattle.xlsx_core.specs.FormulaList.{NumberedSheet, sheets_from}
 use Rattle.xlsx_core.specs.Merges.{sheet_paths}
 use Rattle.xlsx_core.specs.NumberedTables.{all_numbered_tables_ask, numbered_tables_ask}
 use Rattle.xlsx_core.proofs.numbered_tables.tables_numbered.Goals as goal
@@ -33,7 +33,7 @@ sheets-preserved g c =
     record {
       leads =
           rw (add-one number)
-          (leads_on numbered_tables_ask own (numbered_from (suc number) (sheet_paths others more))
+          (leads_on numbered_tables_ask own (sheets_from (suc number) (sheet_paths others more))
           (rw (left, rest) at now.leads) (rw there at c.in_ok-read_sheet_tables.ensures.answers));
       within = omega (arith, now.within, ap length left);
     }
@@ -54,6 +54,6 @@ returns-in_err-read_sheet_tables g c =
     c.from_residual-in_err-read_sheet_tables.ensures.1 in
     rw (handed.1, handed.2)
     (answers_refused (λ all. map loaded_of all.items)
-    (leads_refused numbered_tables_ask own (numbered_from (suc number) (sheet_paths others more)) []
+    (leads_refused numbered_tables_ask own (sheets_from (suc number) (sheet_paths others more)) []
     (λ is. is) (rw (left, rest) at c.sheets.invariant.leads)
     (rw there at c.in_err-read_sheet_tables.ensures.answers)))

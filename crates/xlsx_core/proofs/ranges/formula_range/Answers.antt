@@ -1,9 +1,9 @@
 use Rattle.std.proofs.Common.{[], ◌∙◌, ap, string_bytes}
-use Rattle.cell_data.specs.Gathered.{cells_gathered}
+use Rattle.cell_data.specs.Words.{cells_gathered}
 use Rattle.cell_data.specs.declared.value.HeaderRow.TheVariants.{FirstNonEmptyRow}
-use Rattle.sorted_cells.specs.Kept.{kept_cells}
-use Rattle.xlsx_formulas.specs.Kept.{text_of_formula}
-use Rattle.xlsx_cells.specs.SheetPart.{formula_entries}
+use Rattle.sorted_cells.specs.Words.{kept_cells}
+use Rattle.xlsx_formulas.specs.Words.{text_of_formula}
+use Rattle.xlsx_cells.specs.Words.{formula_entries}
 use Rattle.xlsx_core.specs.Worksheets.{area_below}
 use Rattle.xlsx_core.proofs.StandingRanges.{kept_below, last_meant, standing_range}
 use Rattle.xlsx_core.proofs.ranges.formula_range.Goals as goal

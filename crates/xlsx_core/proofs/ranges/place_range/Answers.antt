@@ -1,9 +1,8 @@
 use Rattle.std.proofs.Common.{◌∙◌, ap, refl}
-use Rattle.cell_data.specs.CellValue.{nothing, value_of_data_ref}
-use Rattle.cell_data.specs.Gathered.{cells_gathered}
+use Rattle.cell_data.specs.Words.{nothing, value_of_data_ref, cells_gathered}
 use Rattle.cell_data.specs.declared.value.DataRef.TheVariants.{Empty}
-use Rattle.sorted_cells.specs.Kept.{kept_cells}
-use Rattle.xlsx_cells.specs.SheetPart.{value_entries}
+use Rattle.sorted_cells.specs.Words.{kept_cells}
+use Rattle.xlsx_cells.specs.Words.{value_entries}
 use Rattle.xlsx_core.proofs.StandingRanges.{kept_below, last_meant, standing_range}
 use Rattle.xlsx_core.proofs.ranges.place_range.Goals as goal
 

@@ -1,7 +1,5 @@
 use Rattle.std.proofs.Common.{◌∙◌, ap, map}
-use Rattle.cell_data.specs.CellValue.{value_of_data_ref}
-use Rattle.cell_data.specs.Gathered.{cells_gathered}
-use Rattle.cell_data.specs.Pairs.{with_meaning}
+use Rattle.cell_data.specs.Words.{value_of_data_ref, cells_gathered, with_meaning}
 use Rattle.xlsx_core.proofs.StandingRanges.{area_meant}
 use Rattle.xlsx_core.proofs.ranges.places_in_area.Goals as goal
 

@@ -1,6 +1,6 @@
 use Rattle.std.proofs.Common.{◌∙◌, ap, sym}
-use Rattle.cell_refs.specs.Positions.{are_sheet_bounds, last_of_each, least_area, lie_inside}
-use Rattle.sorted_cells.specs.Kept.{kept_cells}
+use Rattle.cell_refs.specs.Words.{are_sheet_bounds, last_of_each, least_area, lie_inside}
+use Rattle.sorted_cells.specs.Words.{kept_cells}
 use Rattle.sorted_cells.proofs.Rising.{kept_rises}
 use Rattle.cell_data.proofs.Placing.{rising_last}
 use Rattle.xlsx_core.specs.Worksheets.{header_area}

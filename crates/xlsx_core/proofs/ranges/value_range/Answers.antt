@@ -1,13 +1,11 @@
 use Rattle.std.proofs.Common.{◌≡◌, ◌∙◌, ap, map, refl, string_bytes}
-use Rattle.cell_refs.specs.Positions.{last_of_each}
-use Rattle.cell_data.specs.CellValue.{nothing, value_of_data, value_of_data_ref}
-use Rattle.cell_data.specs.Gathered.{cells_gathered}
+use Rattle.cell_refs.specs.Words.{last_of_each}
+use Rattle.cell_data.specs.Words.{nothing, value_of_data, value_of_data_ref, cells_gathered}
+use Rattle.cell_data.specs.Words.{with_meaning}
 use Rattle.cell_data.specs.declared.value.Data.TheVariants.{Empty}
-use Rattle.sorted_cells.specs.Kept.{kept_cells}
-use Rattle.xlsx_values.specs.Value.{resolved}
-use Rattle.xlsx_cells.specs.Sheet.{with_texts}
-use Rattle.xlsx_cells.specs.SheetPart.{value_entries}
-use Rattle.cell_data.specs.Pairs.{with_meaning}
+use Rattle.sorted_cells.specs.Words.{kept_cells}
+use Rattle.xlsx_values.specs.Words.{resolved}
+use Rattle.xlsx_cells.specs.Words.{with_texts, value_entries}
 use Rattle.xlsx_core.specs.Worksheets.{area_below, below_header}
 use Rattle.xlsx_core.proofs.StandingRanges.{kept_below, last_meant, standing_range}
 use Rattle.xlsx_core.proofs.ranges.value_range.Goals as goal

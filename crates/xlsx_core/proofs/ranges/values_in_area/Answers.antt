@@ -1,10 +1,7 @@
 use Rattle.std.proofs.Common.{◌∙◌, ap, map, string_bytes}
-use Rattle.cell_data.specs.CellValue.{value_of_data, value_of_data_ref}
-use Rattle.cell_data.specs.Gathered.{cells_gathered}
-use Rattle.cell_data.specs.Pairs.{with_meaning}
-use Rattle.xlsx_values.specs.Value.{resolved}
-use Rattle.xlsx_cells.specs.Sheet.{with_texts}
-use Rattle.xlsx_cells.specs.SheetPart.{value_entries}
+use Rattle.cell_data.specs.Words.{value_of_data, value_of_data_ref, cells_gathered, with_meaning}
+use Rattle.xlsx_values.specs.Words.{resolved}
+use Rattle.xlsx_cells.specs.Words.{with_texts, value_entries}
 use Rattle.xlsx_core.proofs.StandingRanges.{area_meant}
 use Rattle.xlsx_core.proofs.ranges.values_in_area.Goals as goal
 

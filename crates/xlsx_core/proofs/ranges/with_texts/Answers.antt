@@ -1,12 +1,10 @@
 use Rattle.std.proofs.Common.{rules, ◌≡◌, [], ◌++◌, ◌∙◌, ap, string_bytes, sym, Some, map}
 use Rattle.std.proofs.lemmas.List.{append-nil}
-use Rattle.cell_refs.specs.Positions.{lie_inside}
-use Rattle.cell_data.specs.CellValue.{value_of_data, value_of_data_ref}
-use Rattle.xlsx_values.specs.Value.{resolved}
-use Rattle.xlsx_cells.specs.SheetPart.{value_entries}
-use Rattle.sorted_cells.specs.Kept.{kept_cells}
-use Rattle.sorted_cells.specs.Last.{last_key}
-use Rattle.sorted_cells.specs.Owned.{owned_left}
+use Rattle.cell_refs.specs.Words.{lie_inside}
+use Rattle.cell_data.specs.Words.{value_of_data, value_of_data_ref}
+use Rattle.xlsx_values.specs.Words.{resolved}
+use Rattle.xlsx_cells.specs.Words.{value_entries}
+use Rattle.sorted_cells.specs.Words.{kept_cells, last_key, owned_left}
 use Rattle.sorted_cells.proofs.Rising.{kept_rises}
 use Rattle.xlsx_core.proofs.StandingRanges.{follows, inside_meant, key_meant}
 use Rattle.xlsx_core.proofs.ranges.with_texts.Goals as goal

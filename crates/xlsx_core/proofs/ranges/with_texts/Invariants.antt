@@ -1,10 +1,7 @@
 use Rattle.std.proofs.Common.{◌≡◌, ◌++◌, map, string_bytes}
-use Rattle.cell_data.specs.CellValue.{value_of_data}
-use Rattle.sorted_cells.specs.Kept.{kept_cells}
-use Rattle.sorted_cells.specs.Owned.{owned_left}
-use Rattle.xlsx_cells.specs.Sheet.{with_texts}
-use Rattle.xlsx_cells.specs.SheetPart.{value_entries}
-use Rattle.cell_data.specs.Pairs.{with_meaning}
+use Rattle.cell_data.specs.Words.{value_of_data, with_meaning}
+use Rattle.sorted_cells.specs.Words.{kept_cells, owned_left}
+use Rattle.xlsx_cells.specs.Words.{with_texts, value_entries}
 use Rattle.xlsx_core.proofs.ranges.with_texts.Given as goal
 
 abbrev pub invariant-cells : goal.invariant-cells

@@ -1,10 +1,8 @@
 use Rattle.std.proofs.Common.{rules, ◌≡◌, [], ◌++◌, ◌∙◌, ap, string_bytes, sym, Some}
 use Rattle.std.proofs.lemmas.List.{append-nil}
-use Rattle.cell_refs.specs.Positions.{lie_inside}
-use Rattle.xlsx_formulas.specs.Kept.{text_of_formula}
-use Rattle.sorted_cells.specs.Kept.{kept_cells}
-use Rattle.sorted_cells.specs.Last.{last_key}
-use Rattle.sorted_cells.specs.Owned.{owned_left}
+use Rattle.cell_refs.specs.Words.{lie_inside}
+use Rattle.xlsx_formulas.specs.Words.{text_of_formula}
+use Rattle.sorted_cells.specs.Words.{kept_cells, last_key, owned_left}
 use Rattle.sorted_cells.proofs.Rising.{kept_rises}
 use Rattle.xlsx_core.proofs.StandingRanges.{follows, inside_meant, key_meant}
 use Rattle.xlsx_core.proofs.ranges.written_out.Goals as goal

@@ -1,8 +1,7 @@
 use Rattle.std.proofs.Common.{◌≡◌, ◌++◌, map, string_bytes}
-use Rattle.sorted_cells.specs.Kept.{kept_cells}
-use Rattle.sorted_cells.specs.Owned.{owned_left}
-use Rattle.xlsx_cells.specs.SheetPart.{formula_entries}
-use Rattle.cell_data.specs.Pairs.{with_meaning}
+use Rattle.sorted_cells.specs.Words.{kept_cells, owned_left}
+use Rattle.xlsx_cells.specs.Words.{formula_entries}
+use Rattle.cell_data.specs.Words.{with_meaning}
 use Rattle.xlsx_core.proofs.ranges.written_out.Given as goal
 
 abbrev pub invariant-cells : goal.invariant-cells

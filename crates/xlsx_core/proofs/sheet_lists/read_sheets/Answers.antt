@@ -1,11 +1,9 @@
 use Rattle.std.proofs.Common.{◌≡◌, ◌∙◌, ◌∷◌, [], ℕ, add-one, ap, arith, drop, length, refl, rules}
 use Rattle.std.proofs.Common.{string_bytes}
 use Rattle.std.proofs.lemmas.Result.{err_from_is_err_and}
-use Rattle.xlsx_parts.specs.ManyAsked.{each}
-use Rattle.xlsx_parts.specs.SheetPaths.{sheet_at}
-use Rattle.xlsx_parts.proofs.ManyRead.{leads_first, leads_on, leads_refused}
-use Rattle.xlsx_parts.proofs.ManyRead.{answers_refused}
-use Rattle.xlsx_workbook.specs.KeptContents.{path_kept}
+use Rattle.xlsx_parts.specs.Words.{each, sheet_at}
+use Rattle.xlsx_parts.proofs.ManyRead.{leads_first, leads_on, leads_refused, answers_refused}
+use Rattle.xlsx_workbook.specs.Words.{path_kept}
 use Rattle.xlsx_core.specs.Merges.{sheet_paths}
 use Rattle.xlsx_core.proofs.TablesListed.{named_there, next_there}
 use Rattle.xlsx_core.proofs.sheet_lists.read_sheets.Goals as goal

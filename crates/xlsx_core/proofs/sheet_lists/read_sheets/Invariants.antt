@@ -1,5 +1,5 @@
 use Rattle.std.proofs.Common.{◌≡◌, ◌+◌, [], drop, length}
-use Rattle.xlsx_parts.specs.ManyAsked.{Leads, each}
+use Rattle.xlsx_parts.specs.Words.{Leads, each}
 use Rattle.xlsx_core.specs.Merges.{sheet_paths}
 use Rattle.xlsx_core.proofs.sheet_lists.read_sheets.Given as goal
 

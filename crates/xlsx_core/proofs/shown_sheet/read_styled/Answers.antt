@@ -1,4 +1,4 @@
-use Rattle.xlsx_cells.specs.Stream.{stream}
+use Rattle.xlsx_cells.specs.Words.{stream}
 use Rattle.xlsx_core.specs.Opened.{path_lent}
 use Rattle.xlsx_core.proofs.DataTaken.{data_taken}
 use Rattle.xlsx_core.proofs.TakenOnce.{data_read}

@@ -1,13 +1,11 @@
 use Rattle.std.proofs.Common.{◌≡◌, ◌∙◌, ap, map, refl}
-use Rattle.cell_refs.specs.Positions.{last_of_each}
-use Rattle.cell_data.specs.CellValue.{nothing, value_of_data}
-use Rattle.cell_data.specs.Gathered.{cells_gathered}
-use Rattle.cell_data.specs.Pairs.{with_meaning}
+use Rattle.cell_refs.specs.Words.{last_of_each}
+use Rattle.cell_data.specs.Words.{nothing, value_of_data, cells_gathered, with_meaning}
 use Rattle.cell_data.specs.declared.value.Data.TheVariants.{Empty}
 use Rattle.cell_data.specs.declared.value.HeaderRow.TheVariants.{FirstNonEmptyRow}
-use Rattle.sorted_cells.specs.Kept.{kept_cells}
-use Rattle.xlsx_cells.specs.StyledValues.{styled_meaning, styled_entries}
-use Rattle.xlsx_open.specs.SharedParts.{shared_said}
+use Rattle.sorted_cells.specs.Words.{kept_cells}
+use Rattle.xlsx_cells.specs.Words.{styled_meaning, styled_entries}
+use Rattle.xlsx_open.specs.Words.{shared_said}
 use Rattle.xlsx_core.specs.ShownSheet.{shown_value, shown_cells}
 use Rattle.xlsx_core.specs.Worksheets.{area_below, below_header}
 use Rattle.xlsx_core.proofs.StandingRanges.{kept_below, last_meant, standing_range}

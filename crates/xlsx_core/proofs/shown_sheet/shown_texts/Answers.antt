@@ -1,15 +1,12 @@
 use Rattle.std.proofs.Common.{rules, arith, ◌≡◌, [], ◌++◌, ◌∙◌, ap, sym, Some, map}
 use Rattle.std.proofs.lemmas.List.{append-nil}
-use Rattle.cell_refs.specs.Positions.{lie_inside}
-use Rattle.cell_data.specs.CellValue.{value_of_data}
-use Rattle.cell_data.specs.Pairs.{with_meaning}
+use Rattle.cell_refs.specs.Words.{lie_inside}
+use Rattle.cell_data.specs.Words.{value_of_data, with_meaning}
 use Rattle.cell_data.specs.declared.value.Data.TheVariants.{String}
-use Rattle.sorted_cells.specs.Kept.{kept_cells}
-use Rattle.sorted_cells.specs.Last.{last_key}
-use Rattle.sorted_cells.specs.Owned.{owned_left}
+use Rattle.sorted_cells.specs.Words.{kept_cells, last_key, owned_left}
 use Rattle.sorted_cells.proofs.Rising.{kept_rises}
-use Rattle.xlsx_cells.specs.StyledValues.{styled_meaning, styled_entries}
-use Rattle.xlsx_open.specs.SharedParts.{shared_said}
+use Rattle.xlsx_cells.specs.Words.{styled_meaning, styled_entries}
+use Rattle.xlsx_open.specs.Words.{shared_said}
 use Rattle.xlsx_core.specs.ShownSheet.{code_at, shown_value}
 use Rattle.xlsx_core.proofs.ShownRead.{shown_more, joined}
 use Rattle.xlsx_core.proofs.StandingRanges.{follows, inside_meant, key_meant}

@@ -1,10 +1,8 @@
 use Rattle.std.proofs.Common.{◌≡◌, ◌<◌, ◌++◌, map, length}
-use Rattle.cell_data.specs.CellValue.{value_of_data}
-use Rattle.cell_data.specs.Pairs.{with_meaning}
-use Rattle.sorted_cells.specs.Kept.{kept_cells}
-use Rattle.sorted_cells.specs.Owned.{owned_left}
-use Rattle.xlsx_cells.specs.StyledValues.{styled_entries}
-use Rattle.xlsx_open.specs.SharedParts.{shared_said}
+use Rattle.cell_data.specs.Words.{value_of_data, with_meaning}
+use Rattle.sorted_cells.specs.Words.{kept_cells, owned_left}
+use Rattle.xlsx_cells.specs.Words.{styled_entries}
+use Rattle.xlsx_open.specs.Words.{shared_said}
 use Rattle.xlsx_core.specs.ShownCodes.{AreCutFrom}
 use Rattle.xlsx_core.specs.ShownSheet.{code_at, shown_cells}
 use Rattle.xlsx_core.proofs.shown_sheet.shown_texts.Given as goal

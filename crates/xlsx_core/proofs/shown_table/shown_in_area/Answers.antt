@@ -1,9 +1,7 @@
 use Rattle.std.proofs.Common.{◌∙◌, ap, map}
-use Rattle.cell_data.specs.CellValue.{value_of_data}
-use Rattle.cell_data.specs.Gathered.{cells_gathered}
-use Rattle.cell_data.specs.Pairs.{with_meaning}
-use Rattle.xlsx_cells.specs.StyledValues.{styled_meaning, styled_entries}
-use Rattle.xlsx_open.specs.SharedParts.{shared_said}
+use Rattle.cell_data.specs.Words.{value_of_data, cells_gathered, with_meaning}
+use Rattle.xlsx_cells.specs.Words.{styled_meaning, styled_entries}
+use Rattle.xlsx_open.specs.Words.{shared_said}
 use Rattle.xlsx_core.specs.ShownSheet.{shown_value, shown_cells}
 use Rattle.xlsx_core.proofs.StandingRanges.{area_meant}
 use Rattle.xlsx_core.proofs.shown_table.shown_in_area.Goals as goal

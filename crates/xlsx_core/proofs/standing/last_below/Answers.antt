@@ -1,7 +1,7 @@
 use Rattle.std.proofs.Common.{◌∙◌, ap}
 use Rattle.std.specs.List.{filter}
-use Rattle.cell_refs.specs.Positions.{is_in_area}
-use Rattle.cell_data.specs.Gathered.{cells_gathered}
+use Rattle.cell_refs.specs.Words.{is_in_area}
+use Rattle.cell_data.specs.Words.{cells_gathered}
 use Rattle.xlsx_core.specs.Worksheets.{area_below}
 use Rattle.cell_data.specs.declared.value.HeaderRow.TheVariants.{Row}
 use Rattle.xlsx_core.proofs.StandingRanges.{last_from, last_whole, kept_inside}

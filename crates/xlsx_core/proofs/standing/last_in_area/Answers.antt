@@ -1,8 +1,8 @@
 use Rattle.std.proofs.Common.{◌∙◌, ap, Some}
 use Rattle.std.specs.List.{filter}
-use Rattle.cell_refs.specs.Positions.{is_in_area, lie_inside}
+use Rattle.cell_refs.specs.Words.{is_in_area, lie_inside}
 use Rattle.cell_data.proofs.Areas.{filter_all}
-use Rattle.sorted_cells.specs.Kept.{kept_cells}
+use Rattle.sorted_cells.specs.Words.{kept_cells}
 use Rattle.xlsx_core.proofs.standing.last_in_area.Goals as goal
 
 pub returns-clause-last : goal.returns-clause-last

@@ -1,7 +1,6 @@
-use Rattle.std.proofs.Common.{◌≡◌, ◌∷◌, ◌-◌, drop, None, refl, sym, ◌∙◌, ap, arith}
-use Rattle.std.proofs.Common.{string_bytes}
+use Rattle.std.proofs.Common.{◌≡◌, ◌∷◌, ◌-◌, drop, None, refl, sym, ◌∙◌, ap, arith, string_bytes}
 use Rattle.std.specs.BTreeMap.{get_by_text}
-use Rattle.xlsx_workbook.specs.KeptContents.{path_kept}
+use Rattle.xlsx_workbook.specs.Words.{path_kept}
 use Rattle.xlsx_workbook.specs.declared.sheet.Sheet.{Sheet}
 use Rattle.xlsx_core.specs.Opened.{path_lent}
 use Rattle.xlsx_core.proofs.SheetsListed.{none_behind, first_further, drop_from}

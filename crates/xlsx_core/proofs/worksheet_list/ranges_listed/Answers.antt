@@ -1,13 +1,13 @@
-use Rattle.std.proofs.Common.{◌≡◌, ◌∷◌, ◌+◌, ℕ, List, [], drop, refl, ◌∙◌, subst}
-use Rattle.std.proofs.Common.{append-nil, string_bytes, arith, Option}
+use Rattle.std.proofs.Common.{◌≡◌, ◌∷◌, ◌+◌, ℕ, List, [], drop, refl, ◌∙◌, subst, append-nil}
+use Rattle.std.proofs.Common.{string_bytes, arith, Option}
 use Rattle.std.specs.Prelude.{MatchOption, IfSome}
 use Rattle.std.proofs.lemmas.List.{drop_all}
 use Rattle.std.proofs.lemmas.Result.{err_from_is_err_and}
-use Rattle.part_events.specs.Package.{Part, CountsUp}
+use Rattle.part_events.specs.Words.{Part, CountsUp}
 use Rattle.part_events.proofs.Uses.{same_further}
 use Rattle.xlsx_error.specs.declared.error.XlsxError.{XlsxError}
-use Rattle.xlsx_values.specs.Book.{grounds_of}
-use Rattle.xlsx_cells.specs.CellsReader.{values_alone}
+use Rattle.xlsx_values.specs.Words.{context_of}
+use Rattle.xlsx_cells.specs.Words.{values_alone}
 use Rattle.xlsx_core.specs.Listing.{AreListed, IsPutBehind, listed_events}
 use Rattle.xlsx_core.specs.Opened.{path_listed, path_lent}
 use Rattle.xlsx_core.specs.SheetReading.{placed_events, data_events}
@@ -28,12 +28,12 @@ sheets-preserved g c =
     let name = c.as_str-name.result.now in
     let sheets = c.args.sheets.now in
     let place = λ (text : List ℕ). path_listed text sheets c.args.paths.now in
-    let grounds = grounds_of c.args.asked.book in
+    let context = context_of c.args.asked.book in
     let header = c.args.header_row in
     let range = c.in_ok-range.range in
     let reads_at = λ (text : List ℕ) (path : Option (List ℕ)) (parts : List Part).
-    MatchOption range ((error : XlsxError) × RangeCause text values_alone grounds path parts error)
-    (ReadsValues grounds header path parts) in
+    MatchOption range ((error : XlsxError) × RangeCause text values_alone context path parts error)
+    (ReadsValues context header path parts) in
     let named : name ≡ string_bytes sheet.name = c.as_str-name.ensures.value in
     let path : path_lent c.kept_path-path.result ≡ place name =
     c.kept_path-path.ensures ∙ c.in_ok-firsts.ensures name in
@@ -49,7 +49,7 @@ sheets-preserved g c =
           part_listed place old mid new (path_lent c.kept_path-path.result) name sheet
           (drop c.sheets.sheet-index sheets) (drop (c.sheets.sheet-index + 1) sheets)
           (old.taken + listed_events place old.parts sheets) path named front now.keeps.parts
-          (now.taken told) (own.uses.taken (now.keeps.is_told ∙ told));
+          (now.taken told) (own.uses.taken (now.keeps.is_visible ∙ told));
       ends = λ told.
           let counts_at = λ (path : Option (List ℕ)) (parts : List Part).
           IfSome range (λ own. CountsUp (data_events path parts) mid.taken new.taken) in
@@ -57,13 +57,13 @@ sheets-preserved g c =
           c.sheets.listed.items c.put_behind.new.listed.items (now.ends told) own.uses.forward
           (subst (counts_at (place name)) now.keeps.parts
           (subst (λ (there : Option (List ℕ)). counts_at there mid.parts) path
-          (own.to_end (now.keeps.is_told ∙ told))))
+          (own.to_end (now.keeps.is_visible ∙ told))))
           c.in_ok-put_behind.ensures;
       listed = λ told.
           let read : reads_at name (place name) old.parts =
           subst (reads_at name (place name)) now.keeps.parts
           (subst (λ (there : Option (List ℕ)). reads_at name there mid.parts) path
-          (own.reads (now.keeps.is_told ∙ told))) in
+          (own.reads (now.keeps.is_visible ∙ told))) in
           let reads : reads_at (string_bytes sheet.name) (place (string_bytes sheet.name))
           old.parts =
           subst (λ (text : List ℕ). reads_at text (place text) old.parts) named read in
@@ -74,9 +74,9 @@ sheets-preserved g c =
           (c.put_behind.new.listed.items ≡ c.sheets.listed.items)
           (IsPutBehind text c.sheets.listed.items c.put_behind.new.listed.items)) named
           c.in_ok-put_behind.ensures in
-          listed_further grounds header place old.parts sheet
+          listed_further context header place old.parts sheet
           (drop (c.sheets.sheet-index + 1) sheets) range c.sheets.listed.items
-          c.put_behind.new.listed.items (AreListed grounds header place old.parts sheets) reads
+          c.put_behind.new.listed.items (AreListed context header place old.parts sheets) reads
           put (λ others is. now.listed told others (rw front is));
     }
 
@@ -86,7 +86,7 @@ returns-clause-lists g c = λ told.
     let place = λ (name : List ℕ). path_listed name c.args.sheets.now c.args.paths.now in
     let behind : drop c.sheets.sheet-index c.args.sheets.now ≡ [] =
     drop_all c.sheets.sheet-index c.args.sheets.now c.sheets-test.false in
-    subst (AreListed (grounds_of c.args.asked.book) c.args.header_row place old.parts
+    subst (AreListed (context_of c.args.asked.book) c.args.header_row place old.parts
     c.args.sheets.now) (append-nil c.sheets.listed.items)
     (c.sheets.invariant.listed told []
     (rw behind refl))

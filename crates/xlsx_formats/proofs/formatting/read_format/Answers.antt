@@ -1,8 +1,6 @@
 use Rattle.std.proofs.Common.{◌≡◌, ℕ, List, [], Option, sym, ◌∙◌}
 use Rattle.std.proofs.lemmas.Result.{err_from_is_err_and}
-use Rattle.part_events.specs.Event.{tag_of}
-use Rattle.part_events.specs.Reading.{ahead}
-use Rattle.part_events.specs.Section.{content}
+use Rattle.part_events.specs.Words.{tag_of, ahead, content}
 use Rattle.xlsx_sections.proofs.SectionsRead.{same_tag}
 use Rattle.xlsx_formats.specs.FormatCodes.{code_kept}
 use Rattle.xlsx_formats.specs.Formattings.{formatting_named, no_settings, formatting_said}

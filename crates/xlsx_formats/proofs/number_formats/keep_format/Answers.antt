@@ -1,7 +1,7 @@
 use Rattle.std.proofs.Common.{◌≡◌, rules}
 use Rattle.std.proofs.lemmas.Result.{err_from_is_err_and}
-use Rattle.part_events.specs.Event.{tag_of}
-use Rattle.xlsx_sections.specs.Refusal.{decoded_at, placed_at}
+use Rattle.part_events.specs.Words.{tag_of}
+use Rattle.xlsx_sections.specs.Words.{decoded_at, placed_at}
 use Rattle.xlsx_formats.specs.FormatCodes.{with_code, written_format}
 use Rattle.xlsx_formats.proofs.CodesRead.{code_fails}
 use Rattle.xlsx_formats.proofs.number_formats.keep_format.Goals as goal

@@ -1,10 +1,6 @@
 use Rattle.std.proofs.Common.{◌≡◌, codes, length, Err, arith}
-use Rattle.part_events.specs.Event.{tag_of}
-use Rattle.part_events.specs.Section.{starts_by}
-use Rattle.part_events.specs.Walk.{section_ahead}
-use Rattle.xlsx_sections.specs.Elements.{IsInsideRefused}
-use Rattle.xlsx_sections.specs.PartSection.{always}
-use Rattle.xlsx_sections.specs.Refusal.{Refusal, placed_at}
+use Rattle.part_events.specs.Words.{tag_of, starts_by, section_ahead}
+use Rattle.xlsx_sections.specs.Words.{IsInsideRefused, always, Refusal, placed_at}
 use Rattle.xlsx_sections.proofs.Failing.{given_back}
 use Rattle.xlsx_sections.proofs.Refused.{event_refused}
 use Rattle.xlsx_sections.proofs.StartsRead.{starts_none}

@@ -1,7 +1,6 @@
 use Rattle.std.proofs.Common.{◌≡◌, true}
-use Rattle.part_events.specs.Section.{starts_by}
-use Rattle.part_events.specs.Walk.{section_ahead}
-use Rattle.xlsx_sections.specs.Elements.{KeepsStarts}
+use Rattle.part_events.specs.Words.{starts_by, section_ahead}
+use Rattle.xlsx_sections.specs.Words.{KeepsStarts}
 use Rattle.xlsx_formats.specs.FormatCodes.{is_number_format}
 use Rattle.xlsx_formats.proofs.CodesRead.{KeepsCodes}
 use Rattle.xlsx_formats.proofs.number_formats.read_number_formats.Given as goal
@@ -13,7 +12,7 @@ invariant-starts g l =
     record {
       keeps : KeepsStarts l.base old now;
       codes_kept :
-          old.source.is_told ≡ true →
+          old.source.is_visible ≡ true →
           KeepsCodes (starts_by is_number_format (section_ahead l.base old))
           (starts_by is_number_format (section_ahead l.base now)) l.fn.kept l.kept;
     }

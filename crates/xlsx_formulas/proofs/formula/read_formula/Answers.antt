@@ -1,5 +1,5 @@
 use Rattle.std.proofs.lemmas.Result.{err_from_is_err_and}
-use Rattle.part_events.specs.Event.{tag_of}
+use Rattle.part_events.specs.Words.{tag_of}
 use Rattle.xlsx_formulas.proofs.Starts.{start_refused}
 use Rattle.xlsx_formulas.proofs.formula.read_formula.Goals as goal
 

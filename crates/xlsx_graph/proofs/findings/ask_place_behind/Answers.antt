@@ -1,5 +1,5 @@
-use Rattle.std.proofs.Common.{rules, ◌≡◌, ◌≤◌, ◌<◌, ◌∙◌, ap, set, get_or, length}
-use Rattle.std.proofs.Common.{add-one, sym, refl}
+use Rattle.std.proofs.Common.{rules, ◌≡◌, ◌≤◌, ◌<◌, ◌∙◌, ap, set, get_or, length, add-one, sym}
+use Rattle.std.proofs.Common.{refl}
 use Rattle.std.proofs.Math.ListN.{length-set}
 use Rattle.xlsx_graph.specs.Naming.{unvalued}
 use Rattle.xlsx_graph.proofs.Opening.{alone_between, alone_start, alone_step, alone_end}

@@ -3,7 +3,7 @@ use Rattle.std.proofs.Common.{length}
 use Rattle.std.specs.Prelude.{string_bytes}
 use Rattle.std.proofs.lemmas.Result.{err_from_is_err_and}
 use Rattle.book_names.specs.Told.{name_told}
-use Rattle.formula_tokens.specs.Told.{place_told, named_told, item_text, items_left}
+use Rattle.formula_tokens.specs.Told.{place_told, named_told, item_text, formula_items_left}
 use Rattle.xlsx_graph.specs.Naming.{found_within, mention_found, function_found, IsInBook}
 use Rattle.xlsx_graph.specs.Naming.{found_along, read_more, nothing_found}
 use Rattle.xlsx_graph.specs.Kept.{Adds, Gives}
@@ -23,8 +23,9 @@ push_ends-returns-in_err-push_mention-clause-too_large t c =
     let p = err_from_is_err_and c.from_residual.result c.from_residual.ensures.1 in
     rw (p.1, p.2)
     (end_refused c.in_err-push_mention.field-0.0 c.args.turns c.args.book.now c.args.reader
-    c.args.out.now.opened c.give_back.new.self.opened (items_left c.args.items.now)
-    (items_left c.ends.items) (items_left c.next_in_range.new.items) c.args.out.now c.ends.out
+    c.args.out.now.opened c.give_back.new.self.opened (formula_items_left c.args.items.now)
+    (formula_items_left c.ends.items) (formula_items_left c.next_in_range.new.items) c.args.out.now
+    c.ends.out
     c.give_back.new.self c.args.start (place_told c.in-Some.place) (named_told c.in-Some.named)
     (c.give_back.ensures.opened ∙ c.ends.invariant.opened) c.ends.invariant.so_far
     c.in-Some.ensures c.give_back.ensures c.in_err-push_mention.ensures.gives)
@@ -33,15 +34,16 @@ pub push_ends-ends-preserved : goal.push_ends-ends-preserved
 push_ends-ends-preserved t c = record {
   so_far =
       end_step c.args.turns c.args.book.now c.args.reader c.args.out.now.opened
-      c.give_back.new.self.opened (items_left c.args.items.now) (items_left c.ends.items)
-      (items_left c.next_in_range.new.items) c.args.out.now c.ends.out c.give_back.new.self
+      c.give_back.new.self.opened (formula_items_left c.args.items.now) (formula_items_left
+      c.ends.items)
+      (formula_items_left c.next_in_range.new.items) c.args.out.now c.ends.out c.give_back.new.self
       c.push_mention.new.out c.join.new.self c.args.start c.mark-middle.result
       (place_told c.in-Some.place) (named_told c.in-Some.named)
       (c.give_back.ensures.opened ∙ c.ends.invariant.opened) c.ends.invariant.so_far
       c.in-Some.ensures c.mark-middle.ensures c.give_back.ensures
       c.in_ok-push_mention.ensures.gives c.in_ok-join.ensures.ok;
   behind =
-      behind_step (items_left c.ends.items) (items_left c.next_in_range.new.items)
+      behind_step (formula_items_left c.ends.items) (formula_items_left c.next_in_range.new.items)
       (place_told c.in-Some.place) (named_told c.in-Some.named) c.in-Some.ensures
       ∙ c.ends.invariant.behind;
   opened =
@@ -57,8 +59,9 @@ push_ends-returns-in_err-join-clause-too_large t c =
     c.from_residual-in_err-join.ensures.1 in
     rw (p.1, p.2)
     (join_refused c.in_err-join.field-0.0 c.args.turns c.args.book.now c.args.reader
-    c.args.out.now.opened c.give_back.new.self.opened (items_left c.args.items.now)
-    (items_left c.ends.items) (items_left c.next_in_range.new.items) c.args.out.now c.ends.out
+    c.args.out.now.opened c.give_back.new.self.opened (formula_items_left c.args.items.now)
+    (formula_items_left c.ends.items) (formula_items_left c.next_in_range.new.items) c.args.out.now
+    c.ends.out
     c.give_back.new.self c.push_mention.new.out c.args.start c.mark-middle.result
     (place_told c.in-Some.place) (named_told c.in-Some.named)
     (c.give_back.ensures.opened ∙ c.ends.invariant.opened) c.ends.invariant.so_far
@@ -131,7 +134,7 @@ push_range-returns-in_err-push_mention-clause-gives t c =
     c.args.before
     (mention_found c.args.turns c.args.book.now c.args.reader c.args.out.now.opened
     (place_told c.args.mention.0) (named_told c.args.mention.1))
-    (items_left c.args.items.now) c.args.out.now c.in_err-push_mention.ensures.gives)
+    (formula_items_left c.args.items.now) c.args.out.now c.in_err-push_mention.ensures.gives)
 
 pub push_range-returns-clause-gives : goal.push_range-returns-clause-gives
 push_range-returns-clause-gives t c =
@@ -139,7 +142,7 @@ push_range-returns-clause-gives t c =
     c.args.out.now.opened c.push_mention.new.out.opened c.args.before
     (mention_found c.args.turns c.args.book.now c.args.reader c.args.out.now.opened
     (place_told c.args.mention.0) (named_told c.args.mention.1))
-    (items_left c.args.items.now) c.mark-start.result c.args.out.now c.push_mention.new.out
+    (formula_items_left c.args.items.now) c.mark-start.result c.args.out.now c.push_mention.new.out
     c.push_ends.new.out c.in_ok-push_mention.ensures.gives.opened c.mark-start.ensures
     c.in_ok-push_mention.ensures.gives (sym c.asks_alone.ensures ∙ c.if-asks_alone.false)
     c.push_ends.ensures.ok c.push_ends.ensures.too_large
@@ -158,7 +161,7 @@ push_text-items-init t c = record {
       counts_start
       (mention_found (c.args.turns - 1) c.args.book.now c.args.reader c.args.out.now.opened)
       (function_found (c.args.turns - 1) c.args.book.now c.args.reader c.args.out.now.opened)
-      AnyOther (items_left c.new-items.result) c.args.out.now
+      AnyOther (formula_items_left c.new-items.result) c.args.out.now
       (found_within c.args.turns c.args.book.now c.args.reader c.args.out.now.opened
       c.args.text.now)
       (text_along c.args.turns c.args.book.now c.args.reader c.args.out.now.opened
@@ -180,7 +183,8 @@ push_text-returns-in_err-push_item-clause-gives t c =
     rw (p.1, p.2)
     (text_refused c.in_err-push_item.field-0.0 (c.args.turns - 1) c.args.book.now c.args.reader
     c.args.out.now.opened c.items.out.opened c.items.before (item_text c.in-Some.item)
-    (items_left c.items.items) (items_left c.next.new.self) c.args.out.now c.items.out
+    (formula_items_left c.items.items) (formula_items_left c.next.new.self) c.args.out.now
+    c.items.out
     (found_within c.args.turns c.args.book.now c.args.reader c.args.out.now.opened
     c.args.text.now)
     c.items.invariant.opened c.items.invariant.counts c.in-Some.ensures.steps
@@ -191,7 +195,8 @@ push_text-items-preserved t c = record {
   counts =
       text_step (c.args.turns - 1) c.args.book.now c.args.reader c.args.out.now.opened
       c.items.out.opened c.items.before c.before_next-before.result (item_text c.in-Some.item)
-      (items_left c.items.items) (items_left c.next.new.self) (items_left c.push_item.new.items)
+      (formula_items_left c.items.items) (formula_items_left c.next.new.self) (formula_items_left
+      c.push_item.new.items)
       c.args.out.now c.items.out c.push_item.new.out
       (found_within c.args.turns c.args.book.now c.args.reader c.args.out.now.opened
       c.args.text.now)
@@ -209,7 +214,7 @@ push_text-returns-clause-gives t c =
     counts_end
     (mention_found (c.args.turns - 1) c.args.book.now c.args.reader c.args.out.now.opened)
     (function_found (c.args.turns - 1) c.args.book.now c.args.reader c.args.out.now.opened)
-    c.items.before (items_left c.items.items) c.args.out.now c.items.out
+    c.items.before (formula_items_left c.items.items) c.args.out.now c.items.out
     (found_within c.args.turns c.args.book.now c.args.reader c.args.out.now.opened
     c.args.text.now)
     c.items.invariant.counts c.in_default.ensures.steps.0

@@ -1,6 +1,6 @@
 use Rattle.std.proofs.Common.{◌≡◌, ◌+◌, ◌-◌, ◌*◌, drop, length}
-use Rattle.formula_tokens.specs.Told.{items_left}
-use Rattle.xlsx_graph.specs.Kept.{Kept, Adds, Extends, IsMark}
+use Rattle.formula_tokens.specs.Told.{formula_items_left}
+use Rattle.xlsx_graph.specs.Kept.{Kept, Adds, KeepsInFront, TellsKept}
 use Rattle.xlsx_graph.specs.Naming.{Found, found_within, mention_found, function_found}
 use Rattle.xlsx_graph.specs.Naming.{range_length}
 use Rattle.xlsx_graph.proofs.Along.{Counts}
@@ -35,24 +35,24 @@ abbrev pub invariant-push_text-items : goal.invariant-push_text-items
 invariant-push_text-items l = record {
   counts : Counts (mention_found (l.turns - 1) l.book l.reader l.fn.out.opened)
       (function_found (l.turns - 1) l.book l.reader l.fn.out.opened) l.before
-      (items_left l.items) l.fn.out l.out
+      (formula_items_left l.items) l.fn.out l.out
       (found_within l.turns l.book l.reader l.fn.out.opened l.text);
-  front : Extends l.fn.out l.out;
+  front : KeepsInFront l.fn.out l.out;
   opened : l.out.opened ≡ l.fn.out.opened;
 }
 
 abbrev pub decreases-push_text-items : goal.decreases-push_text-items
-decreases-push_text-items l = length (items_left l.items)
+decreases-push_text-items l = length (formula_items_left l.items)
 
 abbrev pub invariant-push_ends-ends : goal.invariant-push_ends-ends
 invariant-push_ends-ends l = record {
-  so_far : (kept : Kept) (f : Found) → IsMark l.start kept → Adds kept l.fn.out f →
+  so_far : (kept : Kept) (f : Found) → TellsKept l.start kept → Adds kept l.fn.out f →
       SoFar (mention_found l.turns l.book l.reader l.fn.out.opened) kept f
-      (items_left l.fn.items) (items_left l.items) l.out;
-  behind : drop (range_length (items_left l.items)) (items_left l.items)
-      ≡ drop (range_length (items_left l.fn.items)) (items_left l.fn.items);
+      (formula_items_left l.fn.items) (formula_items_left l.items) l.out;
+  behind : drop (range_length (formula_items_left l.items)) (formula_items_left l.items)
+      ≡ drop (range_length (formula_items_left l.fn.items)) (formula_items_left l.fn.items);
   opened : l.out.opened ≡ l.fn.out.opened;
 }
 
 abbrev pub decreases-push_ends-ends : goal.decreases-push_ends-ends
-decreases-push_ends-ends l = length (items_left l.items)
+decreases-push_ends-ends l = length (formula_items_left l.items)

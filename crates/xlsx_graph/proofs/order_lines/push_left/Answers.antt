@@ -1,5 +1,5 @@
-use Rattle.std.proofs.Common.{◌≡◌, ◌∙◌, ◌++◌, ap, arith, filter, flat_map, get_or, length, not, string_bytes}
-use Rattle.std.proofs.Common.{false}
+use Rattle.std.proofs.Common.{◌≡◌, ◌∙◌, ◌++◌, ap, arith, filter, flat_map, get_or, length, not}
+use Rattle.std.proofs.Common.{string_bytes, false}
 use Rattle.calculation_order.specs.Edges.{numbers_below}
 use Rattle.escaped_text.proofs.Extending.{Extends-push, Extends-trans}
 use Rattle.xlsx_graph.specs.Graph.{needed}

@@ -1,7 +1,7 @@
 use Rattle.std.proofs.Common.{◌∙◌, ◌-◌, ◌/◌, ◌%◌, ◌+◌, ◌<◌, ◌≤◌, ◌++◌, ◌∷◌, [], ap, arith}
 use Rattle.std.proofs.Common.{append_assoc, sym, string_bytes}
 use Rattle.std.proofs.lemmas.Result.{on_ok_weaker}
-use Rattle.cell_refs.specs.A1.{capitals_with_fuel}
+use Rattle.cell_refs.specs.Words.{capitals_with_fuel}
 use Rattle.xlsx_graph.proofs.LineTexts.{capitals_more}
 use Rattle.xlsx_graph.proofs.reference.+push_capitals.Goals as goal
 

@@ -1,6 +1,7 @@
 use Rattle.std.proofs.Common.{◌≡◌, ◌∙◌, ◌+◌, ◌++◌, suc, ap, arith, string_bytes}
 use Rattle.std.proofs.lemmas.Result.{on_ok_weaker}
-use Rattle.cell_refs.specs.A1.{capitals_with_fuel, column_name}
+use Rattle.cell_refs.specs.Words.{capitals_with_fuel}
+use Rattle.cell_refs.specs.A1.{column_name}
 use Rattle.xlsx_graph.proofs.reference.push_column.Goals as goal
 
 pub returns-clause-ok : goal.returns-clause-ok

@@ -2,13 +2,12 @@ use Rattle.std.proofs.Common.{◌≡◌, ℕ, List, true, ◌∙◌, ap, subst, 
 use Rattle.std.specs.Arc.{arc_str_bytes}
 use Rattle.std.specs.Prelude.{OnOk}
 use Rattle.std.proofs.lemmas.Result.{err_from_is_err_and, IfOk-weaker, IfErr-weaker}
-use Rattle.part_events.specs.Package.{Part, Uses}
+use Rattle.part_events.specs.Words.{Part, Uses}
 use Rattle.xlsx_error.specs.declared.error.XlsxError.TheVariants.{Io}
-use Rattle.xlsx_relationships.specs.Paths.{folder_of}
-use Rattle.xlsx_open.specs.Opening.{Opening, HoldsOpening, OpensAs, OpeningFails, LiesIn}
-use Rattle.xlsx_open.specs.Opening.{BookOpens, BookFails, book_events, TakesBook, scopes_at}
-use Rattle.xlsx_open.specs.Opening.{HasScopes}
-use Rattle.xlsx_workbook.specs.Paths.{workbook_part}
+use Rattle.xlsx_relationships.specs.Words.{folder_of}
+use Rattle.xlsx_open.specs.Opening.{Opening, HoldsOpening, OpensAs, OpeningFails, LiesIn, BookOpens}
+use Rattle.xlsx_open.specs.Opening.{BookFails, book_events, TakesBook, scopes_at, HasScopes}
+use Rattle.xlsx_workbook.specs.Words.{workbook_part}
 use Rattle.xlsx_open.proofs.Openings.{root_fails, opens_as, book_fails, opens_package}
 use Rattle.xlsx_open.proofs.opening.open.Goals as goal
 
@@ -28,7 +27,7 @@ returns-clause-uses g c =
     c.in_ok-path.ensures.uses c.in_ok-path.ensures.path c.in_ok-path.ensures.to_end
     (subst (λ (own : List ℕ). Uses (book_events mid.parts own) Io c.open_at.result mid new)
     c.as_str.ensures.value c.open_at.ensures.uses)
-    (subst (λ (own : List ℕ). mid.is_told ≡ true →
+    (subst (λ (own : List ℕ). mid.is_visible ≡ true →
     OnOk c.open_at.result (TakesBook mid.parts own mid.taken new.taken))
     c.as_str.ensures.value c.open_at.ensures.to_end)
 
@@ -50,7 +49,7 @@ returns-clause-opens g c = λ told.
           (subst (λ (own : List ℕ). BookOpens mid.parts own found.0) c.as_str.ensures.value
           found.2),
     ))
-    (c.open_at.ensures.opened (same.is_told ∙ told))
+    (c.open_at.ensures.opened (same.is_visible ∙ told))
 
 pub returns-clause-err : goal.returns-clause-err
 returns-clause-err g c =
@@ -88,4 +87,4 @@ returns-clause-scopes g c = λ told.
       is ∙ ap (λ (own : List ℕ). scopes_at mid.parts (workbook_part own)) c.as_str.ensures.value
           ∙ ap (λ (parts : List Part). scopes_at parts (workbook_part path)) same.parts,
     ))
-    (c.open_at.ensures.scopes (same.is_told ∙ told))
+    (c.open_at.ensures.scopes (same.is_visible ∙ told))

@@ -1,7 +1,7 @@
 use Rattle.std.proofs.Common.{◌≡◌, ◌∙◌, List, IfOk, arith, subst}
-use Rattle.part_events.specs.Package.{Part, Uses}
+use Rattle.part_events.specs.Words.{Part, Uses}
 use Rattle.xlsx_error.specs.declared.error.XlsxError.TheVariants.{Io}
-use Rattle.xlsx_workbook.specs.Paths.{workbook_part}
+use Rattle.xlsx_workbook.specs.Words.{workbook_part}
 use Rattle.xlsx_open.specs.Opening.{workbook_events, book_events, scopes_at}
 use Rattle.xlsx_open.specs.SharedParts.{shared_events}
 use Rattle.part_events.proofs.Uses.{uses_behind}
@@ -26,4 +26,4 @@ returns-clause-scopes g c = λ told.
     let part = workbook_part c.args.path.now in
     subst (λ (parts : List Part). IfOk c.open_workbook.result
     (λ o. o.scopes.items ≡ scopes_at parts part)) same.parts
-    (c.open_workbook.ensures.scopes (same.is_told ∙ told))
+    (c.open_workbook.ensures.scopes (same.is_visible ∙ told))

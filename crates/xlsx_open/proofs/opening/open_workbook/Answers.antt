@@ -3,19 +3,17 @@ use Rattle.std.proofs.Common.{codes, arith}
 use Rattle.std.proofs.lemmas.Result.{err_from_is_err_and}
 use Rattle.std.specs.Arc.{arc_str_bytes}
 use Rattle.std.specs.Prelude.{IsSomeAnd}
-use Rattle.part_events.specs.Package.{Part, UsesPackage, LeavesPackage, part_of, event_count}
+use Rattle.part_events.specs.Words.{Part, UsesPackage, LeavesPackage, part_of, event_count}
 use Rattle.xlsx_error.specs.declared.error.XlsxError.TheVariants.{Io}
-use Rattle.xlsx_sections.specs.PartSection.{always, closed_section_of, OptionalPartFails}
-use Rattle.xlsx_relationships.specs.KeptRelationships.{related_by_id}
-use Rattle.xlsx_relationships.specs.Paths.{folder_of}
-use Rattle.xlsx_workbook.specs.Paths.{workbook_part, relationships_part}
-use Rattle.xlsx_relationships.specs.Relationships.{related_in}
-use Rattle.xlsx_workbook.specs.Workbook.{IsContents, AreContentsRefused}
+use Rattle.xlsx_sections.specs.Words.{always, closed_section_of, OptionalPartFails}
+use Rattle.xlsx_relationships.specs.Words.{related_by_id, folder_of, related_in}
+use Rattle.xlsx_workbook.specs.Words.{workbook_part, relationships_part, IsContents}
+use Rattle.xlsx_workbook.specs.Words.{AreContentsRefused}
 use Rattle.xlsx_open.specs.Opening.{HasRelationships, scopes_at}
 use Rattle.xlsx_open.specs.SharedParts.{shared_said}
 use Rattle.xlsx_open.proofs.Openings.{opening_of, holds_contents, has_contents, has_nothing}
-use Rattle.part_events.proofs.Uses.{leaves_then}
 use Rattle.xlsx_open.proofs.Openings.{contents_fail, has_scopes, no_scopes}
+use Rattle.part_events.proofs.Uses.{leaves_then}
 use Rattle.xlsx_open.proofs.opening.open_workbook.Goals as goal
 
 pub returns-in-Some-clause-opened : goal.returns-in-Some-clause-opened
@@ -38,7 +36,7 @@ returns-in-Some-clause-opened g c = λ told.
     in
     let contents : IsSomeAnd (closed_section_of (codes "workbook") c.as_str-2.result.now mid.parts)
     (λ inside. IsContents (arc_str_bytes c.in_ok-folder.folder) related inside found) =
-    rw c.in-Some.is at (c.in_ok-contents.ensures.contents (same.is_told ∙ told))
+    rw c.in-Some.is at (c.in_ok-contents.ensures.contents (same.is_visible ∙ told))
     in
     let contents_here : IsSomeAnd
     (closed_section_of (codes "workbook") (workbook_part path) old.parts)
@@ -78,7 +76,7 @@ returns-clause-opened g c = λ told.
     in
     let shared = shared_said c.args.shared in
     let absent : part_of mid.parts c.as_str-2.result.now ≡ None =
-    rw c.in-None.is at (c.in_ok-contents.ensures.contents (same.is_told ∙ told)) in
+    rw c.in-None.is at (c.in_ok-contents.ensures.contents (same.is_visible ∙ told)) in
     let absent_here : part_of old.parts (workbook_part path) ≡ None =
     ap (λ (parts : List Part). part_of parts (workbook_part path)) (sym same.parts)
     ∙ ap (λ (part : List ℕ). part_of mid.parts part)
@@ -100,7 +98,7 @@ returns-in_err-contents-clause-err g c =
     let related = related_by_id c.in_ok-relationships.relationships in
     let e = c.in_err-contents.field-0.0 in
     let uses = c.in_ok-relationships.ensures.uses in
-    let has : old.is_told ≡ true → HasRelationships old.parts path related = λ told.
+    let has : old.is_visible ≡ true → HasRelationships old.parts path related = λ told.
     subst (λ (part : List ℕ). IsSomeAnd (closed_section_of (codes "Relationships") part old.parts)
     (λ inside. (id : List ℕ) → related_in inside id ≡ Ok (related id))) (c.as_str.ensures.value
     ∙ c.in_ok-part.ensures) (c.in_ok-relationships.ensures.related told) in
@@ -147,7 +145,7 @@ returns-in-Some-clause-scopes g c = λ told.
     let same = c.in_ok-relationships.ensures.uses.parts in
     let contents : IsSomeAnd (closed_section_of (codes "workbook") c.as_str-2.result.now mid.parts)
     (λ inside. IsContents (arc_str_bytes c.in_ok-folder.folder) related inside found) =
-    rw c.in-Some.is at (c.in_ok-contents.ensures.contents (same.is_told ∙ told)) in
+    rw c.in-Some.is at (c.in_ok-contents.ensures.contents (same.is_visible ∙ told)) in
     c.in_ok-from_contents-in-Some.ensures.scopes
     ∙ has_scopes mid.parts c.as_str-2.result.now (arc_str_bytes c.in_ok-folder.folder) related found
     contents
@@ -162,7 +160,7 @@ returns-clause-scopes g c = λ told.
     let path = c.args.path.now in
     let same = c.in_ok-relationships.ensures.uses.parts in
     let absent : part_of mid.parts c.as_str-2.result.now ≡ None =
-    rw c.in-None.is at (c.in_ok-contents.ensures.contents (same.is_told ∙ told)) in
+    rw c.in-None.is at (c.in_ok-contents.ensures.contents (same.is_visible ∙ told)) in
     let absent_here : part_of old.parts (workbook_part path) ≡ None =
     ap (λ (parts : List Part). part_of parts (workbook_part path)) (sym same.parts)
     ∙ ap (λ (part : List ℕ). part_of mid.parts part)

@@ -1,6 +1,6 @@
 use Rattle.std.proofs.Common.{ℕ, List, ◌∙◌, subst}
 use Rattle.std.specs.Prelude.{IfOk, OnOk}
-use Rattle.part_events.specs.Package.{Uses, CountsUp, event_count}
+use Rattle.part_events.specs.Words.{Uses, CountsUp, event_count}
 use Rattle.xlsx_error.specs.declared.error.XlsxError.TheVariants.{Io}
 use Rattle.xlsx_theme.specs.ThemePart.{HasTheme, TakesTheme}
 use Rattle.xlsx_open.proofs.shared_parts.read_colors.Goals as goal

@@ -1,9 +1,9 @@
 use Rattle.std.proofs.Common.{◌≡◌, ◌+◌, List, true, arith, ap, ◌∙◌, subst}
 use Rattle.std.proofs.lemmas.Result.{err_from_is_err_and}
-use Rattle.part_events.specs.Package.{Part, UsesPackage, LeavesPackage, event_count}
+use Rattle.part_events.specs.Words.{Part, UsesPackage, LeavesPackage, event_count}
 use Rattle.xlsx_error.specs.declared.error.XlsxError.TheVariants.{Io}
 use Rattle.xlsx_theme.specs.ThemePart.{theme_colors}
-use Rattle.xlsx_workbook.specs.Paths.{strings_part, theme_part, styles_part}
+use Rattle.xlsx_workbook.specs.Words.{strings_part, theme_part, styles_part}
 use Rattle.part_events.proofs.Uses.{uses_then, leaves_then}
 use Rattle.xlsx_open.proofs.Openings.{styles_fail}
 use Rattle.xlsx_open.proofs.shared_parts.read_shared.Goals as goal
@@ -22,8 +22,8 @@ returns-in_err-style_sheet-clause-err g c =
     UsesPackage (event_count old.parts (strings_part path)
     + event_count first.parts (theme_part path)) old mid =
     uses_then (omega arith) c.in_ok-strings.ensures.uses c.in_ok-theme.ensures.uses in
-    let colors : old.is_told ≡ true → theme ≡ theme_colors old.parts (theme_part path) = λ told.
-    c.as_slice.ensures.value ∙ (c.in_ok-theme.ensures.theme (same.is_told ∙ told)).colors
+    let colors : old.is_visible ≡ true → theme ≡ theme_colors old.parts (theme_part path) = λ told.
+    c.as_slice.ensures.value ∙ (c.in_ok-theme.ensures.theme (same.is_visible ∙ told)).colors
     ∙ ap (λ (parts : List Part). theme_colors parts (theme_part path)) same.parts in
     let p = err_from_is_err_and c.from_residual-in_err-style_sheet.result
     c.from_residual-in_err-style_sheet.ensures.1 in

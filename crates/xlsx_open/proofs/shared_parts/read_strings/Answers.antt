@@ -1,11 +1,9 @@
 use Rattle.std.proofs.Common.{ℕ, List, map, ◌∙◌, subst, codes, string_bytes}
 use Rattle.std.specs.Prelude.{IfOk, IfErr}
-use Rattle.part_events.specs.Package.{Uses, event_count}
+use Rattle.part_events.specs.Words.{Uses, event_count}
 use Rattle.xlsx_error.specs.declared.error.XlsxError.TheVariants.{Io}
-use Rattle.xlsx_sections.specs.Elements.{IsInsideRefused}
-use Rattle.xlsx_sections.specs.PartSection.{OptionalPartFails}
+use Rattle.xlsx_sections.specs.Words.{IsInsideRefused, OptionalPartFails, ReadsToEnd}
 use Rattle.xlsx_strings.specs.Strings.{strings_in, end_in_strings, HasStrings}
-use Rattle.xlsx_sections.specs.SectionEvents.{ReadsToEnd}
 use Rattle.xlsx_open.proofs.shared_parts.read_strings.Goals as goal
 
 pub returns-clause-uses : goal.returns-clause-uses

@@ -1,12 +1,10 @@
 use Rattle.std.proofs.Common.{ℕ, List, map, ◌∙◌, subst, codes}
 use Rattle.std.specs.Prelude.{IfOk, IfErr}
-use Rattle.part_events.specs.Package.{Uses, event_count}
+use Rattle.part_events.specs.Words.{Uses, event_count}
 use Rattle.xlsx_error.specs.declared.error.XlsxError.TheVariants.{Io}
-use Rattle.xlsx_sections.specs.Elements.{IsInsideRefused}
-use Rattle.xlsx_sections.specs.PartSection.{OptionalPartFails}
+use Rattle.xlsx_sections.specs.Words.{IsInsideRefused, OptionalPartFails, ReadsToEnd}
 use Rattle.xlsx_formats.specs.Formattings.{style_said}
 use Rattle.xlsx_stylesheet.specs.StyleSheet.{cell_formats_in, end_in_styles, HasStyles}
-use Rattle.xlsx_sections.specs.SectionEvents.{ReadsToEnd}
 use Rattle.xlsx_open.proofs.shared_parts.read_style_sheet.Goals as goal
 
 pub returns-clause-uses : goal.returns-clause-uses

@@ -1,12 +1,9 @@
 use Rattle.std.proofs.Common.{◌≡◌, ◌∷◌, [], List, Some, None, ap, sym, ◌∙◌, subst, length}
 use Rattle.std.specs.Prelude.{option_map}
-use Rattle.part_events.specs.Event.{Tag, Event, IsStartAnd}
-use Rattle.part_events.specs.Nesting.{whole}
-use Rattle.part_events.specs.Reading.{ahead, events_of}
-use Rattle.part_events.specs.Section.{behind_start, starts_by, is_named}
-use Rattle.part_events.specs.Walk.{IsNextStart}
+use Rattle.part_events.specs.Words.{Tag, Event, IsStartAnd, whole, ahead, events_of, behind_start}
+use Rattle.part_events.specs.Words.{starts_by, is_named, IsNextStart}
 use Rattle.part_events.proofs.Onward.{reads_nothing}
-use Rattle.xlsx_sections.specs.PartSection.{section_in, section_left}
+use Rattle.xlsx_sections.specs.Words.{section_in, section_left}
 use Rattle.xlsx_sections.proofs.SectionsRead.{start_there, first_section_left, nothing_past}
 use Rattle.xlsx_sections.proofs.SectionsRead.{ahead_at_first}
 use Rattle.xlsx_parts.specs.FirstElement.{element_in, element_with, element_from}
@@ -35,7 +32,7 @@ returns-in-Found-clause-found g c = λ told.
     ≡ Some (section_left (length new.names) new))
     (reads.stays.part told)
     (first_section_left name old new past
-    (reads.stays.reading.tracked (reads.moves.parts.is_told ∙ told)) (reads.stays.part told)
+    (reads.stays.reading.tracked (reads.moves.parts.is_visible ∙ told)) (reads.stays.part told)
     next.2.first) in
     subst (λ (event : Event). IsStartAnd event (λ tag. element_in name (events_of old)
     ≡ Some (element_with tag (section_left (length new.names) new)))) next.1

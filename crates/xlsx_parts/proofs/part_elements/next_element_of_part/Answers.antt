@@ -1,5 +1,5 @@
 use Rattle.std.proofs.Common.{◌∷◌, [], ◌∙◌, arith}
-use Rattle.part_events.specs.Section.{is_named}
+use Rattle.part_events.specs.Words.{is_named}
 use Rattle.xlsx_sections.proofs.ElementsRead.{element_step_found}
 use Rattle.xlsx_parts.proofs.WholeRead.{part_ended}
 use Rattle.xlsx_parts.proofs.part_elements.next_element_of_part.Goals as goal
@@ -13,7 +13,7 @@ returns-in-Found-clause-step g c = λ first keeps.
 
 pub returns-in-Ended-clause-step : goal.returns-in-Ended-clause-step
 returns-in-Ended-clause-step g c = λ first keeps told.
-    let still = keeps.section.reads.moves.parts.is_told ∙ told in
+    let still = keeps.section.reads.moves.parts.is_visible ∙ told in
     let ends = rw c.in-Ended.is at (c.in_ok-next_element.ensures.found still) in (
       part_ended keeps.section.reads c.in_ok-next_element.ensures.reads ends.at_end told,
       ends.elements,

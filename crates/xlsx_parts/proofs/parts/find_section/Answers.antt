@@ -1,11 +1,8 @@
 use Rattle.std.proofs.Common.{◌≡◌, ◌∷◌, [], List, Some, None, ap, sym, ◌∙◌, subst, length}
 use Rattle.std.specs.Prelude.{option_map}
-use Rattle.part_events.specs.Event.{Tag, Event}
-use Rattle.part_events.specs.Reading.{events_of}
-use Rattle.part_events.specs.Section.{behind_start, is_named}
-use Rattle.part_events.specs.Walk.{IsNextStart}
+use Rattle.part_events.specs.Words.{Tag, Event, events_of, behind_start, is_named, IsNextStart}
 use Rattle.part_events.proofs.Onward.{reads_nothing}
-use Rattle.xlsx_sections.specs.PartSection.{section_from, section_in, section_left}
+use Rattle.xlsx_sections.specs.Words.{section_from, section_in, section_left}
 use Rattle.xlsx_sections.proofs.SectionsRead.{start_there, first_section_left, nothing_past}
 use Rattle.xlsx_sections.proofs.SectionsRead.{ahead_at_first}
 use Rattle.xlsx_parts.proofs.WholeRead.{part_ended}
@@ -25,7 +22,7 @@ returns-in-Found-clause-found g c = λ told.
     (reads.stays.part told)
     (first_section_left name old new
     (nothing_past old c.requires.reading c.requires.first told)
-    (reads.stays.reading.tracked (reads.moves.parts.is_told ∙ told)) (reads.stays.part told)
+    (reads.stays.reading.tracked (reads.moves.parts.is_visible ∙ told)) (reads.stays.part told)
     next.2.first)
 
 pub returns-in-Ended-clause-found : goal.returns-in-Ended-clause-found

@@ -1,11 +1,7 @@
 use Rattle.std.proofs.Common.{◌≡◌, ◌∷◌, Err, codes, length, map, refl, sym, subst}
-use Rattle.part_events.specs.Event.{Event, event_of}
-use Rattle.part_events.specs.Reading.{names_behind, IsEnclosed}
-use Rattle.part_events.specs.Walk.{section_ahead}
-use Rattle.cell_data.specs.CellValue.{value_of_data}
-use Rattle.xlsx_sections.specs.Elements.{IsInsideRefused}
-use Rattle.xlsx_sections.specs.PartSection.{always, Never, SectionFails}
-use Rattle.xlsx_sections.specs.Refusal.{Refusal}
+use Rattle.part_events.specs.Words.{Event, event_of, names_behind, IsEnclosed, section_ahead}
+use Rattle.cell_data.specs.Words.{value_of_data}
+use Rattle.xlsx_sections.specs.Words.{IsInsideRefused, always, Never, SectionFails, Refusal}
 use Rattle.xlsx_sections.proofs.Failing.{given_back}
 use Rattle.xlsx_sections.proofs.Refused.{event_refused, refused_later}
 use Rattle.xlsx_sections.proofs.SectionsRead.{event_inside}

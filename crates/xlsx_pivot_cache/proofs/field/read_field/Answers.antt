@@ -1,8 +1,7 @@
 use Rattle.std.proofs.Common.{◌≡◌, ◌∙◌, Err, codes, length, sym, subst, arith}
-use Rattle.part_events.specs.Event.{Tag}
-use Rattle.xlsx_sections.specs.Elements.{IsInsideRefused}
-use Rattle.xlsx_sections.specs.PartSection.{always, section_left, inside_of}
-use Rattle.xlsx_sections.specs.Refusal.{Refusal, ElementFails}
+use Rattle.part_events.specs.Words.{Tag}
+use Rattle.xlsx_sections.specs.Words.{IsInsideRefused, always, section_left, inside_of, Refusal}
+use Rattle.xlsx_sections.specs.Words.{ElementFails}
 use Rattle.xlsx_sections.proofs.Failing.{given_back}
 use Rattle.xlsx_sections.proofs.Refused.{event_refused}
 use Rattle.xlsx_sections.proofs.SectionsRead.{same_tag}

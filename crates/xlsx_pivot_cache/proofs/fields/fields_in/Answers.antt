@@ -1,5 +1,5 @@
 use Rattle.std.proofs.Common.{List, option_map, sym, subst}
-use Rattle.part_events.specs.Event.{Tag}
+use Rattle.part_events.specs.Words.{Tag}
 use Rattle.xlsx_sections.proofs.ElementsRead.{IsElementFound}
 use Rattle.xlsx_sections.proofs.Failing.{given_back}
 use Rattle.xlsx_sections.proofs.SectionsRead.{start_there}

@@ -1,13 +1,9 @@
 use Rattle.std.proofs.Common.{◌≡◌, ◌∙◌, List, length, Ok, Option, Some, option_map, sym, ap, subst}
 use Rattle.std.specs.Prelude.{slice_get}
-use Rattle.part_events.specs.Event.{tag_of}
-use Rattle.part_events.specs.Section.{Element, is_any}
-use Rattle.part_events.specs.Walk.{section_ahead}
-use Rattle.cell_data.specs.CellValue.{CellValue, value_of_data}
+use Rattle.part_events.specs.Words.{tag_of, Element, is_any, section_ahead}
+use Rattle.cell_data.specs.Words.{CellValue, value_of_data}
 use Rattle.cell_data.specs.declared.value.Data.{Data}
-use Rattle.xlsx_sections.specs.Elements.{IsInsideRefused}
-use Rattle.xlsx_sections.specs.PartSection.{always}
-use Rattle.xlsx_sections.specs.Refusal.{ElementFails}
+use Rattle.xlsx_sections.specs.Words.{IsInsideRefused, always, ElementFails}
 use Rattle.xlsx_sections.proofs.Failing.{given_back}
 use Rattle.xlsx_sections.proofs.StartsSaid.{at_start, own_refused}
 use Rattle.xlsx_pivot_cache.specs.CacheFields.{FieldSaid, fields_kept}

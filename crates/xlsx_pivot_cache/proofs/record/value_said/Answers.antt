@@ -1,7 +1,7 @@
 use Rattle.std.proofs.Common.{◌≡◌, ◌∙◌, sym, ap, Bool, option_map}
 use Rattle.std.specs.Prelude.{if◌then◌else◌}
 use Rattle.std.specs.Option.{option_copied}
-use Rattle.part_events.specs.Event.{tag_of}
+use Rattle.part_events.specs.Words.{tag_of}
 use Rattle.xlsx_sections.proofs.Failing.{given_back}
 use Rattle.xlsx_pivot_cache.specs.CacheFields.{field_kept, item_said, item_if, some_item}
 use Rattle.xlsx_pivot_cache.specs.CacheItems.{item_of_start}

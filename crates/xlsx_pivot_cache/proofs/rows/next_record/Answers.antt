@@ -1,5 +1,5 @@
 use Rattle.std.proofs.Common.{Some}
-use Rattle.part_events.specs.Section.{Element}
+use Rattle.part_events.specs.Words.{Element}
 use Rattle.xlsx_sections.proofs.ElementsRead.{keeps_none}
 use Rattle.xlsx_sections.proofs.ElementsSaid.{found_there}
 use Rattle.xlsx_sections.proofs.Failing.{given_back}

@@ -1,8 +1,7 @@
 use Rattle.std.proofs.Common.{◌≡◌, ℕ, ap, option_map, string_bytes}
 use Rattle.std.proofs.lemmas.Result.{IfErr-weaker}
-use Rattle.part_events.specs.Event.{tag_of}
-use Rattle.xlsx_sections.specs.Names.{name_by}
-use Rattle.xlsx_sections.specs.Refusal.{ElementFails, placed_at}
+use Rattle.part_events.specs.Words.{tag_of}
+use Rattle.xlsx_sections.specs.Words.{name_by, ElementFails, placed_at}
 use Rattle.xlsx_sections.proofs.Failing.{given_back}
 use Rattle.xlsx_pivots.specs.PivotParts.{name_kept}
 use Rattle.xlsx_pivots.specs.Singles.{single_kept_by, kept_with}

@@ -1,18 +1,12 @@
-use Rattle.std.proofs.Common.{◌≡◌, ℕ, suc, Some, None, Err, codes, length, ap, sym, ◌∙◌}
-use Rattle.part_events.specs.Walk.{section_ahead, section_end}
-use Rattle.std.proofs.Common.{Ok, true, rules}
-use Rattle.std.proofs.Common.{subst, arith, option_map, string_bytes}
-use Rattle.part_events.specs.Event.{Tag, tag_of}
-use Rattle.part_events.specs.Reading.{events_of}
-use Rattle.xlsx_sections.specs.Changes.{changed_by}
-use Rattle.xlsx_sections.specs.Elements.{IsInsideRefused}
-use Rattle.xlsx_sections.specs.PartSection.{always, section_left, inside_of, SectionFails}
-use Rattle.xlsx_sections.specs.Refusal.{Refusal, placed_at}
+use Rattle.std.proofs.Common.{◌≡◌, ℕ, suc, Some, None, Err, codes, length, ap, sym, ◌∙◌, Ok, true}
+use Rattle.std.proofs.Common.{rules, subst, arith, option_map, string_bytes}
+use Rattle.part_events.specs.Words.{section_ahead, section_end, Tag, tag_of, events_of}
+use Rattle.xlsx_sections.specs.Words.{changed_by, IsInsideRefused, always, section_left, inside_of}
+use Rattle.xlsx_sections.specs.Words.{SectionFails, Refusal, placed_at}
 use Rattle.xlsx_sections.proofs.Failing.{given_back}
 use Rattle.xlsx_sections.proofs.Refused.{event_refused, refused_as}
 use Rattle.xlsx_sections.proofs.StartsSaid.{at_start}
-use Rattle.xlsx_parts.specs.FirstElement.{element_in, element_with, IsElementRefused}
-use Rattle.xlsx_parts.specs.FirstElement.{FirstElementCause}
+use Rattle.xlsx_parts.specs.Words.{element_in, element_with, IsElementRefused, FirstElementCause}
 use Rattle.xlsx_parts.proofs.ElementsFound.{find_element_refused, element_refused, element_events}
 use Rattle.xlsx_pivots.specs.PivotParts.{name_kept, name_behind, name_said, name_in_part}
 use Rattle.xlsx_pivots.specs.Singles.{Lacks}
@@ -92,7 +86,7 @@ returns-in-Some-kept-clause-ends g c = λ told.
     let new = c.keep_starts.new.xml in
     let tag = tag_of c.start_tag.result in
     let s = section_left (length mid.names) mid in
-    let still = c.in_ok-at.ensures.reads.moves.parts.is_told ∙ told in
+    let still = c.in_ok-at.ensures.reads.moves.parts.is_visible ∙ told in
     let ends : new.at ≡ suc (section_end (length mid.names) mid) =
     subst (λ (n : ℕ). new.at ≡ suc (section_end n mid)) c.depth-base.ensures
     (c.in_ok-keep_starts.ensures.reaches still).ends in
@@ -104,7 +98,7 @@ returns-in-Some-kept-clause-ends g c = λ told.
 pub returns-in-Some-kept-clause-name : goal.returns-in-Some-kept-clause-name
 returns-in-Some-kept-clause-name g c =
     let mid = c.find_element.new.xml in
-    let held : mid.source.is_told ≡ true
+    let held : mid.source.is_visible ≡ true
     → name_behind (option_map string_bytes c.keep_name.new.kept)
     (section_ahead c.depth-base.result mid)
     ≡ Ok (option_map string_bytes c.keep_starts.new.keeper.kept) =
@@ -114,7 +108,7 @@ returns-in-Some-kept-clause-name g c =
 pub returns-in-None-clause-err : goal.returns-in-None-clause-err
 returns-in-None-clause-err g c =
     let mid = c.find_element.new.xml in
-    let held : mid.source.is_told ≡ true
+    let held : mid.source.is_visible ≡ true
     → name_behind (option_map string_bytes c.keep_name.new.kept)
     (section_ahead c.depth-base.result mid)
     ≡ Ok (option_map string_bytes c.keep_starts.new.keeper.kept) =

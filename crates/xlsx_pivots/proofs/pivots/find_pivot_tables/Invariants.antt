@@ -1,5 +1,5 @@
 use Rattle.std.proofs.Common.{[], map, length}
-use Rattle.xlsx_parts.specs.ManyAsked.{Leads}
+use Rattle.xlsx_parts.specs.Words.{Leads}
 use Rattle.xlsx_pivots.specs.PivotTables.{pivots_kept, sheet_given}
 use Rattle.xlsx_pivots.specs.Pivots.{pivots_ask}
 use Rattle.xlsx_pivots.proofs.pivots.find_pivot_tables.Given as goal

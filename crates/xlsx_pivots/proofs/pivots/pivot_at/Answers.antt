@@ -1,11 +1,10 @@
-use Rattle.std.proofs.Common.{◌≡◌, ◌∙◌, List, arith, codes}
-use Rattle.std.proofs.Common.{subst, string_bytes, Some, rules}
+use Rattle.std.proofs.Common.{◌≡◌, ◌∙◌, List, arith, codes, subst, string_bytes, Some, rules}
 use Rattle.std.proofs.lemmas.Result.{err_from_is_err_and}
-use Rattle.part_events.specs.Package.{Part, LeavesPackage, CountsUp, event_count}
+use Rattle.part_events.specs.Words.{Part, LeavesPackage, CountsUp, event_count}
 use Rattle.part_events.proofs.Uses.{leaves_then}
 use Rattle.xlsx_error.specs.declared.error.XlsxError.TheVariants.{Io}
-use Rattle.xlsx_sections.specs.SectionEvents.{section_events_of}
-use Rattle.xlsx_relationships.specs.Paths.{relationships_beside}
+use Rattle.xlsx_sections.specs.Words.{section_events_of}
+use Rattle.xlsx_relationships.specs.Words.{relationships_beside}
 use Rattle.xlsx_pivots.specs.Targets.{definitions_at}
 use Rattle.xlsx_pivots.proofs.PivotsTaken.{pivot_uses, pivot_leaves, pivot_ends}
 use Rattle.xlsx_pivots.proofs.pivots.pivot_at.Goals as goal
@@ -71,7 +70,7 @@ returns-clause-to_end g c = λ told.
     let there = string_bytes c.in_ok-definitions.definitions in
     let first = c.in_ok-name.ensures.uses.parts in
     let second = c.in_ok-definitions.ensures.uses.parts in
-    let here = first.is_told ∙ told in
+    let here = first.is_visible ∙ told in
     let beside = codes "Relationships" in
     pivot_ends path there old mid further new
     (subst (λ (parts : List Part). definitions_at parts path ≡ Some there) first.parts
@@ -83,4 +82,4 @@ returns-clause-to_end g c = λ told.
     (subst (λ (parts : List Part). CountsUp
     (section_events_of beside parts (relationships_beside there)) further.taken new.taken)
     (second.parts ∙ first.parts)
-    (rw c.as_str.ensures.value at (c.in_ok-records.ensures.to_end (second.is_told ∙ here))))
+    (rw c.as_str.ensures.value at (c.in_ok-records.ensures.to_end (second.is_visible ∙ here))))

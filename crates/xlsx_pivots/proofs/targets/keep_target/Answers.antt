@@ -1,9 +1,9 @@
 use Rattle.std.proofs.Common.{◌≡◌, ℕ, ap, sym, ◌∙◌, option_map, string_bytes}
 use Rattle.std.proofs.lemmas.Result.{IfErr-weaker}
-use Rattle.part_events.specs.Event.{tag_of}
-use Rattle.xlsx_sections.specs.Refusal.{ElementFails, placed_at}
+use Rattle.part_events.specs.Words.{tag_of}
+use Rattle.xlsx_sections.specs.Words.{ElementFails, placed_at}
 use Rattle.xlsx_sections.proofs.Failing.{given_back}
-use Rattle.xlsx_relationships.specs.RelatedParts.{typed_target}
+use Rattle.xlsx_relationships.specs.Words.{typed_target}
 use Rattle.xlsx_pivots.specs.Singles.{single_kept_by, kept_with}
 use Rattle.xlsx_pivots.specs.Targets.{counted_target, target_kept}
 use Rattle.xlsx_pivots.proofs.PivotsRead.{target_fails}

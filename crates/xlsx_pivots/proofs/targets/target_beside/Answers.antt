@@ -1,7 +1,6 @@
 use Rattle.std.proofs.Common.{◌≡◌, true, Ok, ◌∙◌, codes, option_map, string_bytes, rules}
-use Rattle.part_events.specs.Walk.{section_ahead}
-use Rattle.xlsx_sections.specs.Elements.{IsInsideRefused}
-use Rattle.xlsx_sections.specs.PartSection.{always, SectionFails}
+use Rattle.part_events.specs.Words.{section_ahead}
+use Rattle.xlsx_sections.specs.Words.{IsInsideRefused, always, SectionFails}
 use Rattle.xlsx_sections.proofs.Failing.{given_back}
 use Rattle.xlsx_pivots.specs.Targets.{single_target_in}
 use Rattle.xlsx_pivots.proofs.targets.target_beside.Goals as goal
@@ -23,7 +22,7 @@ returns-in-Some-clause-target g c = λ told.
     let inside = section_ahead c.depth-base.result mid in
     let said : single_target_in c.args.wanted.now c.args.single inside
     ≡ Ok (option_map string_bytes c.keep_starts.new.keeper.kept) =
-    c.in_ok-keep_starts.ensures.kept (enters.parts.is_told ∙ told) tt in
+    c.in_ok-keep_starts.ensures.kept (enters.parts.is_visible ∙ told) tt in
     search rules
 
 pub returns-clause-err : goal.returns-clause-err
@@ -31,8 +30,8 @@ returns-clause-err g c =
     let mid = c.enter_part.new.xml in
     let enters = c.in_ok-enter_part.ensures.enters c.if-not-branch.false in
     let inside = section_ahead c.depth-base.result mid in
-    let said = λ (told : c.args.xml.now.source.is_told ≡ true).
+    let said = λ (told : c.args.xml.now.source.is_visible ≡ true).
     let own : single_target_in c.args.wanted.now c.args.single inside
     ≡ Ok (option_map string_bytes c.keep_starts.new.keeper.kept) =
-    c.in_ok-keep_starts.ensures.kept (enters.parts.is_told ∙ told) tt in own in
+    c.in_ok-keep_starts.ensures.kept (enters.parts.is_visible ∙ told) tt in own in
     search rules

@@ -1,5 +1,5 @@
 use Rattle.std.proofs.Common.{◌++◌, ap, ◌∙◌}
-use Rattle.formula_shift.specs.Pieces.{piece_text, pieces_left}
+use Rattle.formula_shift.specs.Words.{piece_text, pieces_left}
 use Rattle.xlsx_precedents.proofs.OwnAreas.{own_areas_begin, own_areas_next}
 use Rattle.xlsx_precedents.proofs.areas.push_areas.Goals as goal
 

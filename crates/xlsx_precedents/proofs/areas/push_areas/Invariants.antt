@@ -1,8 +1,7 @@
 use Rattle.std.proofs.Common.{◌≡◌, ◌++◌, map, length, true}
 use Rattle.std.specs.List.{list_all}
-use Rattle.cell_refs.specs.Positions.{is_sheet_area}
-use Rattle.formula_shift.specs.Areas.{area_named, own_references}
-use Rattle.formula_shift.specs.Pieces.{pieces_left}
+use Rattle.cell_refs.specs.Words.{is_sheet_area}
+use Rattle.formula_shift.specs.Words.{area_named, own_references, pieces_left}
 use Rattle.xlsx_precedents.specs.Precedents.{areas}
 use Rattle.xlsx_precedents.proofs.areas.push_areas.Given as goal
 

@@ -15,6 +15,7 @@ returns t c =
     on_ok_weaker c.push_halved-2.result
     (λ right. keeps_around c.args.out.now.items c.push_halved.new.out.items
     c.push.new.self.items c.push_halved-2.new.out.items c.args.sorted.now c.in-Some.own _
-    c.in-Some.ensures.halves c.in_ok-push_halved.ensures c.in_ok-push.ensures.items right (search rules)
+    c.in-Some.ensures.halves c.in_ok-push_halved.ensures c.in_ok-push.ensures.items right
+    (search rules)
     c.greatest_row.ensures)
     c.push_halved-2.ensures

@@ -1,10 +1,9 @@
 use Rattle.std.proofs.Common.{◌≡◌, ◌∷◌, ℕ, List, length, Err, true, rules}
 use Rattle.std.proofs.lemmas.Result.{err_from_is_err_and}
-use Rattle.part_events.specs.Event.{tag_of, start}
-use Rattle.xlsx_sections.specs.Refusal.{Refusal, placed_at}
+use Rattle.part_events.specs.Words.{tag_of, start}
+use Rattle.xlsx_sections.specs.Words.{Refusal, placed_at, name_by}
 use Rattle.xlsx_sections.proofs.Refused.{refused_at_weaker}
 use Rattle.xlsx_properties.specs.CustomProperties.{is_property}
-use Rattle.xlsx_sections.specs.Names.{name_by}
 use Rattle.xlsx_properties.specs.Open.{custom_behind, custom_in_place}
 use Rattle.xlsx_properties.proofs.CustomKept.{name_refused}
 use Rattle.xlsx_properties.proofs.open_custom.take_start.Goals as goal

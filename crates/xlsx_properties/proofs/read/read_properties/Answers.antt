@@ -1,8 +1,7 @@
-use Rattle.std.proofs.Common.{◌≡◌, ◌∙◌, ◌+◌, ℕ, List, Option, None, Ok, sym, ap, inl, inr}
-use Rattle.std.proofs.Common.{arith}
+use Rattle.std.proofs.Common.{◌≡◌, ◌∙◌, ◌+◌, ℕ, List, Option, None, Ok, sym, ap, inl, inr, arith}
 use Rattle.std.proofs.lemmas.Result.{err_from_is_err_and}
-use Rattle.part_events.specs.Package.{PackageState, Part, SameParts, UsesPackage, part_of}
-use Rattle.part_events.specs.Package.{event_count}
+use Rattle.part_events.specs.Words.{PackageState, Part, SameParts, UsesPackage, part_of}
+use Rattle.part_events.specs.Words.{event_count}
 use Rattle.part_events.proofs.Uses.{uses_then, leaves_then, same_further}
 use Rattle.xlsx_sections.proofs.Failing.{fails_by_weaker, given_back, same_parts}
 use Rattle.xlsx_properties.specs.CustomProperties.{custom_in}
@@ -97,25 +96,25 @@ pub returns-clause-to_end : goal.returns-clause-to_end
 returns-clause-to_end g c = λ told.
     let first = c.in_ok-keep_part.ensures.uses.parts in
     let second = c.in_ok-keep_part-2.ensures.uses.parts in
-    let still = first.is_told ∙ told in
+    let still = first.is_visible ∙ told in
     omega (
       arith,
       c.in_ok-keep_part.ensures.to_end told,
       rw first.parts at (c.in_ok-keep_part-2.ensures.to_end still),
       rw (second.parts, first.parts) at
-          (c.in_ok-keep_part-3.ensures.to_end (second.is_told ∙ still)),
+          (c.in_ok-keep_part-3.ensures.to_end (second.is_visible ∙ still)),
     )
 
 pub returns-clause-whole : goal.returns-clause-whole
 returns-clause-whole g c = λ told.
     let first = c.in_ok-keep_part.ensures.uses.parts in
     let second = c.in_ok-keep_part-2.ensures.uses.parts in
-    let still = first.is_told ∙ told in
+    let still = first.is_visible ∙ told in
     record {
       core = c.in_ok-keep_part.ensures.whole told;
       program = rw first.parts at (c.in_ok-keep_part-2.ensures.whole still);
       custom = rw (second.parts, first.parts) at
-          (c.in_ok-keep_part-3.ensures.whole (second.is_told ∙ still));
+          (c.in_ok-keep_part-3.ensures.whole (second.is_visible ∙ still));
     }
 
 pub returns-clause-properties : goal.returns-clause-properties
@@ -127,7 +126,7 @@ returns-clause-properties g c = λ told wanted.
     let one = rw (core.following, core.properties, c.new-none.ensures.none wanted) at
     (c.in_ok-keep_part.ensures.said told wanted) in
     let two = rw (program.following, program.properties, first.parts) at
-    (c.in_ok-keep_part-2.ensures.said (first.is_told ∙ told) wanted) in
+    (c.in_ok-keep_part-2.ensures.said (first.is_visible ∙ told) wanted) in
     said_later (said_by (property_in core_properties) wanted (part_of old.parts core_part))
     (said_by (property_in program_properties) wanted (part_of old.parts program_part))
     (held wanted c.keep_part.new.keeper.properties)
@@ -140,7 +139,7 @@ returns-clause-custom g c = λ told name.
     let old = c.args.xml.now.source in
     let first = c.in_ok-keep_part.ensures.uses.parts in
     let second = c.in_ok-keep_part-2.ensures.uses.parts in
-    let still = second.is_told ∙ first.is_told ∙ told in
+    let still = second.is_visible ∙ first.is_visible ∙ told in
     let custom = c.new-custom.ensures in
     let none : custom_held name c.keep_part-2.new.keeper.properties ≡ None =
     rw c.new-program.ensures.properties at (c.in_ok-keep_part-2.ensures.beside name)

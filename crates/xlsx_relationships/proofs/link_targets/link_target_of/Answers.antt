@@ -1,7 +1,7 @@
 use Rattle.std.proofs.Common.{◌≡◌, rules}
 use Rattle.std.proofs.lemmas.Result.{err_from_is_err_and}
-use Rattle.part_events.specs.Event.{tag_of}
-use Rattle.xlsx_sections.specs.Refusal.{placed_at}
+use Rattle.part_events.specs.Words.{tag_of}
+use Rattle.xlsx_sections.specs.Words.{placed_at}
 use Rattle.xlsx_relationships.specs.LinkTargets.{link_target_of, link_text, leading_to}
 use Rattle.xlsx_relationships.proofs.TargetsKept.{leading_fails}
 use Rattle.xlsx_relationships.proofs.link_targets.link_target_of.Goals as goal

@@ -1,5 +1,5 @@
 use Rattle.std.proofs.lemmas.Result.{err_from_is_err_and}
-use Rattle.xlsx_sections.specs.Refusal.{decoded_at}
+use Rattle.xlsx_sections.specs.Words.{decoded_at}
 use Rattle.xlsx_relationships.proofs.TargetsKept.{link_text_fails}
 use Rattle.xlsx_relationships.proofs.link_targets.link_text.Goals as goal
 

@@ -1,9 +1,6 @@
 use Rattle.std.proofs.Common.{◌≡◌, None, List, [], ℕ, codes, ◌∙◌, rules}
-use Rattle.part_events.specs.Event.{Event}
-use Rattle.part_events.specs.Walk.{section_ahead}
-use Rattle.xlsx_sections.specs.Elements.{IsInsideRefused}
-use Rattle.xlsx_sections.specs.Keeping.{changed_in}
-use Rattle.xlsx_sections.specs.PartSection.{always, SectionFails}
+use Rattle.part_events.specs.Words.{Event, section_ahead}
+use Rattle.xlsx_sections.specs.Words.{IsInsideRefused, changed_in, always, SectionFails}
 use Rattle.xlsx_sections.proofs.Failing.{given_back}
 use Rattle.xlsx_sections.proofs.StartsKept.{refused_same}
 use Rattle.xlsx_relationships.specs.LinkTargets.{link_targets_in, put_later, target_held}
@@ -17,7 +14,7 @@ returns-clause-targets g c = λ told.
     let none : (id : List ℕ) → target_held c.new-targets.result id ≡ None = λ id. search rules in
     let held = targets_held (section_ahead c.depth-base.result mid) c.new-targets.result
     c.keep_starts.new.keeper.targets none
-    (c.in_ok-keep_starts.ensures.kept (enters.parts.is_told ∙ told)) in
+    (c.in_ok-keep_starts.ensures.kept (enters.parts.is_visible ∙ told)) in
     search rules
 
 pub returns-in_err-keep_starts-clause-err : goal.returns-in_err-keep_starts-clause-err

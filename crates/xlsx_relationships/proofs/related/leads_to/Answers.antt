@@ -1,5 +1,5 @@
-use Rattle.part_events.specs.Event.{tag_of}
-use Rattle.xlsx_sections.specs.Refusal.{placed_at}
+use Rattle.part_events.specs.Words.{tag_of}
+use Rattle.xlsx_sections.specs.Words.{placed_at}
 use Rattle.xlsx_sections.proofs.Failing.{given_back}
 use Rattle.xlsx_relationships.specs.RelatedParts.{typed_target}
 use Rattle.xlsx_relationships.proofs.RelatedRead.{lead_fails}

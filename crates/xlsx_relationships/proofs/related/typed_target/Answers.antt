@@ -1,7 +1,6 @@
 use Rattle.std.proofs.Common.{◌≡◌, rules}
-use Rattle.part_events.specs.Event.{tag_of}
-use Rattle.xlsx_sections.specs.Names.{some_text}
-use Rattle.xlsx_sections.specs.Refusal.{placed_at, decoded_at}
+use Rattle.part_events.specs.Words.{tag_of}
+use Rattle.xlsx_sections.specs.Words.{some_text, placed_at, decoded_at}
 use Rattle.xlsx_sections.proofs.Failing.{given_back}
 use Rattle.xlsx_sections.proofs.TextsRead.{some_text_fails}
 use Rattle.xlsx_relationships.specs.RelatedParts.{typed_target}

@@ -1,5 +1,5 @@
 use Rattle.std.proofs.Common.{◌≡◌, ◌++◌, List, length, map, string_bytes}
-use Rattle.xlsx_parts.specs.ManyAsked.{Leads, each}
+use Rattle.xlsx_parts.specs.Words.{Leads, each}
 use Rattle.xlsx_relationships.specs.RelatedAsked.{each_related}
 use Rattle.xlsx_relationships.proofs.related_lists.push_related.Given as goal
 

@@ -1,8 +1,8 @@
 use Rattle.std.proofs.Common.{◌≡◌, None, Ok, refl, true, ℕ, inl, inr, subst, codes, length}
 use Rattle.std.proofs.lemmas.Result.{err_from_is_err_and}
-use Rattle.part_events.specs.Walk.{section_ahead, is_closed_ahead}
+use Rattle.part_events.specs.Words.{section_ahead, is_closed_ahead}
 use Rattle.xlsx_error.specs.declared.error.XlsxError.TheVariants.{RelationshipNotFound}
-use Rattle.xlsx_sections.specs.PartSection.{always, SectionFails}
+use Rattle.xlsx_sections.specs.Words.{always, SectionFails}
 use Rattle.xlsx_sections.proofs.Failing.{part_refused, required_part_refused}
 use Rattle.xlsx_sections.proofs.Refused.{refused_as}
 use Rattle.xlsx_relationships.specs.Relationships.{path_in, IsTargetRefused, IsPathRefused}

@@ -1,10 +1,7 @@
 use Rattle.std.proofs.Common.{◌≡◌, ◌∷◌, [], None, Ok, List, ℕ, codes, subst, sym, ◌∙◌, rules}
-use Rattle.part_events.specs.Event.{Event}
-use Rattle.part_events.specs.Section.{is_named}
-use Rattle.part_events.specs.Walk.{section_ahead}
-use Rattle.xlsx_sections.specs.Elements.{IsInsideRefused}
-use Rattle.xlsx_sections.specs.Keeping.{changed_in, or_before}
-use Rattle.xlsx_sections.specs.PartSection.{always, SectionFails, inside_of, section_left}
+use Rattle.part_events.specs.Words.{Event, is_named, section_ahead}
+use Rattle.xlsx_sections.specs.Words.{IsInsideRefused, changed_in, or_before, always, SectionFails}
+use Rattle.xlsx_sections.specs.Words.{inside_of, section_left}
 use Rattle.xlsx_sections.proofs.Failing.{given_back, part_refused, required_part_refused}
 use Rattle.xlsx_sections.proofs.Refused.{refused_as}
 use Rattle.xlsx_sections.proofs.StartsKept.{or_in, refused_each}
@@ -54,5 +51,5 @@ returns-clause-related g c = λ told.
     ≡ Ok (related_by_id c.keep_starts.new.keeper.map id) = λ id.
     let none : related_by_id c.new-map.result id ≡ None = search rules in
     sym (or_in wanted (related_of id) (related_by_id c.new-map.result id) inside none)
-    ∙ c.in_ok-keep_starts.ensures.kept (enters.parts.is_told ∙ told) id in
+    ∙ c.in_ok-keep_starts.ensures.kept (enters.parts.is_visible ∙ told) id in
     search rules

@@ -1,8 +1,7 @@
 use Rattle.std.proofs.Common.{◌≡◌, rules}
 use Rattle.std.proofs.lemmas.Result.{err_from_is_err_and}
-use Rattle.part_events.specs.Event.{tag_of}
-use Rattle.xlsx_sections.specs.Refusal.{placed_at, decoded_at}
-use Rattle.xlsx_sections.specs.Names.{some_text}
+use Rattle.part_events.specs.Words.{tag_of}
+use Rattle.xlsx_sections.specs.Words.{placed_at, decoded_at, some_text}
 use Rattle.xlsx_sections.proofs.TextsRead.{some_text_fails}
 use Rattle.xlsx_relationships.specs.Relationships.{target_of}
 use Rattle.xlsx_relationships.proofs.relationships.office_target.Goals as goal

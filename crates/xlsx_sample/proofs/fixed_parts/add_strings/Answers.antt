@@ -11,10 +11,11 @@ returns c =
     let green = string_element (codes "green") in
     let blue = string_element (codes "blue") in
     on_ok_weaker c.close.result
-    (part_written c.args.draft.now c.begin_part.new.self c.push_string-3.new.draft c.close.new.self
+    (part_written c.args.builder.now c.begin_part.new.self c.push_string-3.new.builder
+    c.close.new.self
     (codes "xl/sharedStrings.xml") (codes "sst") []
     (red ++ (green ++ blue)) c.in_ok-begin_part.ensures
-    (three_steps c.begin_part.new.self c.push_string.new.draft c.push_string-2.new.draft
-    c.push_string-3.new.draft red green blue c.in_ok-push_string.ensures
+    (three_steps c.begin_part.new.self c.push_string.new.builder c.push_string-2.new.builder
+    c.push_string-3.new.builder red green blue c.in_ok-push_string.ensures
     c.in_ok-push_string-2.ensures c.in_ok-push_string-3.ensures))
     c.close.ensures

@@ -8,9 +8,10 @@ use Rattle.xlsx_sample.proofs.fixed_parts.add_styles.Goals as goal
 pub returns : goal.returns
 returns c =
     on_ok_weaker c.close.result
-    (part_written c.args.draft.now c.begin_part.new.self c.push_formats.new.draft c.close.new.self
+    (part_written c.args.builder.now c.begin_part.new.self c.push_formats.new.builder
+    c.close.new.self
     (codes "xl/styles.xml") (codes "styleSheet") [] (fills_element ++ formats_element)
     c.in_ok-begin_part.ensures
-    (joined_step c.begin_part.new.self c.push_fills.new.draft c.push_formats.new.draft
+    (joined_step c.begin_part.new.self c.push_fills.new.builder c.push_formats.new.builder
     fills_element formats_element c.in_ok-push_fills.ensures c.in_ok-push_formats.ensures))
     c.close.ensures

@@ -10,9 +10,9 @@ returns c =
     let none = plain_fill (pattern (codes "none")) in
     let gray = plain_fill (pattern (codes "gray125")) in
     on_ok_weaker c.close.result
-    (element_written c.args.draft.now c.open.new.self c.push_yellow_fill.new.draft
+    (element_written c.args.builder.now c.open.new.self c.push_yellow_fill.new.builder
     c.close.new.self (codes "fills") [] [] (none ++ (gray ++ yellow_fill)) c.in_ok-open.ensures refl
-    (three_steps c.open.new.self c.push_plain_fill.new.draft c.push_plain_fill-2.new.draft
-    c.push_yellow_fill.new.draft none gray yellow_fill c.in_ok-push_plain_fill.ensures
+    (three_steps c.open.new.self c.push_plain_fill.new.builder c.push_plain_fill-2.new.builder
+    c.push_yellow_fill.new.builder none gray yellow_fill c.in_ok-push_plain_fill.ensures
     c.in_ok-push_plain_fill-2.ensures c.in_ok-push_yellow_fill.ensures))
     c.close.ensures

@@ -10,7 +10,7 @@ returns c =
     let first = format_element (codes "0") in
     let second = format_element (codes "2") in
     on_ok_weaker c.close.result
-    (element_written c.args.draft.now c.open.new.self c.push_empty-2.new.self
+    (element_written c.args.builder.now c.open.new.self c.push_empty-2.new.self
     c.close.new.self (codes "cellXfs") [] [] (first ++ second) c.in_ok-open.ensures refl
     (joined_step c.open.new.self c.push_empty.new.self c.push_empty-2.new.self first second
     c.in_ok-push_empty.ensures c.in_ok-push_empty-2.ensures))

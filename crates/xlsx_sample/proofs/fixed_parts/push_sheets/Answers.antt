@@ -8,7 +8,7 @@ use Rattle.xlsx_sample.proofs.fixed_parts.push_sheets.Goals as goal
 pub returns : goal.returns
 returns c =
     on_ok_weaker c.close.result
-    (element_written c.args.draft.now c.open.new.self c.push_empty.new.self c.close.new.self
+    (element_written c.args.builder.now c.open.new.self c.push_empty.new.self c.close.new.self
     (codes "sheets") [] [] sheet_element c.in_ok-open.ensures
     refl c.in_ok-push_empty.ensures)
     c.close.ensures

@@ -8,7 +8,7 @@ use Rattle.xlsx_sample.proofs.sample.push_data.Goals as goal
 pub returns : goal.returns
 returns c =
     on_ok_weaker c.close.result
-    (element_written c.args.draft.now c.open.new.self c.push_rows.new.draft c.close.new.self
+    (element_written c.args.builder.now c.open.new.self c.push_rows.new.builder c.close.new.self
     (codes "sheetData") [] [] (first_rows c.args.rows c.args.rows) c.in_ok-open.ensures
     refl c.in_ok-push_rows.ensures)
     c.close.ensures

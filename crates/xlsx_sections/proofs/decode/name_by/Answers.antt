@@ -1,6 +1,6 @@
 use Rattle.std.proofs.Common.{◌≡◌, rules}
 use Rattle.std.proofs.lemmas.Result.{err_from_is_err_and}
-use Rattle.part_events.specs.Event.{tag_of}
+use Rattle.part_events.specs.Words.{tag_of}
 use Rattle.xlsx_sections.specs.Refusal.{placed_at, decoded_at}
 use Rattle.xlsx_sections.specs.Names.{some_text, name_by}
 use Rattle.xlsx_sections.proofs.TextsRead.{some_text_fails}

@@ -1,8 +1,6 @@
 use Rattle.std.proofs.Common.{◌≡◌, List, map, arith, ap, sym, ◌∙◌, subst}
 use Rattle.std.proofs.lemmas.Result.{err_from_is_err_and}
-use Rattle.part_events.specs.Event.{Event}
-use Rattle.part_events.specs.Nesting.{whole}
-use Rattle.part_events.specs.Section.{is_named}
+use Rattle.part_events.specs.Words.{Event, whole, is_named}
 use Rattle.part_events.proofs.Onward.{whole_at_end}
 use Rattle.xlsx_sections.specs.Elements.{end_outside}
 use Rattle.xlsx_sections.proofs.CutOff.{walk_cut}
@@ -25,7 +23,7 @@ returns-in-Found-clause-step g c = λ first keeps.
 
 pub returns-in-Ended-clause-refused : goal.returns-in-Ended-clause-refused
 returns-in-Ended-clause-refused g c = λ first inner keeps told.
-    let still = keeps.section.reads.moves.parts.is_told ∙ told in
+    let still = keeps.section.reads.moves.parts.is_visible ∙ told in
     let ends = rw c.in-Ended.is at (c.in_ok-next_element.ensures.found still) in
     let same = keeps.section.reads.stays.part told in (
       (

@@ -1,8 +1,7 @@
 use Rattle.std.proofs.Common.{[], refl, sym, ◌∙◌, append-nil}
 use Rattle.std.proofs.lemmas.Result.{err_from_is_err_and}
 use Rattle.part_events.proofs.Onward.{whole_at_end}
-use Rattle.part_events.specs.Reading.{ahead}
-use Rattle.part_events.specs.Section.{content}
+use Rattle.part_events.specs.Words.{ahead, content}
 use Rattle.xlsx_sections.proofs.ElementsRead.{own_end, skips_element}
 use Rattle.xlsx_sections.proofs.TextsRead.{text_refused}
 use Rattle.xlsx_sections.proofs.elements.read_element_text.Goals as goal

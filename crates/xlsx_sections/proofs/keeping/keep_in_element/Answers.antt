@@ -1,6 +1,6 @@
 use Rattle.std.proofs.Common.{map}
 use Rattle.std.proofs.lemmas.Result.{IfErr-weaker}
-use Rattle.part_events.specs.Section.{is_named}
+use Rattle.part_events.specs.Words.{is_named}
 use Rattle.xlsx_sections.specs.Elements.{IsInsideRefused, ElementReadFails}
 use Rattle.xlsx_sections.specs.Keeping.{changed_in}
 use Rattle.xlsx_sections.specs.PartSection.{always, SectionFails}

@@ -1,5 +1,5 @@
 use Rattle.std.proofs.Common.{◌≡◌, map}
-use Rattle.part_events.specs.Section.{is_named}
+use Rattle.part_events.specs.Words.{is_named}
 use Rattle.xlsx_sections.specs.Elements.{KeepsStarts}
 use Rattle.xlsx_sections.specs.Keeping.{changed_in}
 use Rattle.xlsx_sections.proofs.StartsSaid.{KeepsSaid, changes_behind}

@@ -1,6 +1,5 @@
 use Rattle.std.proofs.Common.{◌≡◌, [], map, sym, ◌∙◌, rules}
-use Rattle.part_events.specs.Section.{is_named}
-use Rattle.part_events.specs.Walk.{section_ahead}
+use Rattle.part_events.specs.Words.{is_named, section_ahead}
 use Rattle.xlsx_sections.specs.Keeping.{changed_in, some_in, put_behind}
 use Rattle.xlsx_sections.specs.PartSection.{always}
 use Rattle.xlsx_sections.proofs.Failing.{given_back}

@@ -1,6 +1,5 @@
 use Rattle.std.proofs.Common.{◌≡◌, List, refl, sym, ◌∙◌, subst}
-use Rattle.part_events.specs.Event.{Event}
-use Rattle.part_events.specs.Nesting.{whole}
+use Rattle.part_events.specs.Words.{Event, whole}
 use Rattle.part_events.proofs.Onward.{whole_at_end}
 use Rattle.xlsx_sections.proofs.section.next_start_among.Goals as goal
 
@@ -11,7 +10,7 @@ returns-in-Ended-clause-err g c = λ told.
 
 pub returns-in-Ended-clause-refused : goal.returns-in-Ended-clause-refused
 returns-in-Ended-clause-refused g c = λ first keeps told.
-    let still = keeps.section.reads.moves.parts.is_told ∙ told in
+    let still = keeps.section.reads.moves.parts.is_visible ∙ told in
     let ends = rw c.in-Ended.is at (c.in_ok-next_start.ensures.found still) in (
       (
         subst (λ (events : List Event). whole events ≡ events)

@@ -1,5 +1,5 @@
 use Rattle.std.proofs.Common.{◌++◌, List, ℕ, Result, Ok, sym, ◌∙◌, ap, codes}
-use Rattle.xlsx_sections.specs.Refusal.{Refusal}
+use Rattle.xlsx_sections.specs.Words.{Refusal}
 use Rattle.xlsx_sections.proofs.Failing.{given_back}
 use Rattle.xlsx_sections.proofs.ListsRead.{list_added, list_refused, list_stopped}
 use Rattle.xlsx_strings.specs.Strings.{end_in_string}

@@ -1,9 +1,7 @@
 use Rattle.std.proofs.Common.{[], ap, string_bytes}
-use Rattle.part_events.specs.Walk.{element_at}
+use Rattle.part_events.specs.Words.{element_at}
 use Rattle.part_events.proofs.Texts.{front_further}
-use Rattle.xlsx_sections.specs.Elements.{IsInsideRefused}
-use Rattle.xlsx_sections.specs.PartSection.{inside_of, section_left}
-use Rattle.xlsx_sections.specs.Refusal.{in_element}
+use Rattle.xlsx_sections.specs.Words.{IsInsideRefused, inside_of, section_left, in_element}
 use Rattle.xlsx_sections.proofs.ElementsSaid.{found_there, elements_further, elements_refused}
 use Rattle.xlsx_sections.proofs.Failing.{given_back}
 use Rattle.xlsx_sections.proofs.Refused.{refused_as}

@@ -1,5 +1,5 @@
 use Rattle.std.proofs.Common.{string_bytes}
-use Rattle.part_events.specs.JoinedText.{IsFrontOf}
+use Rattle.part_events.specs.Words.{IsFrontOf}
 use Rattle.xlsx_sections.proofs.ElementsSaid.{KeepsElementsSaid}
 use Rattle.xlsx_strings.specs.Strings.{is_text_or_phonetic, string_of}
 use Rattle.xlsx_strings.proofs.StringsRead.{onto, pieces_behind}

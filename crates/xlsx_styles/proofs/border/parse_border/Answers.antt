@@ -1,15 +1,12 @@
 use Rattle.std.proofs.Common.{Result, ap, codes}
-use Rattle.part_events.specs.Event.{tag_of}
-use Rattle.part_events.specs.Walk.{element_at}
+use Rattle.part_events.specs.Words.{tag_of, element_at}
 use Rattle.cell_styles.specs.declared.border.Border.{Border}
-use Rattle.xlsx_sections.specs.Elements.{IsInsideRefused}
-use Rattle.xlsx_sections.specs.PartSection.{always}
-use Rattle.xlsx_sections.specs.Refusal.{Refusal, in_element}
+use Rattle.xlsx_sections.specs.Words.{IsInsideRefused, always, Refusal, in_element}
 use Rattle.xlsx_sections.proofs.ElementsSaid.{element_changed, element_change_refused}
 use Rattle.xlsx_sections.proofs.SectionsRead.{leaves_further}
 use Rattle.xlsx_sections.proofs.StartsSaid.{at_start, own_refused, own_step_refused}
-use Rattle.xlsx_styles.specs.Borders.{side_of, side_placed, border_change, border_of}
-use Rattle.xlsx_styles.specs.Borders.{end_in_side, end_in_border}
+use Rattle.xlsx_styles.specs.Borders.{side_of, side_placed, border_change, border_of, end_in_side}
+use Rattle.xlsx_styles.specs.Borders.{end_in_border}
 use Rattle.xlsx_styles.proofs.ElementsTold.{refused_inside}
 use Rattle.xlsx_styles.proofs.StepErrors.{border_step}
 use Rattle.xlsx_styles.proofs.border.parse_border.Goals as goal

@@ -1,12 +1,8 @@
 use Rattle.std.proofs.Common.{◌≡◌, ℕ, Option, Result, Ok, sym, ◌∙◌, ap, codes, arith, rules}
 use Rattle.std.proofs.lemmas.Result.{MatchResult-weaker}
-use Rattle.part_events.specs.Reading.{ahead}
-use Rattle.part_events.specs.Section.{content}
-use Rattle.part_events.specs.Walk.{inside}
+use Rattle.part_events.specs.Words.{ahead, content, inside}
 use Rattle.cell_styles.specs.declared.color.Color.{Color}
-use Rattle.xlsx_sections.specs.Elements.{IsInsideRefused}
-use Rattle.xlsx_sections.specs.PartSection.{always}
-use Rattle.xlsx_sections.specs.Refusal.{Refusal}
+use Rattle.xlsx_sections.specs.Words.{IsInsideRefused, always, Refusal}
 use Rattle.xlsx_sections.proofs.StartsKept.{own_item}
 use Rattle.xlsx_sections.proofs.StartsSaid.{own_refused}
 use Rattle.xlsx_styles.specs.Borders.{color_in}

@@ -2,7 +2,7 @@ use Rattle.std.proofs.Common.{◌≡◌, map, option_map, Option, Some, None, sy
 use Rattle.std.specs.Prelude.{slice_get, unwrap_or}
 use Rattle.std.proofs.lemmas.Option.{get_or_from_slice_get, unwrap_or-slice_get, slice_get-map}
 use Rattle.std.proofs.lemmas.Option.{slice_get-get_or, slice_get_past}
-use Rattle.cell_styles.specs.Color.{color_of_argb}
+use Rattle.cell_styles.specs.Words.{color_of_argb}
 use Rattle.cell_styles.specs.declared.color.Color.{Color}
 use Rattle.xlsx_styles.specs.Colors.{black}
 use Rattle.xlsx_styles.proofs.color_text.argb_at.Goals as goal

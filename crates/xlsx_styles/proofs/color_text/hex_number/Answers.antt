@@ -1,6 +1,6 @@
-use Rattle.std.proofs.Common.{◌≡◌, ◌≤◌, ◌^◌, get_or, true, sym, ap, ◌∙◌, arith, rules, lt-ltb}
+use Rattle.std.proofs.Common.{◌≡◌, ◌≤◌, ◌^◌, get_or, true, sym, ap, ◌∙◌, arith, rules, lt-ltb, take}
+use Rattle.std.proofs.Common.{subst}
 use Rattle.std.specs.Prelude.{nat_lt, ℕ, ◌+◌, ◌*◌}
-use Rattle.std.proofs.Common.{take, subst}
 use Rattle.std.specs.Str.Parse.{digits_value}
 use Rattle.std.specs.Char.{digit_value}
 use Rattle.std.proofs.Math.Nat.{pow-le-pow_right, pow-suc}

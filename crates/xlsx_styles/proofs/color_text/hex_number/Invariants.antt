@@ -1,6 +1,6 @@
 use Rattle.std.proofs.Common.{◌≡◌, ◌<◌, ◌^◌, take, drop}
 use Rattle.std.specs.Str.Parse.{digits_value}
-use Rattle.attr_text.specs.Text.{all_digits}
+use Rattle.attr_text.specs.Words.{all_digits}
 use Rattle.xlsx_styles.proofs.color_text.hex_number.Given as goal
 
 abbrev pub invariant-loop-digit : goal.invariant-loop-digit

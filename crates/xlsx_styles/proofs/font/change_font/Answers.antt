@@ -1,8 +1,8 @@
 use Rattle.std.proofs.Common.{◌≡◌, codes, rules}
 use Rattle.std.proofs.lemmas.Result.{err_from_is_err_and}
-use Rattle.attr_text.specs.Attributes.{value_of}
-use Rattle.part_events.specs.Event.{tag_of}
-use Rattle.xlsx_sections.specs.Refusal.{placed_at}
+use Rattle.attr_text.specs.Words.{value_of}
+use Rattle.part_events.specs.Words.{tag_of}
+use Rattle.xlsx_sections.specs.Words.{placed_at}
 use Rattle.xlsx_styles.specs.Fonts.{said_of, name_changed, font_change}
 use Rattle.xlsx_styles.proofs.font.change_font.Goals as goal
 

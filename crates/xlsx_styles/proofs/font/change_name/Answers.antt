@@ -1,7 +1,7 @@
 use Rattle.std.proofs.Common.{◌≡◌, codes, rules}
 use Rattle.std.proofs.lemmas.Result.{err_from_is_err_and}
-use Rattle.attr_text.specs.Attributes.{value_of}
-use Rattle.xlsx_sections.specs.Refusal.{decoded_at}
+use Rattle.attr_text.specs.Words.{value_of}
+use Rattle.xlsx_sections.specs.Words.{decoded_at}
 use Rattle.xlsx_styles.specs.Fonts.{said_of, name_changed, with_decoded}
 use Rattle.xlsx_styles.proofs.FontErrors.{decoded_fails}
 use Rattle.xlsx_styles.proofs.font.change_name.Goals as goal

@@ -1,5 +1,5 @@
 use Rattle.std.proofs.Common.{◌≡◌, rules}
-use Rattle.cell_styles.specs.Default.{default_font}
+use Rattle.cell_styles.specs.Words.{default_font}
 use Rattle.xlsx_styles.proofs.ElementsTold.{told_inside, refused_inside}
 use Rattle.xlsx_styles.proofs.font.parse_font.Goals as goal
 

@@ -1,4 +1,4 @@
-use Rattle.xlsx_sections.specs.Elements.{IsInsideRefused}
+use Rattle.xlsx_sections.specs.Words.{IsInsideRefused}
 use Rattle.xlsx_sections.proofs.ElementsSaid.{found_there}
 use Rattle.xlsx_sections.proofs.Failing.{given_back}
 use Rattle.xlsx_sections.proofs.StartsSaid.{section_stopped}

@@ -1,8 +1,7 @@
 use Rattle.std.proofs.Common.{◌++◌, List, map, length, refl, sym, ◌∙◌, ap}
 use Rattle.std.proofs.lemmas.Result.{MatchResult-weaker, on_ok_weaker}
-use Rattle.part_events.specs.Reading.{ahead}
-use Rattle.part_events.specs.Section.{content}
-use Rattle.xlsx_sections.specs.Answers.{prepended}
+use Rattle.part_events.specs.Words.{ahead, content}
+use Rattle.xlsx_sections.specs.Words.{prepended}
 use Rattle.xlsx_sections.proofs.StartsKept.{refused_same}
 use Rattle.xlsx_formats.specs.FormatCodes.{WrittenFormat, formats_written, formats_kept, AreCodes}
 use Rattle.xlsx_formats.specs.Formattings.{formatting_said}

@@ -1,15 +1,12 @@
-use Rattle.std.proofs.Common.{◌≡◌, ℕ, suc, Some, Err, codes, length, ap, ◌∙◌}
-use Rattle.std.proofs.Common.{subst, sym, arith, Result}
-use Rattle.part_events.specs.Event.{Tag, tag_of}
-use Rattle.part_events.specs.Reading.{events_of}
-use Rattle.part_events.specs.Walk.{section_end}
-use Rattle.xlsx_sections.specs.PartSection.{always, section_left, inside_of, SectionFails}
-use Rattle.xlsx_sections.specs.Elements.{IsInsideRefused}
-use Rattle.xlsx_sections.specs.Refusal.{Refusal, placed_at}
+use Rattle.std.proofs.Common.{◌≡◌, ℕ, suc, Some, Err, codes, length, ap, ◌∙◌, subst, sym, arith}
+use Rattle.std.proofs.Common.{Result}
+use Rattle.part_events.specs.Words.{Tag, tag_of, events_of, section_end}
+use Rattle.xlsx_sections.specs.Words.{always, section_left, inside_of, SectionFails}
+use Rattle.xlsx_sections.specs.Words.{IsInsideRefused, Refusal, placed_at}
 use Rattle.xlsx_sections.proofs.Failing.{given_back}
 use Rattle.xlsx_sections.proofs.Refused.{event_refused, refused_as}
 use Rattle.xlsx_sections.proofs.StartsSaid.{at_start}
-use Rattle.xlsx_parts.specs.FirstElement.{element_in, element_with, IsElementRefused}
+use Rattle.xlsx_parts.specs.Words.{element_in, element_with, IsElementRefused}
 use Rattle.xlsx_parts.proofs.ElementsFound.{find_element_refused, element_refused, element_events}
 use Rattle.xlsx_tables.specs.TableParts.{table_said, start_said, columns_in, and_columns}
 use Rattle.xlsx_tables.specs.TableParts.{with_columns, start_kept}
@@ -76,7 +73,7 @@ returns-clause-ends g c = λ told.
     let mid = c.find_element.new.xml in
     let tag = tag_of c.start_tag.result in
     let s = section_left (length mid.names) mid in
-    let still = c.in_ok-at.ensures.reads.moves.parts.is_told ∙ told in
+    let still = c.in_ok-at.ensures.reads.moves.parts.is_visible ∙ told in
     let new = c.columns_in.new.xml in
     let ends : new.at ≡ suc (section_end (length mid.names) mid) =
     subst (λ (n : ℕ). new.at ≡ suc (section_end n mid)) c.depth-base.ensures

@@ -1,8 +1,7 @@
 use Rattle.std.proofs.Common.{◌≡◌, Ok, rules, string_bytes}
 use Rattle.std.specs.Option.{option_copied}
-use Rattle.cell_refs.specs.A1.{area}
-use Rattle.xlsx_sections.specs.Placed.{placed}
-use Rattle.xlsx_sections.specs.Refusal.{decoded_at}
+use Rattle.cell_refs.specs.Words.{area}
+use Rattle.xlsx_sections.specs.Words.{placed, decoded_at}
 use Rattle.xlsx_sections.proofs.Failing.{given_back}
 use Rattle.xlsx_tables.specs.TableParts.{rows_counted}
 use Rattle.xlsx_tables.proofs.AreasInside.{area_inside, data_inside}

@@ -1,10 +1,9 @@
 use Rattle.std.proofs.Common.{◌≡◌, ℕ, rules}
 use Rattle.std.specs.Option.{option_copied}
 use Rattle.std.proofs.lemmas.Result.{IfErr-weaker}
-use Rattle.cell_refs.specs.A1.{area}
-use Rattle.part_events.specs.Event.{tag_of}
-use Rattle.xlsx_sections.specs.Placed.{placed}
-use Rattle.xlsx_sections.specs.Refusal.{ElementFails, placed_at, decoded_at}
+use Rattle.cell_refs.specs.Words.{area}
+use Rattle.part_events.specs.Words.{tag_of}
+use Rattle.xlsx_sections.specs.Words.{placed, ElementFails, placed_at, decoded_at}
 use Rattle.xlsx_tables.specs.TableParts.{start_said, with_table_name, rows_counted}
 use Rattle.xlsx_tables.proofs.table_start.start_said.Goals as goal
 

@@ -2,8 +2,7 @@ use Rattle.std.proofs.Common.{None, refl, ◌∙◌, arith}
 use Rattle.part_events.proofs.Onward.{whole_at_end}
 use Rattle.part_events.specs.declared.fault.XmlFault.TheVariants.{Unclosed}
 use Rattle.xlsx_error.specs.declared.error.XlsxError.TheVariants.{Xml}
-use Rattle.xlsx_sections.specs.Elements.{named_end}
-use Rattle.xlsx_sections.specs.PartSection.{Never, SectionFails}
+use Rattle.xlsx_sections.specs.Words.{named_end, Never, SectionFails}
 use Rattle.xlsx_sections.proofs.ElementsRead.{at_end, element_step_found}
 use Rattle.xlsx_theme.specs.ColorScheme.{is_slot}
 use Rattle.xlsx_theme.proofs.SchemeRead.{unnamed_refused}

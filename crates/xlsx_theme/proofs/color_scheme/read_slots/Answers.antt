@@ -1,6 +1,5 @@
 use Rattle.std.proofs.Common.{[], None}
-use Rattle.xlsx_sections.specs.ElementLists.{end_in_list}
-use Rattle.xlsx_sections.specs.Elements.{IsInsideRefused, named_end}
+use Rattle.xlsx_sections.specs.Words.{end_in_list, IsInsideRefused, named_end}
 use Rattle.xlsx_sections.proofs.Failing.{given_back}
 use Rattle.xlsx_sections.proofs.ListsRead.{list_refused, list_added}
 use Rattle.xlsx_sections.proofs.StartsSaid.{section_stopped}

@@ -1,12 +1,10 @@
 use Rattle.std.proofs.Common.{◌≡◌, None, Err, length, rules}
-use Rattle.part_events.specs.Event.{tag_of}
-use Rattle.part_events.specs.Walk.{section_ahead}
+use Rattle.part_events.specs.Words.{tag_of, section_ahead}
 use Rattle.xlsx_error.specs.declared.error.XlsxError.TheVariants.{XmlAttr}
-use Rattle.xlsx_sections.specs.Elements.{IsInsideRefused, named_end}
-use Rattle.xlsx_sections.specs.Refusal.{placed_at}
+use Rattle.xlsx_sections.specs.Words.{IsInsideRefused, named_end, placed_at}
 use Rattle.xlsx_sections.proofs.SectionsRead.{leaves_further}
-use Rattle.xlsx_sections.proofs.StartsSaid.{at_start, own_refused, own_step_refused}
-use Rattle.xlsx_sections.proofs.StartsSaid.{said_further, said_refused}
+use Rattle.xlsx_sections.proofs.StartsSaid.{at_start, own_refused, own_step_refused, said_further}
+use Rattle.xlsx_sections.proofs.StartsSaid.{said_refused}
 use Rattle.xlsx_styles.proofs.ElementsTold.{refused_inside}
 use Rattle.xlsx_theme.specs.ColorScheme.{slot_color, unless_given, model_answer}
 use Rattle.xlsx_theme.proofs.SchemeRead.{step_kind, colors_behind, color_further, color_refused}

@@ -1,8 +1,5 @@
 use Rattle.std.proofs.Common.{[], ◌∷◌, Some, None, codes, ◌∙◌}
-use Rattle.part_events.specs.Event.{Tag}
-use Rattle.part_events.specs.Reading.{ahead}
-use Rattle.part_events.specs.Section.{is_named}
-use Rattle.part_events.specs.Walk.{IsNextStart}
+use Rattle.part_events.specs.Words.{Tag, ahead, is_named, IsNextStart}
 use Rattle.part_events.proofs.Onward.{whole_at_end}
 use Rattle.xlsx_sections.proofs.SectionsRead.{start_there}
 use Rattle.xlsx_theme.proofs.ThemeRead.{scheme_found, scheme_says}
@@ -17,7 +14,7 @@ returns-in_ok-theme_of-in-Found-clause-theme g c = λ told.
     let next = start_there mid.source.current
     (λ (tag : Tag). IsNextStart (is_named (codes "clrScheme" ∷ [])) 0 tag old mid)
     (rw c.in-Found.is at (c.in_ok-next_start.ensures.found told)) in
-    let still = c.in_ok-next_start.ensures.reads.moves.parts.is_told ∙ told in
+    let still = c.in_ok-next_start.ensures.reads.moves.parts.is_visible ∙ told in
     scheme_says c.depth-base.result old mid c.depth-base.ensures
     (scheme_found old (Some (ahead mid)) c.requires.reading c.requires.first told next.2.first)
     (c.in_ok-slots-in-Found.ensures.reaches still).closed
@@ -40,6 +37,6 @@ returns-in_ok-theme_of-in-Found-clause-ends g c = λ told.
     let next = start_there mid.source.current
     (λ (tag : Tag). IsNextStart (is_named (codes "clrScheme" ∷ [])) 0 tag old mid)
     (rw c.in-Found.is at (c.in_ok-next_start.ensures.found told)) in
-    let still = c.in_ok-next_start.ensures.reads.moves.parts.is_told ∙ told in
+    let still = c.in_ok-next_start.ensures.reads.moves.parts.is_visible ∙ told in
     scheme_ended old mid c.requires.reading c.requires.first c.in_ok-next_start.ensures.reads
     next.2.first c.depth-base.ensures (c.in_ok-slots-in-Found.ensures.reaches still).ends told

@@ -8,7 +8,7 @@ pub pieces-init : goal.pieces-init
 pieces-init g c = (
   record {
     fits = search rules;
-    is_told = refl;
+    is_visible = refl;
     faults = refl;
     most = (limits c.new-bytes.result.items).1;
     whole = λ told. search rules;

@@ -1,6 +1,5 @@
 use Rattle.std.proofs.lemmas.Result.{IfErr-weaker}
-use Rattle.xlsx_commands.specs.Request.{request_meant}
-use Rattle.xlsx_commands.specs.Request.{AnswerFails}
+use Rattle.xlsx_commands.specs.Words.{request_meant, AnswerFails}
 use Rattle.xlsx_tool.proofs.RunLemmas.{from_output}
 use Rattle.xlsx_tool.proofs.run.output_from.Goals as goal
 

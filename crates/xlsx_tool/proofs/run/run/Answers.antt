@@ -1,5 +1,5 @@
 use Rattle.xlsx_tool.proofs.RunLemmas.{answers}
-use Rattle.xlsx_commands.specs.Command.{texts}
+use Rattle.xlsx_commands.specs.Words.{texts}
 use Rattle.xlsx_tool.specs.Run.{Streams}
 use Rattle.xlsx_tool.proofs.run.run.Goals as goal
 

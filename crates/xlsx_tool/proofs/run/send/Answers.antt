@@ -9,7 +9,7 @@ pieces-preserved g c =
     let rest = c.pieces.rest.now in
     let count = c.in-Ok.count in
     let front = invariant.2 ++ take count rest in (
-      c.in-Ok.ensures.keeps.is_told ∙ invariant.0,
+      c.in-Ok.ensures.keeps.is_visible ∙ invariant.0,
       c.in-Ok.ensures.ok ∙ invariant.1,
       front,
       front_more _ _ rest count invariant.3

@@ -5,10 +5,10 @@ abbrev pub invariant-pieces : goal.invariant-pieces
 invariant-pieces g l =
     let first = g.K.Sink.state l.fn.sink in
     let now = g.K.Sink.state l.sink in
-    (now.is_told ≡ first.is_told)
+    (now.is_visible ≡ first.is_visible)
     × (now.faults ≡ first.faults)
     × (front : List ℕ) × (l.bytes ≡ front ++ l.rest)
-    × (first.is_told ≡ true → now.written ≡ first.written ++ front)
+    × (first.is_visible ≡ true → now.written ≡ first.written ++ front)
 
 abbrev pub decreases-pieces : goal.decreases-pieces
 decreases-pieces g l = length l.rest

@@ -1,14 +1,11 @@
 use Rattle.std.proofs.Common.{◌≡◌, ◌∙◌, ◌∷◌, sym, ap, subst, arith, ℕ, [], Err, length, true, false}
 use Rattle.std.proofs.lemmas.Result.{err_from_is_err_and}
-use Rattle.part_events.specs.Event.{event_of}
-use Rattle.part_events.specs.Walk.{section_ahead, is_closed_ahead}
+use Rattle.part_events.specs.Words.{event_of, section_ahead, is_closed_ahead}
 use Rattle.part_events.proofs.Onward.{whole_at_end}
-use Rattle.xlsx_sections.specs.Elements.{IsInsideRefused}
-use Rattle.xlsx_sections.specs.PartSection.{inside_of, section_left}
-use Rattle.xlsx_sections.specs.Refusal.{Refusal}
+use Rattle.xlsx_sections.specs.Words.{IsInsideRefused, inside_of, section_left, Refusal}
 use Rattle.xlsx_sections.proofs.ElementsRead.{own_inside}
 use Rattle.xlsx_sections.proofs.Refused.{event_refused}
-use Rattle.xlsx_values.specs.Book.{kind_of, grounds_of}
+use Rattle.xlsx_values.specs.ValueContext.{kind_of, context_of}
 use Rattle.xlsx_values.specs.Value.{first_event_value, end_in_first}
 use Rattle.xlsx_values.proofs.ValuesRead.{first_event}
 use Rattle.xlsx_values.proofs.value.read_first.Goals as goal
@@ -30,9 +27,9 @@ returns-in_err-value-clause-err g c =
     let old = c.args.xml.now in
     let new = c.next_inside.new.self in
     let kind = kind_of c.args.typ.now in
-    let answer = first_event_value (grounds_of c.args.book) c.args.format kind in
+    let answer = first_event_value (context_of c.args.book) c.args.format kind in
     let left = section_ahead c.depth-depth.result new in
-    let events : old.source.is_told ≡ true → inside_of (section_left (length old.names) old)
+    let events : old.source.is_visible ≡ true → inside_of (section_left (length old.names) old)
     ≡ event_of c.event.result ∷ left = λ told.
     first_event {old = old} {new = new} c.depth-depth.ensures c.event.ensures
     (rw c.in-Found.is at (c.in_ok-next_inside.ensures.inside told)) in
@@ -51,7 +48,7 @@ returns-clause-value g c = λ told.
     let old = c.args.xml.now in
     let new = c.next_inside.new.self in
     let kind = kind_of c.args.typ.now in
-    let answer = first_event_value (grounds_of c.args.book) c.args.format kind in
+    let answer = first_event_value (context_of c.args.book) c.args.format kind in
     ap answer (sym (own_inside old)
     ∙ first_event {old = old} {new = new} c.depth-depth.ensures c.event.ensures
     (rw c.in-Found.is at (c.in_ok-next_inside.ensures.inside told)))

@@ -1,12 +1,8 @@
 use Rattle.std.proofs.Common.{◌≡◌, ◌∙◌, sym, ap, Ok, ℕ, true, false, codes, string_bytes}
 use Rattle.std.proofs.lemmas.Result.{IfErr-weaker}
-use Rattle.part_events.specs.Reading.{ahead}
-use Rattle.part_events.specs.Section.{content}
-use Rattle.xlsx_sections.specs.Elements.{ElementReadFails}
-use Rattle.xlsx_sections.specs.ElementText.{element_text}
-use Rattle.xlsx_sections.specs.PartSection.{always}
-use Rattle.xlsx_sections.specs.Refusal.{ElementFails}
-use Rattle.xlsx_values.specs.Book.{kind_of}
+use Rattle.part_events.specs.Words.{ahead, content}
+use Rattle.xlsx_sections.specs.Words.{ElementReadFails, element_text, always, ElementFails}
+use Rattle.xlsx_values.specs.ValueContext.{kind_of}
 use Rattle.xlsx_values.specs.Value.{value_of_joined, joined_value}
 use Rattle.xlsx_values.proofs.ValuesRead.{joined_refused}
 use Rattle.xlsx_values.proofs.value.read_joined.Goals as goal
@@ -17,7 +13,7 @@ returns-clause-err g c =
     let new = c.read_element_text.new.xml in
     let kind = kind_of c.args.typ.now in
     let text = string_bytes c.read_element_text.new.out in
-    let read : old.source.is_told ≡ true → element_text false (content 0 (ahead old)) ≡ Ok text =
+    let read : old.source.is_visible ≡ true → element_text false (content 0 (ahead old)) ≡ Ok text =
     λ told. let found = c.in_ok-read_element_text.ensures.text told in
     found.0 ∙ ap Ok (sym (rw c.new-text.ensures.bytes at found.1)) in
     IfErr-weaker c.value_of_joined.result

@@ -3,9 +3,9 @@ use Rattle.std.specs.Prelude.{unwrap_or}
 use Rattle.std.specs.Option.{option_copied}
 use Rattle.std.proofs.lemmas.Result.{err_from_is_err_and, IfErr-weaker}
 use Rattle.std.specs.Arc.{arc_str_bytes}
-use Rattle.part_events.specs.Event.{tag_of}
-use Rattle.xlsx_sections.specs.Refusal.{ElementFails, placed_at, decoded_at}
-use Rattle.xlsx_relationships.specs.KeptRelationships.{relationship_of, related_by_id}
+use Rattle.part_events.specs.Words.{tag_of}
+use Rattle.xlsx_sections.specs.Words.{ElementFails, placed_at, decoded_at}
+use Rattle.xlsx_relationships.specs.Words.{relationship_of, related_by_id}
 use Rattle.xlsx_workbook.specs.Sheets.{sheet_of, named_sheet, related_sheet}
 use Rattle.xlsx_workbook.proofs.WorkbookErrors.{named_sheet_fails}
 use Rattle.xlsx_workbook.proofs.sheet_element.sheet_of.Goals as goal

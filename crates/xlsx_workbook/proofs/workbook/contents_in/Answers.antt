@@ -4,16 +4,12 @@ use Rattle.std.specs.Prelude.{is_some}
 use Rattle.xlsx_workbook.specs.DefinedNames.{scope_of}
 use Rattle.std.proofs.lemmas.Result.{err_from_is_err_and}
 use Rattle.std.specs.Arc.{arc_str_bytes}
-use Rattle.part_events.specs.Event.{event_of, tag_of}
-use Rattle.part_events.specs.Reading.{ahead}
-use Rattle.part_events.specs.Section.{content}
-use Rattle.part_events.specs.Walk.{inside, section_ahead, section_behind}
-use Rattle.xlsx_sections.specs.PartSection.{section_left, always}
-use Rattle.xlsx_sections.specs.Refusal.{Refusal, placed_at}
+use Rattle.part_events.specs.Words.{event_of, tag_of, ahead, content, inside, section_ahead}
+use Rattle.part_events.specs.Words.{section_behind}
+use Rattle.xlsx_sections.specs.Words.{section_left, always, Refusal, placed_at, name_by}
 use Rattle.xlsx_sections.proofs.Refused.{event_refused, refused_later}
 use Rattle.xlsx_sections.proofs.SectionsRead.{event_inside, keeps_further}
-use Rattle.xlsx_sections.specs.Names.{name_by}
-use Rattle.xlsx_relationships.specs.KeptRelationships.{related_by_id}
+use Rattle.xlsx_relationships.specs.Words.{related_by_id}
 use Rattle.xlsx_workbook.specs.Workbook.{AreSheetsRefused, IsNameRefused, AreContentsRefused}
 use Rattle.xlsx_workbook.proofs.Contents.{refused_earlier, event_taken, sheets_further}
 use Rattle.xlsx_workbook.proofs.Contents.{contents_refused, name_next, name_refused, name_taken}
@@ -127,7 +123,7 @@ events-preserved-in-Continue-branch-6 g c =
     record {
       section = keeps_further step.read c.in_ok-read_name.ensures.section;
       keeps = λ told.
-          let still = step.read.reads.moves.parts.is_told ∙ told in
+          let still = step.read.reads.moves.parts.is_visible ∙ told in
           let kept = c.events.invariant.keeps told in
           let skipped = c.in_ok-read_name.ensures.reads.skips still in
           let left : section_ahead base later ≡ section_behind base new =

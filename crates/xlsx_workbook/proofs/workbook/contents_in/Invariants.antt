@@ -1,8 +1,8 @@
 use Rattle.std.proofs.Common.{◌≡◌, true}
 use Rattle.std.specs.Arc.{arc_str_bytes}
-use Rattle.part_events.specs.Walk.{section_ahead}
-use Rattle.xlsx_sections.specs.PartSection.{KeepsSection}
-use Rattle.xlsx_relationships.specs.KeptRelationships.{related_by_id}
+use Rattle.part_events.specs.Words.{section_ahead}
+use Rattle.xlsx_sections.specs.Words.{KeepsSection}
+use Rattle.xlsx_relationships.specs.Words.{related_by_id}
 use Rattle.xlsx_workbook.proofs.Contents.{KeepsContents}
 use Rattle.xlsx_workbook.proofs.workbook.contents_in.Given as goal
 
@@ -14,7 +14,7 @@ invariant-events g l =
     record {
       section : KeepsSection l.base old now;
       keeps :
-          old.source.is_told ≡ true →
+          old.source.is_visible ≡ true →
           KeepsContents (arc_str_bytes l.places.folder.now) related
           (section_ahead l.base old) l.found
           (section_ahead l.base now);

@@ -1,5 +1,5 @@
 use Rattle.std.proofs.lemmas.Result.{err_from_is_err_and}
-use Rattle.part_events.specs.Event.{event_of}
+use Rattle.part_events.specs.Words.{event_of}
 use Rattle.xlsx_workbook.proofs.WorkbookErrors.{text_told}
 use Rattle.xlsx_workbook.proofs.workbook.push_wanted.Goals as goal
 

@@ -3,18 +3,14 @@ use Rattle.std.proofs.Common.{◌∙◌, ap, inl, inr, arith, rules, codes, opti
 use Rattle.std.proofs.lemmas.Result.{err_from_is_err_and}
 use Rattle.std.proofs.lemmas.List.{length-append}
 use Rattle.std.specs.Arc.{arc_str_bytes}
-use Rattle.part_events.specs.Event.{event_of}
-use Rattle.part_events.specs.Reading.{ahead}
-use Rattle.part_events.specs.Section.{content}
-use Rattle.part_events.specs.Walk.{inside, section_ahead, TakesLastEnd}
+use Rattle.part_events.specs.Words.{event_of, ahead, content, inside, section_ahead, TakesLastEnd}
 use Rattle.part_events.proofs.Sections.{goes_on_behind}
 use Rattle.part_events.proofs.Walking.{takes_inside, no_start}
-use Rattle.xlsx_sections.specs.PartSection.{always, Never, StandsAtEvent, section_left}
-use Rattle.xlsx_sections.specs.Refusal.{Refusal}
+use Rattle.xlsx_sections.specs.Words.{always, Never, StandsAtEvent, section_left, Refusal}
 use Rattle.xlsx_sections.proofs.Refused.{event_refused, refused_in}
 use Rattle.xlsx_sections.proofs.SectionsRead.{event_inside, section_taken}
 use Rattle.xlsx_workbook.specs.DefinedNames.{name_with_text, behind_in_section}
-use Rattle.xlsx_relationships.specs.KeptRelationships.{related_by_id}
+use Rattle.xlsx_relationships.specs.Words.{related_by_id}
 use Rattle.xlsx_workbook.specs.Workbook.{AreSheetsRefused, IsNameRefused}
 use Rattle.xlsx_workbook.proofs.Contents.{sheets_further, refused_earlier, event_taken}
 use Rattle.xlsx_workbook.proofs.Contents.{joins_further, unknown_first, text_refused, no_sheet}
@@ -152,11 +148,11 @@ returns-in_err-push_wanted-clause-err g c =
     c.from_residual-in_err-push_wanted.ensures.1 in
     rw (p.1, p.2)
     (event_refused base c.in-Some.at (behind_in_section all behind within) old
-    (always (codes "workbook")) (λ (refusal : Refusal). old.source.is_told ≡ true
+    (always (codes "workbook")) (λ (refusal : Refusal). old.source.is_visible ≡ true
     → name_with_text all behind (Ok name) ≡ Err refusal) refused new c.in_err-push_wanted.field-0.0
     (λ told. omega (arith, inner.there told, here, more))
     (λ told refusal refuses. inr (refuses told))
-    (text_refused (old.source.is_told
+    (text_refused (old.source.is_visible
     ≡ true) c.args.name all behind within c.in-Some.at c.is_some-wanted.result event
     c.in_err-push_wanted.field-0.0
     (λ wanted. sym c.is_some-wanted.ensures ∙ wanted)
@@ -178,7 +174,7 @@ returns-clause-sheets g c = λ told.
     let base = c.args.base in
     let stands : StandsAtEvent c.depth-depth.result None mid new =
     rw c.in_default.is at c.in_ok-at.ensures.stands in
-    let still = c.events.invariant.section.reads.moves.parts.is_told ∙ told in
+    let still = c.events.invariant.section.reads.moves.parts.is_visible ∙ told in
     let ends : TakesLastEnd c.depth-depth.result mid new =
     rw c.in_default.is at (c.in_ok-at.ensures.found still) in
     let taken = takes_inside base mid new stands.0 ends.steps c.events.invariant.section.within

@@ -1,11 +1,9 @@
 use Rattle.std.proofs.Common.{◌≡◌, length, true, string_bytes}
 use Rattle.std.specs.Prelude.{is_some}
 use Rattle.std.specs.Arc.{arc_str_bytes}
-use Rattle.part_events.specs.Reading.{ahead}
-use Rattle.part_events.specs.Section.{content, behind}
-use Rattle.part_events.specs.Walk.{section_ahead, behind_section}
-use Rattle.xlsx_sections.specs.PartSection.{KeepsSection}
-use Rattle.xlsx_relationships.specs.KeptRelationships.{related_by_id}
+use Rattle.part_events.specs.Words.{ahead, content, behind, section_ahead, behind_section}
+use Rattle.xlsx_sections.specs.Words.{KeepsSection}
+use Rattle.xlsx_relationships.specs.Words.{related_by_id}
 use Rattle.xlsx_workbook.specs.Workbook.{KeepsSheets, names_of}
 use Rattle.xlsx_workbook.proofs.Contents.{JoinsText}
 use Rattle.xlsx_workbook.proofs.workbook.read_name.Given as goal
@@ -24,14 +22,14 @@ invariant-events g l =
       names : names_of l.found ≡ names_of l.fn.found;
       scopes : l.found.scopes ≡ l.fn.found.scopes;
       sheets :
-          old.source.is_told ≡ true →
+          old.source.is_visible ≡ true →
           KeepsSheets (arc_str_bytes l.places.folder.now) related l.fn.found
           (section_ahead l.base old) l.found
           (section_ahead l.base now);
       text :
-          old.source.is_told ≡ true → l.wanted ≡ true →
+          old.source.is_visible ≡ true → l.wanted ≡ true →
           JoinsText (content 0 (ahead old)) (string_bytes l.text) (section_ahead l.depth now);
-      behind : old.source.is_told ≡ true → behind_section l.depth now ≡ behind 0 (ahead old);
+      behind : old.source.is_visible ≡ true → behind_section l.depth now ≡ behind 0 (ahead old);
     }
 
 abbrev pub decreases-events : goal.decreases-events

@@ -1,10 +1,10 @@
 use Rattle.std.proofs.Common.{◌≡◌, ◌∷◌, ℕ, List, length, true, false, refl, rules}
 use Rattle.std.proofs.lemmas.Result.{err_from_is_err_and, IfErr-weaker}
 use Rattle.std.specs.Arc.{arc_str_bytes}
-use Rattle.part_events.specs.Event.{Event, start, tag_of}
-use Rattle.xlsx_sections.specs.Refusal.{RefusedAt, ElementFails, placed_at}
+use Rattle.part_events.specs.Words.{Event, start, tag_of}
+use Rattle.xlsx_sections.specs.Words.{RefusedAt, ElementFails, placed_at}
 use Rattle.xlsx_sections.proofs.Refused.{refused_at_weaker}
-use Rattle.xlsx_relationships.specs.KeptRelationships.{related_by_id}
+use Rattle.xlsx_relationships.specs.Words.{related_by_id}
 use Rattle.xlsx_workbook.specs.Sheets.{is_sheet, is_properties, sheet_of, epoch_in}
 use Rattle.xlsx_workbook.specs.Workbook.{AreSheetsRefused}
 use Rattle.xlsx_workbook.proofs.Contents.{sheet_refused, epoch_refused}

@@ -1,7 +1,7 @@
-use Rattle.std.proofs.Common.{◌≡◌, ◌∙◌, ◌++◌, ◌+◌, ◌∷◌, [], ap, arith, length, List, map}
-use Rattle.std.proofs.Common.{Option, subst, sym, ℕ}
+use Rattle.std.proofs.Common.{◌≡◌, ◌∙◌, ◌++◌, ◌+◌, ◌∷◌, [], ap, arith, length, List, map, Option}
+use Rattle.std.proofs.Common.{subst, sym, ℕ}
 use Rattle.std.proofs.lemmas.List.{length-map}
-use Rattle.calculation_order.specs.Cycles.{AreFirsts, AreKept, cycles_by, with_next}
+use Rattle.calculation_order.specs.Cycles.{AreFirsts, AreCyclesKept, cycles_by, with_next}
 use Rattle.calculation_order.specs.Edges.{firsts_of}
 use Rattle.calculation_order.proofs.CyclesBy.{are_firsts, cycles_alike, size_of_firsts}
 use Rattle.calculation_order.proofs.ListsStep.{next_kept}
@@ -24,8 +24,8 @@ loop-formula-preserved c =
     (c.deref.ensures.value ∙ pushed)
     ∙ ap (λ (o : Option ℕ). with_next lists more o formula) c.first.ensures in
     record {
-      kept = λ so. subst (AreKept firsts (formula + 1) _) (sym pushed)
-          (subst (λ (l : List (List ℕ)). AreKept firsts (formula + 1) l more) (sym kept)
+      kept = λ so. subst (AreCyclesKept firsts (formula + 1) _) (sym pushed)
+          (subst (λ (l : List (List ℕ)). AreCyclesKept firsts (formula + 1) l more) (sym kept)
           (next_kept firsts so formula lists places (c.loop-formula.invariant.kept so)));
     }
 

@@ -1,5 +1,5 @@
 use Rattle.std.proofs.Common.{◌≡◌, ◌∙◌, ℕ, List, [], ◌∷◌, ◌++◌, length, drop, true, sym, ap, subst}
-use Rattle.calculation_order.specs.KeptLinks.{cut_at, last_end, rise_within}
+use Rattle.calculation_order.specs.KeptLinks.{cut_at, last_link_end, rise_within}
 use Rattle.calculation_order.specs.Links.{with_closed}
 use Rattle.calculation_order.proofs.CutLinks.{begun_closed, cut_closed, rise_closed}
 use Rattle.calculation_order.proofs.links.Links.close.Goals as goal
@@ -24,7 +24,7 @@ returns-clause-ok c =
     ap (λ (ends : List ℕ). record {
       formulas = formulas;
       links = cut_at ts 0 ends;
-      begun = drop (last_end 0 ends) ts;
+      begun = drop (last_link_end 0 ends) ts;
     }) (ends_are c)
     ∙ (λ i. record {
       formulas = formulas;

@@ -1,7 +1,7 @@
 use Rattle.std.proofs.Common.{◌≡◌, ◌∙◌, ℕ, List, [], ◌∷◌, ◌++◌, length, drop, true, sym, ap, subst}
 use Rattle.std.proofs.Common.{arith}
 use Rattle.std.proofs.lemmas.List.{length-append}
-use Rattle.calculation_order.specs.KeptLinks.{cut_at, last_end, rise_within}
+use Rattle.calculation_order.specs.KeptLinks.{cut_at, last_link_end, rise_within}
 use Rattle.calculation_order.specs.Links.{with_link}
 use Rattle.calculation_order.proofs.CutLinks.{begun_more, cut_kept, rise_more}
 use Rattle.calculation_order.proofs.links.Links.push.Goals as goal
@@ -23,7 +23,7 @@ returns-clause-ok c =
     ap (λ (ts : List ℕ). record {
       formulas = formulas;
       links = cut_at ts 0 ends;
-      begun = drop (last_end 0 ends) ts;
+      begun = drop (last_link_end 0 ends) ts;
     }) c.in_ok-push.ensures.items
     ∙ (λ i. record {
       formulas = formulas;

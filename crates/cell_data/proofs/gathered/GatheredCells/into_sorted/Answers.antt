@@ -1,9 +1,9 @@
 use Rattle.std.proofs.Common.{rules, ◌≡◌, ◌++◌, ◌∙◌, ap, sym, length}
 use Rattle.std.proofs.lemmas.List.{append-nil, nil_from_length}
-use Rattle.cell_refs.specs.Positions.{is_rising, last_of_each}
+use Rattle.cell_refs.specs.Words.{is_rising, last_of_each}
 use Rattle.cell_data.specs.Cells.{placed_cells}
 use Rattle.cell_data.proofs.Placing.{rising_last, last_rising}
-use Rattle.sorted_cells.specs.Kept.{kept_cells}
+use Rattle.sorted_cells.specs.Words.{kept_cells}
 use Rattle.sorted_cells.proofs.Rising.{kept_rises}
 use Rattle.cell_data.proofs.gathered.GatheredCells.into_sorted.Goals as goal
 

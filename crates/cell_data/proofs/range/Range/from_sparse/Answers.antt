@@ -1,7 +1,7 @@
 use Rattle.std.proofs.Common.{◌∙◌, ap}
 use Rattle.cell_data.specs.Cells.{placed_cells}
-use Rattle.cell_refs.specs.Positions.{lie_inside, are_sheet_bounds, least_area, last_of_each}
-use Rattle.sorted_cells.specs.Kept.{kept_cells}
+use Rattle.cell_refs.specs.Words.{lie_inside, are_sheet_bounds, least_area, last_of_each}
+use Rattle.sorted_cells.specs.Words.{kept_cells}
 use Rattle.cell_data.proofs.Areas.{least_inside, sheet_bounds, placed_in_sheet}
 use Rattle.cell_data.proofs.LeastAreas.{least_last}
 use Rattle.cell_data.proofs.range.Range.from_sparse.Goals as goal

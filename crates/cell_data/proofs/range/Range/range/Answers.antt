@@ -1,7 +1,7 @@
 use Rattle.std.proofs.Common.{◌∙◌, ap, Some}
 use Rattle.cell_refs.specs.declared.dimensions.Dimensions.{Dimensions}
-use Rattle.cell_refs.specs.Positions.{lie_inside, is_in_area}
-use Rattle.sorted_cells.specs.Kept.{kept_cells}
+use Rattle.cell_refs.specs.Words.{lie_inside, is_in_area}
+use Rattle.sorted_cells.specs.Words.{kept_cells}
 use Rattle.cell_data.proofs.Areas.{area_on_sheet, filter_all}
 use Rattle.cell_data.proofs.range.Range.range.Goals as goal
 

@@ -1,5 +1,5 @@
 use Rattle.std.proofs.Common.{◌<◌, subst}
-use Rattle.sorted_cells.specs.Placed.{placed_left}
+use Rattle.sorted_cells.specs.Words.{placed_left}
 use Rattle.sorted_cells.proofs.Handing.{fewer}
 use Rattle.cell_data.specs.Range.{bounds_of, width_of}
 use Rattle.cell_data.specs.RangeItems.{box_count, box_item}

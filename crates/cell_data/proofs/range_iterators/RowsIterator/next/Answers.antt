@@ -1,5 +1,5 @@
 use Rattle.std.proofs.Common.{ap}
-use Rattle.sorted_cells.specs.Placed.{placed_left}
+use Rattle.sorted_cells.specs.Words.{placed_left}
 use Rattle.cell_data.specs.Range.{bounds_of, height_of}
 use Rattle.cell_data.specs.RangeItems.{row_values}
 use Rattle.cell_data.proofs.CellSteps.{row_taken, next_given}

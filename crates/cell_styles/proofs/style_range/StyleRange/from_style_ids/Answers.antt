@@ -1,6 +1,6 @@
 use Rattle.std.proofs.Common.{◌<◌, [], fold, ◌≡◌, ◌∙◌, sym, ap, subst, Some, length, filter, All}
 use Rattle.std.proofs.lemmas.List.Elements.{All-filter}
-use Rattle.cell_refs.specs.Dimensions.{cell_count}
+use Rattle.cell_refs.specs.Words.{cell_count}
 use Rattle.cell_styles.specs.Filling.{cell_place, filled_to, put_in}
 use Rattle.cell_styles.specs.StyleMap.{IsOnSheet, is_explicit, covering_area}
 use Rattle.cell_styles.proofs.Meaning.{map_of, sorted_within, map_is_sound, map_is_styles}

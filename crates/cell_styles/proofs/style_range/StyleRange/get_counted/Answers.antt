@@ -1,7 +1,7 @@
 use Rattle.std.proofs.Common.{◌≡◌, ◌∙◌, sym, ap, Some, slice_index, slice_get, refl, arith}
 use Rattle.std.proofs.lemmas.Option.{slice_get_read}
-use Rattle.cell_refs.specs.Dimensions.{IsInArea}
-use Rattle.cell_styles.specs.StyleMap.{place_in}
+use Rattle.cell_refs.specs.Words.{IsInArea}
+use Rattle.cell_styles.specs.StyleMap.{place_in_area}
 use Rattle.cell_styles.proofs.Lookups.{of_area, has_id, id_below, style_found}
 use Rattle.cell_styles.proofs.style_range.StyleRange.get_counted.Goals as goal
 
@@ -32,9 +32,10 @@ returns-clause-value g c =
     let bounds : c.args.self.now.bounds ≡ Some c.in_ok-bounds.bounds =
     sym (ap (λ s. s.bounds) c.self.view_is) ∙ c.in_ok-bounds.was in
     let id : c.id_at-id.result
-    ≡ slice_index c.args.self.now.ids (place_in c.in_ok-bounds.bounds c.args.pos) =
+    ≡ slice_index c.args.self.now.ids (place_in_area c.in_ok-bounds.bounds c.args.pos) =
     c.id_at-id.ensures.id ∙ (ap (slice_index c.self.inside.ids) c.place_in.ensures
-    ∙ ap (λ s. slice_index s.ids (place_in c.in_ok-bounds.bounds c.args.pos)) c.self.view_is) in
+    ∙ ap (λ s. slice_index s.ids (place_in_area c.in_ok-bounds.bounds c.args.pos))
+    c.self.view_is) in
     let found = style_found c.args.self.now c.in_ok-bounds.bounds c.args.pos c.id_at-id.result
     bounds inside id in
     let palette : c.self.inside.palette.items ≡ c.args.self.now.palette =

@@ -1,5 +1,5 @@
 use Rattle.std.proofs.Common.{◌≡◌, ◌∙◌, sym, ap, Some, slice_get}
-use Rattle.cell_refs.specs.Dimensions.{IsInArea}
+use Rattle.cell_refs.specs.Words.{IsInArea}
 use Rattle.cell_styles.proofs.NamedStyles.{looked_up, named_inside}
 use Rattle.cell_styles.proofs.style_range.StyleRange.style_with_id.Goals as goal
 

@@ -1,5 +1,5 @@
-use Rattle.std.proofs.Common.{rules, arith, ◌≡◌, ◌<◌, ◌^◌, ◌*◌, ◌∙◌, ap, refl, sym, cond, Some}
-use Rattle.std.proofs.Common.{pos, ◌==◌, ◌+ℤ◌}
+use Rattle.std.proofs.Common.{rules, arith, ◌≡◌, ◌<◌, ◌^◌, ◌*◌, ◌∙◌, ap, refl, sym, cond, Some, pos}
+use Rattle.std.proofs.Common.{◌==◌, ◌+ℤ◌}
 use Rattle.std.specs.Prelude.{nat_abs}
 use Rattle.std.specs.Int.{is_negative}
 use Rattle.std.specs.Option.{option_map}

@@ -1,5 +1,5 @@
 use Rattle.std.proofs.Common.{ap, ◌∙◌}
-use Rattle.cell_refs.specs.A1.{letters_of, behind_letters}
+use Rattle.cell_refs.specs.Words.{letters_of, behind_letters}
 use Rattle.formula_shift.specs.References.{corner_of, corner_by}
 use Rattle.formula_shift.proofs.corner.Corner.parse_bytes.Goals as goal
 

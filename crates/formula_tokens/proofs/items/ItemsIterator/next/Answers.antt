@@ -1,5 +1,6 @@
 use Rattle.std.proofs.Common.{◌≡◌, ◌∷◌, length, ap, arith}
-use Rattle.formula_tokens.specs.Told.{token_text, tokens_left, cut_told, item_text, items_left}
+use Rattle.formula_tokens.specs.Told.{token_text, tokens_left, cut_told, item_text}
+use Rattle.formula_tokens.specs.Told.{formula_items_left}
 use Rattle.formula_tokens.proofs.Cutting.{items_none, items_first}
 use Rattle.formula_tokens.proofs.items.ItemsIterator.next.Goals as goal
 use Rattle.formula_tokens.proofs.items.ItemsIterator.next.Goals.{After-result-1}
@@ -12,8 +13,11 @@ returns-in_err-first-clause-steps c =
     )
 
 more : (c : After-result-1) →
-    items_left c.args.self.now
-    ≡ item_text c.first_item-cut.result.item ∷ items_left (record { tokens = c.behind-self.result })
+    formula_items_left c.args.self.now
+    ≡ item_text c.first_item-cut.result.item ∷ formula_items_left (record {
+      tokens =
+          c.behind-self.result;
+    })
 more c =
     items_first (tokens_left c.args.self.now.tokens) (tokens_left c.next.new.self)
     (tokens_left c.behind-self.result) (token_text c.in_ok-first.first)

@@ -2,11 +2,11 @@ use Rattle.std.proofs.Common.{◌≡◌, ◌∷◌, drop, length, sym, ap, subst
 use Rattle.std.proofs.lemmas.List.{take_rest, drop_all}
 use Rattle.std.specs.Str.{IsCharBoundary}
 use Rattle.markup.specs.Found.{seen, Stands}
-use Rattle.markup.specs.Front.{front_of}
+use Rattle.markup.specs.Front.{front_in_markup}
 use Rattle.markup.specs.Marks.{byte_at}
 use Rattle.markup.specs.Markup.{markup_events}
-use Rattle.markup.specs.Cutting.{to_come, place_behind, held_event, events_left, Lies}
-use Rattle.markup.specs.Cutting.{flaw_left, held_at}
+use Rattle.markup.specs.Cutting.{to_come, place_behind, held_event, events_left, Lies, flaw_left}
+use Rattle.markup.specs.Cutting.{held_at}
 use Rattle.markup.proofs.FlawPlaces.{flaw_none, flaw_passed}
 use Rattle.markup.specs.declared.cutter.Held.{Held}
 use Rattle.markup.proofs.InOrder.{no_events}
@@ -46,8 +46,8 @@ returns-clause-takes c =
     let stands : Stands (drop at bytes) found =
     subst (λ own. Stands own found) rest c.found_in-found.ensures.stands in
     let front : seen (drop at bytes) found
-    ≡ front_of (byte_at (drop at bytes) 0) (drop 1 (drop at bytes)) =
-    subst (λ own. seen own found ≡ front_of (byte_at own 0) (drop 1 own)) rest
+    ≡ front_in_markup (byte_at (drop at bytes) 0) (drop 1 (drop at bytes)) =
+    subst (λ own. seen own found ≡ front_in_markup (byte_at own 0) (drop 1 own)) rest
     c.found_in-found.ensures.front in
     let none : to_come old.held ≡ None = sym c.to_come.ensures ∙ c.in_default.is in
     let step = stepped bytes at old.held found none (omega (arith, c.requires.at.0)) front stands in
@@ -70,8 +70,8 @@ returns-clause-flaw c =
     let stands : Stands (drop at bytes) found =
     subst (λ own. Stands own found) rest c.found_in-found.ensures.stands in
     let front : seen (drop at bytes) found
-    ≡ front_of (byte_at (drop at bytes) 0) (drop 1 (drop at bytes)) =
-    subst (λ own. seen own found ≡ front_of (byte_at own 0) (drop 1 own)) rest
+    ≡ front_in_markup (byte_at (drop at bytes) 0) (drop 1 (drop at bytes)) =
+    subst (λ own. seen own found ≡ front_in_markup (byte_at own 0) (drop 1 own)) rest
     c.found_in-found.ensures.front in
     flaw_passed bytes at found (omega (arith, c.requires.at.0)) front stands
     ∙ ap (λ n. flaw_left bytes n (held_at at found)) (sym c.place_behind-self.ensures)

@@ -11,8 +11,8 @@ returns-in-Err-clause-err g c =
     let old = c.args.self.now in
     let mid = c.events.self in
     let new = c.next_inside.new.self in
-    let told_there : old.source.is_told ≡ true → mid.source.is_told ≡ true =
-    λ told. c.events.invariant.reads.moves.parts.is_told ∙ told in
+    let told_there : old.source.is_visible ≡ true → mid.source.is_visible ≡ true =
+    λ told. c.events.invariant.reads.moves.parts.is_visible ∙ told in
     let stands : StandsInside c.depth-base.result Found mid new =
     rw c.in-Found.is at c.in_ok-next_inside.ensures.stands in
     rw (c.text_error.ensures.fails, c.text_error.ensures.error)
@@ -37,7 +37,8 @@ events-preserved g c =
       front = front_further (string_bytes c.args.out.now) (string_bytes c.events.out) _
           c.events.invariant.front (_, c.in-Ok.ensures.ok);
       read = λ told.
-          let told_there : mid.source.is_told ≡ true = c.events.invariant.reads.moves.parts.is_told
+          let told_there : mid.source.is_visible ≡ true =
+          c.events.invariant.reads.moves.parts.is_visible
           ∙ told in
           let stands : StandsInside c.depth-base.result Found mid new =
           rw c.in-Found.is at c.in_ok-next_inside.ensures.stands in

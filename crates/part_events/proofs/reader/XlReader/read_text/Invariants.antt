@@ -13,7 +13,7 @@ invariant-events g l =
       within : l.base ≤ length l.self.names;
       base : l.base ≡ length l.fn.self.names;
       front : IsFrontOf (string_bytes l.fn.out) (string_bytes l.out);
-      read : old.source.is_told ≡ true
+      read : old.source.is_visible ≡ true
           → HasRead l.char_data l.base old now (string_bytes l.fn.out, string_bytes l.out);
     }
 

@@ -12,7 +12,8 @@ returns-in-Ended-clause-err g c =
     rw (c.leave_open.ensures.fails, c.leave_open.ensures.error) (λ told.
     let ends : EndsInSection (is_named []) c.depth-depth.result old new =
     rw c.in-Ended.is at (c.in_ok-walk.ensures.starts told) in
-    let still_told : new.source.is_told ≡ true = c.in_ok-walk.ensures.reads.moves.parts.is_told
+    let still_told : new.source.is_visible ≡ true =
+    c.in_ok-walk.ensures.reads.moves.parts.is_visible
     ∙ told in
     let some : 0 < length new.names =
     omega (

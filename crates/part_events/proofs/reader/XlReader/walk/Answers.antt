@@ -11,7 +11,7 @@ returns-then-accepts-clause-elements g c = λ told.
     let mid = c.events.self in
     let new = c.next_inside.new.self in
     let tag = tag_of c.in-Start.tag in
-    let told_there : mid.source.is_told ≡ true = c.events.invariant.reads.moves.parts.is_told
+    let told_there : mid.source.is_visible ≡ true = c.events.invariant.reads.moves.parts.is_visible
     ∙ told in
     let stands : StandsInside c.args.base Found mid new =
     rw c.in-Found.is at c.in_ok-next_inside.ensures.stands in

@@ -10,7 +10,7 @@ invariant-events g l =
     record {
       reads : ReadsOn old now;
       within : l.base ≤ length l.self.names;
-      ahead : l.fn.self.source.is_told ≡ true
+      ahead : l.fn.self.source.is_visible ≡ true
           → SameAhead (wants l.wanted) l.base old now;
     }
 

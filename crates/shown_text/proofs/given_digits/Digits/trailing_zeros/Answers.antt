@@ -1,6 +1,6 @@
 use Rattle.std.proofs.Common.{arith, ◌≡◌, ◌-◌, ◌==◌, length, length-take, ap}
 use Rattle.std.proofs.lemmas.List.Sums.{suffix_len-le-length}
-use Rattle.decimals.specs.Decimals.{trailing_zeros, without_trailing_zeros}
+use Rattle.decimals.specs.Words.{trailing_zeros, without_trailing_zeros}
 use Rattle.shown_text.proofs.Zeros.{zeros_added}
 use Rattle.shown_text.proofs.given_digits.Digits.trailing_zeros.Goals as goal
 

@@ -2,7 +2,7 @@ use Rattle.std.proofs.Common.{rules, arith, ◌≡◌, ◌∙◌, ◌-◌, ◌+�
 use Rattle.std.specs.Prelude.{nat_abs}
 use Rattle.std.specs.Int.{w64}
 use Rattle.std.proofs.lemmas.Int.{ints}
-use Rattle.decimals.specs.Rounding.{digit_count, nearest}
+use Rattle.decimals.specs.Words.{digit_count, nearest}
 use Rattle.shown_text.proofs.SizeSteps.{size_is, power_is, few_kept, near_power}
 use Rattle.shown_text.proofs.sizes.Size.of.Goals as goal
 

@@ -1,6 +1,6 @@
 use Rattle.std.proofs.Common.{◌≡◌, true, List, ◌∙◌, ap}
 use Rattle.std.specs.List.{filter}
-use Rattle.cell_refs.specs.Positions.{is_rising, is_in_area}
+use Rattle.cell_refs.specs.Words.{is_rising, is_in_area}
 use Rattle.cell_refs.specs.declared.dimensions.Dimensions.{Dimensions}
 use Rattle.sorted_cells.specs.declared.row.Row.{Row}
 use Rattle.sorted_cells.specs.declared.row.ColumnCell.{ColumnCell}

@@ -1,6 +1,5 @@
 use Rattle.std.proofs.Common.{List, [], ◌∷◌, ◌++◌, ap, ◌∙◌, arith}
-use Rattle.part_events.specs.Memory.{Contents, closed}
-use Rattle.part_events.specs.Package.{Part}
+use Rattle.part_events.specs.Words.{Contents, closed, Part}
 use Rattle.workbook_file.specs.Contents.{FileContents}
 use Rattle.workbook_file.specs.FileParts.{file_parts}
 use Rattle.workbook_file.specs.OpenEvents.{rest_of}

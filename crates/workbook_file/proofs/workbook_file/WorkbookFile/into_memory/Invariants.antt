@@ -1,5 +1,5 @@
 use Rattle.std.proofs.Common.{◌≡◌, take}
-use Rattle.part_events.specs.Memory.{closed}
+use Rattle.part_events.specs.Words.{closed}
 use Rattle.workbook_file.specs.FileParts.{file_parts}
 use Rattle.workbook_file.proofs.workbook_file.WorkbookFile.into_memory.Given as goal
 

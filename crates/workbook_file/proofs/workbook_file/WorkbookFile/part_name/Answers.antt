@@ -1,5 +1,5 @@
 use Rattle.std.proofs.Common.{length, ap, ◌∙◌, arith}
-use Rattle.part_events.specs.Memory.{part_at}
+use Rattle.part_events.specs.Words.{part_at}
 use Rattle.workbook_file.specs.Contents.{FileContents}
 use Rattle.workbook_file.specs.FileParts.{file_parts}
 use Rattle.workbook_file.proofs.Opening.{name_there, parts_long}

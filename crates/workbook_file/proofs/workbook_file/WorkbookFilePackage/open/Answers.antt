@@ -1,5 +1,5 @@
 use Rattle.std.proofs.Common.{Some, get_or, refl, ap, ◌∙◌}
-use Rattle.zip_archive.specs.Members.{no_entry}
+use Rattle.zip_archive.specs.Words.{no_entry}
 use Rattle.workbook_file.specs.Contents.{past_of}
 use Rattle.workbook_file.specs.FileParts.{held_by}
 use Rattle.workbook_file.specs.OpenEvents.{OpenEvents}

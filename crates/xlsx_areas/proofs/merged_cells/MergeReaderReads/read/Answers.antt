@@ -1,8 +1,8 @@
 use Rattle.std.proofs.Common.{◌≡◌, ℕ, Ok, Option, Result, option_map, sym, ◌∙◌, ap}
 use Rattle.std.proofs.lemmas.Result.{IfOk-weaker}
 use Rattle.cell_refs.specs.declared.dimensions.Dimensions.{Dimensions}
-use Rattle.part_events.specs.Event.{tag_of}
-use Rattle.xlsx_sections.specs.Refusal.{Refusal, placed_at}
+use Rattle.part_events.specs.Words.{tag_of}
+use Rattle.xlsx_sections.specs.Words.{Refusal, placed_at}
 use Rattle.xlsx_sections.proofs.StartsKept.{own_item}
 use Rattle.xlsx_areas.specs.MergedCells.{merge_of}
 use Rattle.xlsx_areas.proofs.merged_cells.MergeReaderReads.read.Goals as goal

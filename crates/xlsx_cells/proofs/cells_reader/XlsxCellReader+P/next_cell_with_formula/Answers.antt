@@ -8,5 +8,5 @@ returns-in_default-clause-takes g c = λ told before earlier kept.
 pub returns-clause-takes : goal.returns-clause-takes
 returns-clause-takes g c = λ told before earlier kept.
     written_value_taken c.in-Some.found c.written_text.result c.written_text.ensures
-    (written_as c.asked-asked.ensures.wants c.asked-asked.ensures.grounds
+    (written_as c.asked-asked.ensures.wants c.asked-asked.ensures.context
     (rw c.in-Some.is at (c.in_ok-found.ensures.takes told before earlier kept)))

@@ -10,5 +10,5 @@ pub returns-clause-takes : goal.returns-clause-takes
 returns-clause-takes g c = λ told before earlier kept.
     described_value_taken c.in-Some.read c.metadata_of.result c.metadata_of.ensures
     (read_as c.asked-asked.ensures.wants c.asked-asked.ensures.keeps
-    c.asked-asked.ensures.grounds
+    c.asked-asked.ensures.context
     (rw c.in-Some.is at (c.in_ok-read.ensures.takes told before earlier kept)))

@@ -1,9 +1,8 @@
 use Rattle.std.proofs.Common.{◌≡◌, ◌∷◌, ◌+◌, ◌<◌, ℕ, List, None, Ok, Err, ap, ◌∙◌, arith}
 use Rattle.std.proofs.lemmas.Result.{IfOk-weaker, IfErr-weaker, err_from_is_err_and}
 use Rattle.cell_refs.specs.declared.TheConstants.{MAX_ROWS, MAX_COLUMNS}
-use Rattle.part_events.specs.Event.{tag_of}
-use Rattle.part_events.specs.Section.{Element}
-use Rattle.xlsx_sections.specs.Refusal.{Refusal}
+use Rattle.part_events.specs.Words.{tag_of, Element}
+use Rattle.xlsx_sections.specs.Words.{Refusal}
 use Rattle.xlsx_cells.specs.Counting.{AreKept, IsRefused}
 use Rattle.xlsx_cells.specs.Marks.{Mark, cell}
 use Rattle.xlsx_cells.specs.Position.{or_implied, position_named, row_counter, column_counter}

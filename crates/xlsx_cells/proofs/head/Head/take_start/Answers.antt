@@ -1,10 +1,10 @@
 use Rattle.std.proofs.Common.{◌≡◌, ℕ, List, true, sym, ap, subst, ◌∙◌, codes, Result, Option}
 use Rattle.std.specs.Str.{bytes_eq}
 use Rattle.std.proofs.lemmas.Result.{err_from_is_err_and}
-use Rattle.attr_text.specs.Attributes.{local_name_of}
+use Rattle.attr_text.specs.Words.{local_name_of}
 use Rattle.cell_refs.specs.declared.dimensions.Dimensions.{Dimensions}
-use Rattle.part_events.specs.Event.{tag_of}
-use Rattle.xlsx_sections.specs.Refusal.{Refusal}
+use Rattle.part_events.specs.Words.{tag_of}
+use Rattle.xlsx_sections.specs.Words.{Refusal}
 use Rattle.xlsx_cells.specs.Head.{dimension_area, IsHeadStartRefused}
 use Rattle.xlsx_cells.proofs.HeadRead.{tells_dimensions, start_refused}
 use Rattle.xlsx_cells.proofs.head.Head.take_start.Goals as goal

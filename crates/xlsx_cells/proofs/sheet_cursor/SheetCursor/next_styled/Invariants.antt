@@ -1,7 +1,7 @@
 use Rattle.std.proofs.Common.{◌≡◌, ◌≤◌, List, true}
-use Rattle.xlsx_sections.specs.Elements.{KeepsElements}
-use Rattle.xlsx_formulas.specs.Formula.{FormulaText}
-use Rattle.xlsx_cells.specs.Marks.{Mark, is_cell}
+use Rattle.xlsx_sections.specs.Words.{KeepsElements}
+use Rattle.xlsx_formulas.specs.Words.{FormulaText}
+use Rattle.xlsx_cells.specs.Marks.{Mark, is_cell_start}
 use Rattle.xlsx_cells.specs.Stream.{stream, IsGoing, StandsBehind}
 use Rattle.xlsx_cells.proofs.Unstyled.{HasSkipped}
 use Rattle.xlsx_cells.proofs.sheet_cursor.SheetCursor.next_styled.Given as goal
@@ -13,10 +13,10 @@ invariant-cells g l =
     record {
       base : now.base ≡ old.base;
       further : old.reading.at ≤ now.reading.at;
-      keeps : KeepsElements is_cell old.base old.reading now.reading;
+      keeps : KeepsElements is_cell_start old.base old.reading now.reading;
       first : IsGoing old;
       going : IsGoing now;
-      skipped : old.reading.source.is_told ≡ true →
+      skipped : old.reading.source.is_visible ≡ true →
           (before : List Mark) (earlier : List FormulaText) → StandsBehind before earlier old →
           HasSkipped l.style_count before earlier old now;
     }

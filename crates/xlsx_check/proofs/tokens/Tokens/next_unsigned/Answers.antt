@@ -1,8 +1,7 @@
 use Rattle.std.proofs.Common.{rules, ◌≡◌, ◌∷◌, [], ◌++◌, List, ◌∙◌, sym, ap}
-use Rattle.formula_shift.specs.Pieces.{pieces_left, piece_text}
-use Rattle.formula_shift.specs.Relocation.{first_byte}
+use Rattle.formula_shift.specs.Words.{pieces_left, piece_text, first_byte}
 use Rattle.formula_shift.specs.declared.piece.Piece.TheVariants.{Word}
-use Rattle.xlsx_check.specs.Tokens.{Token, symbols, tokens_of}
+use Rattle.xlsx_check.specs.Tokens.{Token, symbol_tokens, tokens_of}
 use Rattle.xlsx_check.specs.TokenView.{token_of}
 use Rattle.xlsx_check.proofs.Symbols.{word_tokens}
 use Rattle.xlsx_check.proofs.tokens.Tokens.next_unsigned.Goals as goal
@@ -10,7 +9,7 @@ use Rattle.xlsx_check.proofs.tokens.Tokens.next_unsigned.Goals as goal
 pub returns-in-Word-clause-some : goal.returns-in-Word-clause-some
 returns-in-Word-clause-some c =
     let rest = c.next.new.self.rest.now in
-    let none : symbols c.pieces.self.symbols.now ≡ [] = search rules in
+    let none : symbol_tokens c.pieces.self.symbols.now ≡ [] = search rules in
     let next : pieces_left c.pieces.self.pieces
     ≡ piece_text (Word c.in-Word.word) ∷ pieces_left c.next.new.self =
     search rules in

@@ -1,5 +1,5 @@
 use Rattle.std.proofs.Common.{◌≡◌, length}
-use Rattle.formula_shift.specs.Pieces.{pieces_left}
+use Rattle.formula_shift.specs.Words.{pieces_left}
 use Rattle.xlsx_check.specs.TokenView.{unsigned_left}
 use Rattle.xlsx_check.proofs.tokens.Tokens.next_unsigned.Given as goal
 

@@ -1,12 +1,9 @@
 use Rattle.std.proofs.Common.{ap, Option, Some, List, ℕ}
 use Rattle.std.proofs.lemmas.Result.{err_from_is_err_and}
-use Rattle.cell_data.specs.CellValue.{nothing, value_of_data}
-use Rattle.cell_data.specs.Cells.{placed_cells}
-use Rattle.cell_data.specs.Gathered.{cells_gathered}
-use Rattle.xlsx_cells.specs.CellsReader.{values_and_styles}
-use Rattle.xlsx_cells.specs.StyledValues.{styled_entries}
-use Rattle.xlsx_open.specs.SharedParts.{shared_said}
-use Rattle.xlsx_core.specs.Worksheets.{grounds_of_book, path_of}
+use Rattle.cell_data.specs.Words.{nothing, value_of_data, placed_cells, cells_gathered}
+use Rattle.xlsx_cells.specs.Words.{values_and_styles, styled_entries}
+use Rattle.xlsx_open.specs.Words.{shared_said}
+use Rattle.xlsx_core.specs.Worksheets.{context_of_book, path_of}
 use Rattle.xlsx_core.proofs.ShownRead.{shows_in}
 use Rattle.xlsx_core.proofs.TableRanges.{no_range, area_fails}
 use Rattle.xlsx_core.proofs.xlsx.Xlsx.shown_in.Goals as goal
@@ -34,10 +31,10 @@ pub returns-clause-shows : goal.returns-clause-shows
 returns-clause-shows g c = λ told.
     let xlsx = c.args.self.now in
     let cells = c.in_ok-cells.cells in
-    let kept = c.in_ok-cells.ensures.rest.book in
+    let kept = c.in_ok-cells.ensures.rest in
     rw c.in-Some.is
-    (shows_in (grounds_of_book xlsx) (shared_said xlsx.shared) xlsx.is_1904 xlsx.header_row
-    c.in-Some.area (path_of xlsx c.args.sheet.now) xlsx.xml.source.parts
+    (shows_in (context_of_book xlsx) (shared_said xlsx.workbook.shared) xlsx.workbook.is_1904
+    xlsx.workbook.header_row c.in-Some.area (path_of xlsx c.args.sheet.now) xlsx.xml.source.parts
     (styled_entries (cells_gathered cells)) c.in_ok-shown_in_area.field-0
     (c.in_ok-cells.ensures.reads told)
-    (rw (kept.header_row, kept.shared, kept.is_1904) at c.in_ok-shown_in_area.ensures))
+    (rw kept at c.in_ok-shown_in_area.ensures))

@@ -1,5 +1,5 @@
 use Rattle.std.proofs.lemmas.Result.{err_from_is_err_and}
-use Rattle.xlsx_cells.specs.CellsReader.{values_alone}
+use Rattle.xlsx_cells.specs.Words.{values_alone}
 use Rattle.xlsx_core.specs.TableData.{head_said}
 use Rattle.xlsx_core.proofs.TableRanges.{data_fails, data_error, lacks_fails, lacks_error}
 use Rattle.xlsx_core.proofs.xlsx.Xlsx.table_by_name.Goals as goal

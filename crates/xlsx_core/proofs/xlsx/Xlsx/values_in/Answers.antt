@@ -1,17 +1,13 @@
 use Rattle.std.proofs.Common.{ap, length, subst, ◌∙◌, List, String, Global, map, string_bytes}
-use Rattle.cell_data.specs.Gathered.{cells_gathered}
+use Rattle.cell_data.specs.Words.{cells_gathered, nothing, value_of_data, placed_cells}
 use Rattle.cell_data.specs.declared.value.HeaderRow.{HeaderRow}
-use Rattle.xlsx_cells.specs.CellsReader.{values_alone}
-use Rattle.xlsx_cells.specs.SheetPart.{value_entries, formula_entries}
+use Rattle.xlsx_cells.specs.Words.{values_alone, value_entries, formula_entries, with_texts}
 use Rattle.xlsx_core.specs.SheetReading.{events_at}
 use Rattle.xlsx_core.specs.TableData.{IsRangeIn}
-use Rattle.xlsx_core.specs.Worksheets.{grounds_of_book, palette_of_book, path_of}
+use Rattle.xlsx_core.specs.Worksheets.{context_of_book, palette_of_book, path_of}
 use Rattle.xlsx_core.proofs.RangesRead.{values_answered}
-use Rattle.xlsx_cells.specs.Sheet.{with_texts}
-use Rattle.xlsx_open.specs.declared.shared_parts.SharedParts.{SharedParts}
+use Rattle.xlsx_core.specs.declared.workbook.Workbook.{Workbook}
 use Rattle.std.proofs.lemmas.Result.{err_from_is_err_and}
-use Rattle.cell_data.specs.CellValue.{nothing, value_of_data}
-use Rattle.cell_data.specs.Cells.{placed_cells}
 use Rattle.xlsx_core.proofs.TableRanges.{no_range, area_fails}
 use Rattle.xlsx_core.proofs.xlsx.Xlsx.values_in.Goals as goal
 
@@ -39,21 +35,21 @@ returns-clause-reads g c = λ told.
     let xlsx = c.args.self.now in
     let old = xlsx.xml.source in
     let cells = c.in_ok-cells.cells in
-    let kept = c.in_ok-cells.ensures.rest.book in
+    let kept = c.in_ok-cells.ensures.rest in
     let range = c.in_ok-values_in_area.field-0 in
     rw c.in-Some.is
-    (values_answered (events_at (path_of xlsx c.args.sheet.now) old.parts) (grounds_of_book xlsx)
+    (values_answered (events_at (path_of xlsx c.args.sheet.now) old.parts) (context_of_book xlsx)
     (length (palette_of_book xlsx)) (value_entries (cells_gathered cells.values))
     (formula_entries (cells_gathered cells.formulas)) cells.style_ids.items
-    (λ values. IsRangeIn value_of_data xlsx.header_row c.in-Some.area
-    (with_texts (grounds_of_book xlsx).strings values) nothing range)
+    (λ values. IsRangeIn value_of_data xlsx.workbook.header_row c.in-Some.area
+    (with_texts (context_of_book xlsx).strings values) nothing range)
     (c.in_ok-cells.ensures.reads told)
     (subst (λ (header : HeaderRow). IsRangeIn value_of_data header c.in-Some.area
-    (with_texts (grounds_of_book xlsx).strings (value_entries (cells_gathered cells.values)))
-    nothing range) kept.header_row
+    (with_texts (context_of_book xlsx).strings (value_entries (cells_gathered cells.values)))
+    nothing range) (ap (λ (own : Workbook). own.header_row) kept)
     (subst (λ (strings : List (String Global)). IsRangeIn value_of_data
-    c.worksheet_cells.new.self.header_row c.in-Some.area
+    c.worksheet_cells.new.self.workbook.header_row c.in-Some.area
     (with_texts (map string_bytes strings) (value_entries (cells_gathered cells.values)))
     nothing range)
-    (c.deref.ensures.value ∙ ap (λ (shared : SharedParts). shared.strings.items) kept.shared)
+    (c.deref.ensures.value ∙ ap (λ (own : Workbook). own.shared.strings.items) kept)
     c.in_ok-values_in_area.ensures)))

@@ -1,7 +1,7 @@
 use Rattle.std.proofs.Common.{◌∙◌, ap, length}
 use Rattle.std.specs.Prelude.{◌==◌}
-use Rattle.formula_shift.specs.Relocation.{offset_between}
-use Rattle.xlsx_formulas.specs.declared.masters.Master.{Master}
+use Rattle.formula_shift.specs.Words.{offset_between}
+use Rattle.xlsx_formulas.specs.declared.shared_formulas.Master.{Master}
 use Rattle.xlsx_formulas.proofs.Emptiness.{empty_as_moved}
 use Rattle.xlsx_formulas.proofs.cell_formula.CellFormula.is_empty.Goals as goal
 

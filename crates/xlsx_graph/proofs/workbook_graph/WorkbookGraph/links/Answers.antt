@@ -1,8 +1,7 @@
-use Rattle.std.proofs.Common.{◌≡◌, ◌∙◌, ap, length, rules}
+use Rattle.std.proofs.Common.{◌≡◌, ◌∙◌, ap, length, rules, List}
 use Rattle.xlsx_graph.proofs.Gathering.{all_in_areas}
 use Rattle.xlsx_graph.specs.declared.workbook_graph.Placed.{Placed}
 use Rattle.xlsx_graph.specs.declared.named.BookArea.{BookArea}
-use Rattle.std.proofs.Common.{List}
 use Rattle.std.specs.List.{list_all}
 use Rattle.xlsx_graph.specs.Gathered.{lies_in_areas}
 use Rattle.xlsx_graph.proofs.workbook_graph.WorkbookGraph.links.Goals as goal

@@ -1,8 +1,7 @@
-use Rattle.std.proofs.Common.{◌≡◌, ◌-◌, ◌≤◌, ◌++◌, ◌∷◌, [], List, arith, rules}
-use Rattle.std.proofs.Common.{subst, sym}
-use Rattle.cell_refs.specs.Dimensions.{cell_count}
-use Rattle.xlsx_graph.specs.Gathered.{AreGathered, Gathers, Stays, formula_of, gathered_of}
-use Rattle.xlsx_graph.specs.Kept.{Adds, Extends}
+use Rattle.std.proofs.Common.{◌≡◌, ◌-◌, ◌≤◌, ◌++◌, ◌∷◌, [], List, arith, rules, subst, sym}
+use Rattle.cell_refs.specs.Words.{cell_count}
+use Rattle.xlsx_graph.specs.Gathered.{AreGathered, Gathers, Stays, gathered_formula, gathered_of}
+use Rattle.xlsx_graph.specs.Kept.{Adds, KeepsInFront}
 use Rattle.xlsx_graph.specs.Naming.{named_in}
 use Rattle.xlsx_graph.specs.declared.workbook_graph.Placed.{Placed}
 use Rattle.xlsx_graph.proofs.Extending.{extends_by, on_refusal}
@@ -25,7 +24,7 @@ returns-in_err-push_named-clause-stays c =
 pub invariant_of-self-in_err-push : goal.invariant_of-self-in_err-push
 invariant_of-self-in_err-push c =
     let same : c.push.new.self.items ≡ c.self.inside.placed.items = search rules in
-    let more : Extends c.self.inside.findings c.push_named.new.out =
+    let more : KeepsInFront c.self.inside.findings c.push_named.new.out =
     extends_by c.self.inside.findings c.push_named.new.out _ c.in_ok-push_named.ensures.gives in
     subst (λ (ps : List Placed). AreGathered c.push_named.new.out ps c.self.inside.covered)
     (sym same)
@@ -35,7 +34,7 @@ invariant_of-self-in_err-push c =
 pub returns-in_err-push-clause-stays : goal.returns-in_err-push-clause-stays
 returns-in_err-push-clause-stays c =
     let same : c.push.new.self.items ≡ c.self.inside.placed.items = search rules in
-    let more : Extends c.self.inside.findings c.push_named.new.out =
+    let more : KeepsInFront c.self.inside.findings c.push_named.new.out =
     extends_by c.self.inside.findings c.push_named.new.out _ c.in_ok-push_named.ensures.gives in
     on_refusal c.from_residual-in_err-push.result _
     (subst (λ (ps : List Placed).
@@ -57,7 +56,7 @@ invariant_of-self-2 c =
       read = c.saturating_sub.result;
     } in
     let pushed : c.push.new.self.items ≡ c.self.inside.placed.items ++ p ∷ [] = search rules in
-    let more : Extends old new = extends_by old new _ c.in_ok-push_named.ensures.gives in
+    let more : KeepsInFront old new = extends_by old new _ c.in_ok-push_named.ensures.gives in
     let first = c.counts-areas.ensures in
     let last = c.counts-areas_end.ensures in
     let is : IsPlaced old new p = record { areas = cc; words = cc; read = search rules } in
@@ -81,7 +80,7 @@ returns-clause-gives c =
     let pushed : c.push.new.self.items ≡ c.self.inside.placed.items ++ p ∷ [] = search rules in
     let f = named_in c.args.book.now c.args.cell c.args.formula.now in
     let adds : Adds old new f = c.in_ok-push_named.ensures.gives in
-    let more : Extends old new = extends_by old new f adds in
+    let more : KeepsInFront old new = extends_by old new f adds in
     let first = c.counts-areas.ensures in
     let last = c.counts-areas_end.ensures in
     let is : IsPlaced old new p = record { areas = cc; words = cc; read = search rules } in
@@ -91,7 +90,7 @@ returns-clause-gives c =
     c.len-cells.ensures within c.self.invariant.most in
     subst (λ (ps : List Placed).
     Gathers c.args.self.now (gathered_of new ps (c.self.inside.covered - c.len-cells.result))
-    (formula_of c.args.book.now c.args.cell c.args.covers c.args.formula.now))
+    (gathered_formula c.args.book.now c.args.cell c.args.covers c.args.formula.now))
     (sym pushed)
     (gathers_now old new c.self.inside.placed.items p c.self.inside.covered c.len-cells.result
     c.args.self.now f c.self.view_is more c.self.invariant adds is within count)

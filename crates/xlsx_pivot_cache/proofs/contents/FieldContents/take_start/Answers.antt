@@ -1,7 +1,7 @@
 use Rattle.std.proofs.Common.{◌-◌, ◌∷◌, ℕ, List, arith}
 use Rattle.std.proofs.lemmas.Result.{IfErr-weaker}
-use Rattle.part_events.specs.Event.{Event, start, tag_of}
-use Rattle.xlsx_sections.specs.Refusal.{ElementFails}
+use Rattle.part_events.specs.Words.{Event, start, tag_of}
+use Rattle.xlsx_sections.specs.Words.{ElementFails}
 use Rattle.xlsx_pivot_cache.specs.CacheFields.{item_said}
 use Rattle.xlsx_pivot_cache.specs.FieldEvents.{items_from_place}
 use Rattle.xlsx_pivot_cache.proofs.ItemsRead.{child_fails}

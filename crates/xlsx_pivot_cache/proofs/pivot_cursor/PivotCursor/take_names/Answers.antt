@@ -1,7 +1,6 @@
 use Rattle.std.proofs.Common.{◌≡◌, ◌∙◌, List, Some, length, refl, sym, ap, subst, rules}
-use Rattle.part_events.specs.Event.{Event}
-use Rattle.part_events.specs.Reading.{events_of}
-use Rattle.xlsx_sections.specs.PartSection.{section_in, section_left}
+use Rattle.part_events.specs.Words.{Event, events_of}
+use Rattle.xlsx_sections.specs.Words.{section_in, section_left}
 use Rattle.xlsx_sections.proofs.Failing.{given_back}
 use Rattle.xlsx_pivot_cache.specs.CacheFields.{fields_kept}
 use Rattle.xlsx_pivot_cache.specs.CacheRecords.{records_name, names_row, row_kept}
@@ -68,7 +67,7 @@ returns-clause-at g c =
     rw c.depth.ensures
     (in_records (fields_kept c.args.self.now.fields.items) new reads.stays.reading
     (λ told_new.
-    let told = sym reads.moves.parts.is_told ∙ told_new in
+    let told = sym reads.moves.parts.is_visible ∙ told_new in
     subst (λ (events : List Event). section_in records_name events
     ≡ Some (section_left (length new.names) new)) (sym (reads.stays.part told))
     (records_found old new (rw c.in-Some.is at (c.in_ok-_at.ensures.found told)))))

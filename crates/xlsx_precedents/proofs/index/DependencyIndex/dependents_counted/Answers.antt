@@ -1,10 +1,10 @@
 use Rattle.std.proofs.Common.{◌≡◌, [], ap, ◌∙◌, rules}
 use Rattle.std.specs.List.{slice_get}
-use Rattle.sorted_cells.specs.Kept.{kept_cells}
+use Rattle.sorted_cells.specs.Words.{kept_cells}
 use Rattle.std.proofs.lemmas.Result.{IfOk-weaker}
-use Rattle.cell_refs.specs.Positions.{is_in_area}
+use Rattle.cell_refs.specs.Words.{is_in_area}
 use Rattle.xlsx_precedents.specs.Numbers.{found_by, numbers_where}
-use Rattle.xlsx_precedents.specs.Precedents.{dependents_of}
+use Rattle.xlsx_precedents.specs.Precedents.{direct_dependents}
 use Rattle.xlsx_precedents.specs.Spans.{spans_told}
 use Rattle.xlsx_precedents.proofs.Finding.{named_are, searched}
 use Rattle.xlsx_precedents.proofs.Searching.{search_steps}
@@ -18,7 +18,7 @@ returns-clause-value g c =
     IfOk-weaker c.found_by.result
     (λ found. found.items
     ≡ found_by (λ n. slice_get own.named.cells.items n) [] c.in_ok-numbers.numbers.items)
-    (λ found. found.items ≡ dependents_of c.args.self.now c.args.pos)
+    (λ found. found.items ≡ direct_dependents c.args.self.now c.args.pos)
     (λ found is. is
     ∙ ap (found_by (λ n. slice_get own.named.cells.items n) []) numbers
     ∙ searched (kept_cells own.cells) own.named c.args.pos c.self.invariant.0 c.args.self.now

@@ -1,8 +1,8 @@
 use Rattle.std.proofs.Common.{◌≡◌, [], length, Some, None, sym, ap, ◌∙◌}
 use Rattle.std.specs.FinMap.{find}
 use Rattle.std.specs.Option.{option_copied, unwrap_or}
-use Rattle.cell_refs.specs.Positions.{position_cmp}
-use Rattle.sorted_cells.specs.Kept.{kept_cells}
+use Rattle.cell_refs.specs.Words.{position_cmp}
+use Rattle.sorted_cells.specs.Words.{kept_cells}
 use Rattle.xlsx_precedents.proofs.Gathering.{found_within, precedents_found}
 use Rattle.xlsx_precedents.proofs.index.DependencyIndex.precedents.Goals as goal
 

@@ -1,8 +1,7 @@
 use Rattle.std.proofs.Common.{◌≡◌, ◌∷◌, ◌∙◌, ℕ, List, length, Err, true, refl, sym, ap}
 use Rattle.std.proofs.lemmas.Result.{err_from_is_err_and}
-use Rattle.part_events.specs.Event.{event_of}
-use Rattle.part_events.specs.JoinedText.{is_unknown}
-use Rattle.xlsx_sections.specs.Refusal.{Refusal, no_character}
+use Rattle.part_events.specs.Words.{event_of, is_unknown}
+use Rattle.xlsx_sections.specs.Words.{Refusal, no_character}
 use Rattle.xlsx_sections.proofs.Refused.{refused_at_weaker}
 use Rattle.xlsx_properties.specs.CustomProperties.{is_taken}
 use Rattle.xlsx_properties.specs.Open.{custom_behind, custom_in_place}

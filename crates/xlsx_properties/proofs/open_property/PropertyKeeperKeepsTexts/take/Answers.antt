@@ -1,9 +1,8 @@
 use Rattle.std.proofs.Common.{◌≡◌, ◌∷◌, ◌∙◌, length, Err, true, false, refl, sym, ap}
 use Rattle.std.specs.Prelude.{IsSome}
 use Rattle.std.proofs.lemmas.Result.{err_from_is_err_and}
-use Rattle.part_events.specs.Event.{event_of, tag_of, leaf}
-use Rattle.part_events.specs.JoinedText.{is_unknown}
-use Rattle.xlsx_sections.specs.Refusal.{Refusal, no_character}
+use Rattle.part_events.specs.Words.{event_of, tag_of, leaf, is_unknown}
+use Rattle.xlsx_sections.specs.Words.{Refusal, no_character}
 use Rattle.xlsx_sections.proofs.Refused.{refused_at_weaker}
 use Rattle.xlsx_properties.specs.Kept.{held}
 use Rattle.xlsx_properties.specs.Open.{open_in}

@@ -1,7 +1,7 @@
 use Rattle.std.proofs.Common.{ℕ, List, refl}
 use Rattle.std.proofs.lemmas.Result.{IfErr-weaker}
-use Rattle.part_events.specs.Event.{tag_of}
-use Rattle.xlsx_sections.specs.Refusal.{ElementFails, placed_at}
+use Rattle.part_events.specs.Words.{tag_of}
+use Rattle.xlsx_sections.specs.Words.{ElementFails, placed_at}
 use Rattle.xlsx_sections.proofs.Refused.{handed_on}
 use Rattle.xlsx_relationships.specs.LinkTargets.{link_target_of, later_of, target_held}
 use Rattle.xlsx_relationships.proofs.link_targets.KeepsTargetsKeeps.take.Goals as goal

@@ -1,8 +1,7 @@
 use Rattle.std.proofs.Common.{ℕ, List, refl}
 use Rattle.std.proofs.lemmas.Result.{IfErr-weaker}
-use Rattle.part_events.specs.Event.{tag_of}
-use Rattle.xlsx_sections.specs.Answers.{or_earlier}
-use Rattle.xlsx_sections.specs.Refusal.{ElementFails, placed_at}
+use Rattle.part_events.specs.Words.{tag_of}
+use Rattle.xlsx_sections.specs.Words.{or_earlier, ElementFails, placed_at}
 use Rattle.xlsx_sections.proofs.Refused.{handed_on}
 use Rattle.xlsx_relationships.specs.KeptRelationships.{related_by_id}
 use Rattle.xlsx_relationships.specs.Relationships.{related_of}

@@ -1,5 +1,5 @@
 use Rattle.std.proofs.Common.{[], Ok, Option, Result, map, refl}
-use Rattle.part_events.specs.Event.{tag_of}
+use Rattle.part_events.specs.Words.{tag_of}
 use Rattle.xlsx_sections.specs.Answers.{prepended, and_others_if}
 use Rattle.xlsx_sections.specs.Refusal.{Refusal, placed_at}
 use Rattle.xlsx_sections.proofs.Failing.{given_back}

@@ -1,5 +1,5 @@
 use Rattle.std.proofs.Common.{refl, option_map}
-use Rattle.part_events.specs.Event.{tag_of}
+use Rattle.part_events.specs.Words.{tag_of}
 use Rattle.xlsx_sections.specs.Answers.{or_earlier}
 use Rattle.xlsx_sections.specs.Refusal.{placed_at}
 use Rattle.xlsx_sections.proofs.Failing.{given_back}

@@ -1,5 +1,0 @@
-use Rattle.formula_shift.proofs.Moving.{pieces-moved}
-use Rattle.formula_shift.proofs.laws.moved_text_is_cut_into_the_moved_pieces.Goals as goal
-
-pub returns : goal.returns
-returns c = pieces-moved

@@ -1,5 +1,0 @@
-use Rattle.xlsx_out.proofs.LeastCuts.{IsWrittenUpTo}
-use Rattle.xlsx_out.proofs.least_escapes.next_escaped.Given as goal
-
-abbrev pub invariant-loop-i : goal.invariant-loop-i
-invariant-loop-i l = IsWrittenUpTo l.text l.i

@@ -1,5 +1,0 @@
-use Rattle.xlsx_out_as_markup.proofs.PartsFit.{parts_spelled}
-use Rattle.xlsx_out_as_markup.proofs.laws.written_parts_are_spelled.Goals as goal
-
-pub returns : goal.returns
-returns c = parts_spelled

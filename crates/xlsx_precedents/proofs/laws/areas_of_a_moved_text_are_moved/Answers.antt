@@ -1,5 +1,0 @@
-use Rattle.xlsx_precedents.proofs.OwnAreas.{areas-moved}
-use Rattle.xlsx_precedents.proofs.laws.areas_of_a_moved_text_are_moved.Goals as goal
-
-pub returns : goal.returns
-returns c = areas-moved

@@ -1,9 +1,0 @@
-use Rattle.xlsx_reads_back.proofs.GroupsRead.{formulas_read_back}
-use Rattle.xlsx_reads_back.proofs.WrittenPositions.{written_rise, formulas_among}
-use Rattle.xlsx_out.specs.WrittenSheet.{written_positions}
-use Rattle.xlsx_reads_back.proofs.groups.groups_read_back.Goals as goal
-
-pub returns : goal.returns
-returns c form values formulas rising writable =
-    formulas_read_back form formulas (written_positions values formulas) rising
-    (written_rise values formulas) (formulas_among values formulas) writable

@@ -1,5 +1,0 @@
-use Rattle.xlsx_reads_back.proofs.WholeRead.{ranges_read_as}
-use Rattle.xlsx_reads_back.proofs.packages.written_packages_read_back.Goals as goal
-
-pub returns : goal.returns
-returns c = ranges_read_as
