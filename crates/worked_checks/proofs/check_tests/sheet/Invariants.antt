@@ -1,6 +1,0 @@
-use Rattle.std.proofs.Common.{All}
-use Rattle.cell_data.specs.Cells.{IsInSheet}
-use Rattle.worked_checks.proofs.check_tests.sheet.Given as goal
-
-abbrev pub invariant-loop-case : goal.invariant-loop-case
-invariant-loop-case l = All IsInSheet l.cells.items

@@ -1,5 +1,0 @@
-use Rattle.std.proofs.Common.{◌≡◌, length}
-use Rattle.worked_graph.proofs.graph_tests.overlapping.Given as goal
-
-abbrev pub invariant-loop : goal.invariant-loop
-invariant-loop l = l.graph.names ≡ length l.book.names

@@ -1,5 +1,0 @@
-use Rattle.markup.specs.Cutting.{IsCutting}
-use Rattle.worked_markup.proofs.markup_tests.written_again.Given as goal
-
-abbrev pub invariant-loop : goal.invariant-loop
-invariant-loop l = IsCutting l.text l.cutter

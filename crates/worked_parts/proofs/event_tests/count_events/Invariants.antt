@@ -1,8 +1,0 @@
-use Rattle.part_events.specs.Reading.{IsReading}
-use Rattle.worked_parts.proofs.event_tests.count_events.Given as goal
-
-abbrev pub invariant-events : goal.invariant-events
-invariant-events g l = IsReading l.xml
-
-abbrev pub decreases-events : goal.decreases-events
-decreases-events g l = l.xml.source.left
