@@ -1,0 +1,3 @@
+pub mod MovedItems
+pub mod MovedNaming
+pub mod OwnSheet
