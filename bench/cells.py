@@ -12,7 +12,7 @@ cells are:
 - `shared`: two columns of shared formulas, each with a master for every thousand rows.
 - `one_master`: one shared formula, and 950,000 that are derived from it, in cells that name no
   positions; `leaving`: the same, where the reference leaves the sheet from row 2 on.
-- `values`: numbers, truth values, inline strings, and in a third of the cells one of 20,000 shared
+- `values`: numbers, booleans, inline strings, and in a third of the cells one of 20,000 shared
   strings.
 - `styled`: numbers, dates, formulas and shared strings, each cell in one of 39 styles with a fill,
   and a second sheet, which isn't asked for.
@@ -251,7 +251,7 @@ def number(value):
 
 
 class Values:
-    """Numbers, truth values, inline strings, and shared strings in a third of the cells."""
+    """Numbers, booleans, inline strings, and shared strings in a third of the cells."""
 
     def __init__(self):
         strings = [start("sst", ' count="20000" uniqueCount="20000"')]

@@ -14,7 +14,7 @@ from measure import TOP
 
 sys.path.insert(0, str(TOP / "tools"))
 
-from cutting import BUILDS, MALFORMED, NO_TEXT, OUT, UTF_16, found, wanted  # noqa: E402
+from support.cutting import BUILDS, MALFORMED, NO_TEXT, OUT, UTF_16, found, wanted  # noqa: E402
 
 WHOLE = [
     *("<a>", "</a>", "<a/>", "<x:c r=\"A1\" s='2'>", "</x:c >", "<c a='>'/>", '<c a="<">', "t"),

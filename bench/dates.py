@@ -15,7 +15,7 @@ import time
 HERE = pathlib.Path(__file__).resolve().parent
 sys.path.insert(0, str(HERE.parent / "tools"))
 
-from noted import SHEET_NAME, WORKBOOK, WORKBOOK_NAME, package_with, with_data
+from support.noted import SHEET_NAME, WORKBOOK, WORKBOOK_NAME, package_with, with_data
 from test_program import BUILDS, OUT
 from test_rows import STYLES
 

@@ -1,25 +1,36 @@
 #!/usr/bin/env python3
-"""Measures `graph`, `order` and `cycles` of xlsx_tool beside `precedents S` and `cells S` over
-formulas of several shapes, and prints one table (docs/PERFORMANCE.md). What `order` and `cycles`
-print must be what a plain computation in Python finds, by edges from cell to cell, rounds, and
-Tarjan's search: of as many formulas as are measured where these have few edges, and else of as many
-as it manages."""
+"""Measures `graph`, `order`, `cycles` and `dependents S A1 --all` of xlsx_tool beside
+`precedents S` and `cells S` over formulas of several shapes, and prints one table
+(docs/PERFORMANCE.md). What the last three print must be what a plain computation in Python finds,
+by edges from cell to cell, rounds, and Tarjan's search: of as many formulas as are measured where
+these have few edges, and else of as many as it manages. With `--file` the input is a workbook file,
+else a package text. With `--instructions` millions of instructions are counted, by callgrind of
+valgrind, in place of seconds, and no memory is told."""
 
 import argparse
 import os
+import re
 import subprocess
 import sys
 import tempfile
 
-from measure import add_program, add_repeats, each, measured, mib, program_of, table
+from measure import Run, add_program, add_repeats, each, measured, mib, program_of, table
 
-from noted import SHEET_NAME, package_with, with_data
+from support.fixtures import archive
+from support.noted import RELATIONSHIPS, ROOT, SHEET_NAME, WORKBOOK, package_of, with_data
 
 FORMULAS = 100_000
 # The most edges that Python goes along.
 EDGES = 3_000_000
 LAST_ROW = 1_048_576
-COMMANDS = (("cells", "S"), ("precedents", "S"), ("graph",), ("order",), ("cycles",))
+COMMANDS = (
+    ("cells", "S"),
+    ("precedents", "S"),
+    ("graph",),
+    ("order",),
+    ("cycles",),
+    ("dependents", "S", "A1", "--all"),
+)
 
 
 def reference(row, column):
@@ -43,6 +54,11 @@ def chain_down(count):
 def chain_up(count):
     for row in range(1, count + 1):
         yield (row, 1), f"A{row + 1}+1", (row + 1, 1, row + 1, 1)
+
+
+def chain_of_twos(count):
+    for row in range(1, count + 1):
+        yield (row + 1, 1), f"A{row}+A{row}", (row, 1, row, 1)
 
 
 def running_sums(count):
@@ -79,6 +95,7 @@ def square(count):
 SHAPES = {
     "A2 = A1+1": (chain_down, 1),
     "A1 = A2+1": (chain_up, 1),
+    "A2 = A1+A1": (chain_of_twos, 1),
     "A3 = SUM(A$1:A2)": (running_sums, 1),
     "B1 = SUM(A$1:A1), A1 = A2+1": (sums_of_a_chain, 1),
     "B1 = SUM(A:A), A1 = 2": (sums_of_a_column, 1),
@@ -163,8 +180,25 @@ def components_of(edges):
                     yield sorted(found)
 
 
+def dependents_of(formulas, edges):
+    """The formulas that need A1, themselves or through others."""
+    waits = [[] for _ in edges]
+    for number, own in enumerate(edges):
+        for needed in own:
+            waits[needed].append(number)
+    found = {
+        number for number, (_, _, area) in enumerate(formulas) if area and area[:2] == (1, 1)
+    }
+    ahead = list(found)
+    while ahead:
+        more = set(waits[ahead.pop()]) - found
+        found |= more
+        ahead += more
+    return sorted(found)
+
+
 def wanted_of(formulas, edges):
-    """What `order` and `cycles` print."""
+    """What `order`, `cycles` and `dependents` print."""
     cells = [f"'S'!{reference(*cell)}" for cell, _, _ in formulas]
     order = [number for own in rounds_of(edges) for number in own]
     cycles = [
@@ -176,18 +210,21 @@ def wanted_of(formulas, edges):
         if number not in placed:
             lines.append(f"{cell}\t{'cycle' if number in on_cycle else 'behind'}\n")
     listed = ("\t".join(cells[number] for number in own) + "\n" for own in sorted(cycles))
-    return {"order": "".join(lines).encode(), "cycles": "".join(listed).encode()}
+    needing = (f"{cells[number]}\n" for number in dependents_of(formulas, edges))
+    printed = {"order": lines, "cycles": listed, "dependents": needing}
+    return {word: "".join(each).encode() for word, each in printed.items()}
 
 
-def package(formulas):
-    """The package of a sheet with these formulas."""
+def written(formulas, is_file):
+    """The workbook of a sheet with these formulas, as a file or as a package text."""
     cells = (
         f'<c r="{reference(*cell)}"><f>{text}</f><v>1</v></c>' for cell, text, _ in formulas
     )
-    return package_with((SHEET_NAME, with_data("".join(cells))))
+    parts = [ROOT, RELATIONSHIPS, WORKBOOK, (SHEET_NAME, with_data("".join(cells)))]
+    return archive(parts) if is_file else package_of(parts)
 
 
-def compare(program, name, shape, count):
+def compare(program, name, shape, count, is_file):
     """Compares what is printed of so many formulas, or of as many as Python manages."""
     while True:
         formulas = list(shape(count))
@@ -196,36 +233,51 @@ def compare(program, name, shape, count):
             break
         count //= 2
     wanted = wanted_of(formulas, list(edges_of(formulas)))
-    text = package(formulas)
-    for word, lines in wanted.items():
-        ran = subprocess.run([program, word], input=text, stdout=subprocess.PIPE, check=True)
-        if ran.stdout != lines:
-            sys.exit(f"graph.py: {word} of {len(formulas)} formulas {name} prints other lines")
+    source = written(formulas, is_file)
+    for words in COMMANDS:
+        if words[0] not in wanted:
+            continue
+        ran = subprocess.run([program, *words], input=source, stdout=subprocess.PIPE, check=True)
+        if ran.stdout != wanted[words[0]]:
+            sys.exit(f"graph.py: {words[0]} of {len(formulas)} formulas {name} prints other lines")
     return len(formulas)
 
 
-class Measured:
-    """So many formulas of a shape in a package, and the runs of the commands on it."""
+def counted(words, path):
+    """The millions of instructions of a run, in place of the seconds of processor time."""
+    with open(path, "rb") as source, tempfile.NamedTemporaryFile() as counts:
+        callgrind = ["valgrind", "--tool=callgrind", f"--callgrind-out-file={counts.name}"]
+        given = {"stdin": source, "stdout": subprocess.DEVNULL, "stderr": subprocess.PIPE}
+        ran = subprocess.run([*callgrind, *words], text=True, check=True, **given)
+    return Run(0, int(re.search(r"Collected : (\d+)", ran.stderr)[1]) / 1e6, 0)
 
-    def __init__(self, folder, shape, count):
-        self.path = os.path.join(folder, f"{shape.__name__}-{count}.json")
+
+class Measured:
+    """So many formulas of a shape in a workbook, and the runs of the commands on it."""
+
+    def __init__(self, folder, shape, count, is_file):
+        self.path = os.path.join(folder, f"{shape.__name__}-{count}")
         formulas = list(shape(count))
         self.count = len(formulas)
         with open(self.path, "wb") as file:
-            file.write(package(formulas))
+            file.write(written(formulas, is_file))
         self.runs = {words[0]: [] for words in COMMANDS}
 
-    def run(self, program):
+    def run(self, program, measure):
         for words in COMMANDS:
-            self.runs[words[0]].append(measured([program, *words], self.path))
+            self.runs[words[0]].append(measure([program, *words], self.path))
 
     def best(self, word):
         return each(min, self.runs[word])
 
 
 def row_of(name, compared, whole, double):
-    """A row of the table: seconds, ratios, growth and memory."""
-    cells, precedents, graph, order, cycles = (whole.best(words[0]) for words in COMMANDS)
+    """A row of the table: seconds or instructions, ratios, growth and memory."""
+    cells, precedents, graph, order, cycles, needing = (whole.best(own[0]) for own in COMMANDS)
+    growths = (
+        double.best(word).processor / own.processor
+        for word, own in (("order", order), ("cycles", cycles), ("dependents", needing))
+    )
     return [
         f"`{name}`" if "=" in name else name,
         f"{whole.count:,}",
@@ -234,10 +286,10 @@ def row_of(name, compared, whole, double):
         f"{graph.processor / precedents.processor:.2f}",
         f"{order.processor / cells.processor:.2f}",
         f"{cycles.processor / cells.processor:.2f}",
-        f"{double.best('order').processor / order.processor:.2f}",
-        f"{double.best('cycles').processor / cycles.processor:.2f}",
+        f"{needing.processor / cells.processor:.2f}",
+        *(f"{growth:.2f}" for growth in growths),
         mib(cells.peak),
-        f"{max(graph.peak, order.peak, cycles.peak) / cells.peak:.2f}",
+        f"{max(graph.peak, order.peak, cycles.peak, needing.peak) / max(cells.peak, 1):.2f}",
     ]
 
 
@@ -249,8 +301,10 @@ HEAD = [
     "graph / precedents",
     "order / cells",
     "cycles / cells",
+    "--all / cells",
     "order, growth",
     "cycles, growth",
+    "--all, growth",
     "MiB",
     "ratio",
 ]
@@ -260,20 +314,23 @@ def main():
     parser = argparse.ArgumentParser(description=__doc__)
     parser.add_argument("--formulas", type=int, default=FORMULAS, help="how many are measured")
     parser.add_argument("--shape", choices=SHAPES, action="append", help="these alone")
+    parser.add_argument("--file", action="store_true", help="measure workbook files")
+    parser.add_argument("--instructions", action="store_true", help="count these, once")
     add_repeats(parser, 3)
     add_program(parser)
     asked = parser.parse_args()
     program = program_of(asked)
+    measure, repeats = (counted, 1) if asked.instructions else (measured, asked.repeats)
     rows = []
     with tempfile.TemporaryDirectory() as folder:
         for name in asked.shape or SHAPES:
             shape, part = SHAPES[name]
             count = asked.formulas // part
-            compared = compare(program, name, shape, count)
-            whole, double = (Measured(folder, shape, own) for own in (count, 2 * count))
-            for _ in range(asked.repeats):
-                whole.run(program)
-                double.run(program)
+            compared = compare(program, name, shape, count, asked.file)
+            whole, double = (Measured(folder, shape, own, asked.file) for own in (count, 2 * count))
+            for _ in range(repeats):
+                whole.run(program, measure)
+                double.run(program, measure)
             rows.append(row_of(name, compared, whole, double))
     table(HEAD, rows)
 

@@ -23,7 +23,7 @@ from measure import TOP, add_repeats, measured, mib, table
 
 sys.path.insert(0, str(TOP / "tools"))
 
-from cutting import BUILDS, OUT, UTF_16, found, wanted  # noqa: E402
+from support.cutting import BUILDS, OUT, UTF_16, found, wanted  # noqa: E402
 
 PROGRAM = str(OUT / BUILDS[0])
 MORE = 20

@@ -1,5 +1,5 @@
-"""Runs words and tells, on the open file of a number, how they ended and what they took: the status,
-the seconds that went by, those of processor time and the peak memory in bytes.
+"""Runs words and tells, on the open file of a number, how they ended and what they took: the
+status, the seconds that went by, those of processor time and the peak memory in bytes.
 
 A process counts what the one held that began it. So a script that holds much begins its runs by
 this one, which holds little.

@@ -43,7 +43,8 @@ class Words:
             write_book(self.path, mixes, rows)
 
     def run(self):
-        self.runs.append(measured([str(TOP / "xlsx"), self.path, *self.words], os.devnull, self.lines))
+        command = [str(TOP / "xlsx"), self.path, *self.words]
+        self.runs.append(measured(command, os.devnull, self.lines))
         if self.words[0] == "cells":
             check(self.lines, listing_of(self.mixes[self.words[1]], self.rows))
 

@@ -10,7 +10,7 @@ import tempfile
 
 from measure import Listing, add_program, add_repeats, check, each, measured, mib, program_of, table
 
-from noted import SHEET_NAME, package_with, with_data
+from support.noted import SHEET_NAME, package_with, with_data
 from test_shown import styles_of
 
 ROWS = 200_000

@@ -300,7 +300,7 @@ def records(rows):
 
 
 def goods(first, second, truth):
-    """The rows of LibreOffice's workbook, with its dates and its truth value as they are written."""
+    """The rows of LibreOffice's workbook, with its dates and its boolean as they are written."""
     return records(
         [
             ["name", "amount", "date"],

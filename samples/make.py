@@ -19,7 +19,7 @@ from openpyxl.writer.theme import theme_xml
 HERE = pathlib.Path(__file__).resolve().parent
 sys.path.insert(0, str(HERE.parent / "tools"))
 
-from fixtures import MIXED, MIXED_LINES, archive, relationships, with_sheets
+from support.fixtures import MIXED, MIXED_LINES, archive, relationships, with_sheets
 
 MADE = datetime.datetime(2024, 1, 2, 3, 4, 5)
 
@@ -190,7 +190,7 @@ def tables():
 
 
 # The parts of a pivot table on the second of two sheets, as spreadsheet programs write them: its
-# cache has texts, numbers, a date, truth values and a blank.
+# cache has texts, numbers, a date, booleans and a blank.
 PIVOT = {
     **with_sheets(
         ('name="Data" sheetId="1"', "worksheet"), ('name="Report" sheetId="2"', "worksheet")

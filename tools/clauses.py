@@ -126,7 +126,7 @@ def tests():
         for code in codes_of(crate).values():
             found += words_of_tests(code)
     tools = TOP / "tools"
-    for path in sorted([*tools.glob("test_*.py"), *tools.glob("calls/*.txt")]):
+    for path in sorted([*tools.glob("test_*.py"), *tools.glob("support/calls/*.txt")]):
         if path.stem not in OF_TEXTS:
             found.append((path.relative_to(TOP).as_posix(), set(WORD.findall(text(path)))))
     return found

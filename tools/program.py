@@ -134,8 +134,8 @@ class Program:
                 pass
 
     def run(self, words, source, output):
-        """Runs words on an open file, by its number, and has the lines go to another. The status, and
-        what is said of a refusal."""
+        """Runs words on an open file, by its number, and has the lines go to another. The status,
+        and what is said of a refusal."""
         if self.built is None:
             return self.run_unproved(words, source, output)
         given = {"stdin": source, "stdout": output, "stderr": subprocess.PIPE}

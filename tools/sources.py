@@ -8,7 +8,7 @@ from dataclasses import dataclass, field
 
 TOP = pathlib.Path(__file__).resolve().parent.parent
 # What a crate that is a test, or of use to tests alone, is called.
-OF_TESTS = re.compile(r"(?:worked|test)_\w+")
+OF_TESTS = re.compile(r"tests?_\w+")
 
 WORD = re.compile(r"[A-Za-z_][A-Za-z0-9_]*")
 HEAD = re.compile(r"( *)(?:pub(?:\([^)]*\))? )?(?:const |unsafe )*fn (\w+)")

@@ -6,9 +6,10 @@ its cells.
 import re
 import unittest
 
-from call_tables import BUILDS, LEADING, Case, answers, opened, package, part, tables, written_out
-from fixtures import SALES_LINES
-from noted import SHEET, events_of
+from support.call_tables import BUILDS, LEADING, Case, answers, opened, package, part, tables
+from support.call_tables import written_out
+from support.fixtures import SALES_LINES
+from support.noted import SHEET, events_of
 
 BOOKS = dict(zip(("sales", "extras"), map(dict, tables("books")), strict=True))
 SHEETS = {"sales": "Sales", "extras": "S"}

@@ -1,12 +1,12 @@
 """Tries the calls of the reader on packages that are noted as markup, by the program call_answers.
 
-The rows of the larger tables stand in tools/calls.
+The rows of the larger tables stand in tools/support/calls.
 """
 
 import unittest
 
-from call_tables import LEADING, Case, checked, opened, package, smallest, tables
-from noted import (
+from support.call_tables import LEADING, Case, checked, opened, package, smallest, tables
+from support.noted import (
     RELATIONSHIPS_NAME,
     ROOT,
     SHEET,

@@ -1,10 +1,10 @@
-"""Tries the built program on the data of sheets: where cells stand, what they hold, and why they are
-refused."""
+"""Tries the built program on the data of sheets: where cells stand, what they hold, and why they
+are refused."""
 
 import subprocess
 import unittest
 
-from noted import SHEET_NAME, STRINGS_NAME, package_with, refused, told, with_data
+from support.noted import SHEET_NAME, STRINGS_NAME, package_with, refused, told, with_data
 from test_program import BUILDS, OUT
 
 # The shared strings of each workbook here.
@@ -173,20 +173,20 @@ VALUES = [
     ("the last child that counts", "><is><t>a</t></is><v>1</v>", "A1\tn:1\t-\t-\n"),
     ("a value that says nothing behind one", "><v>1</v><v/>", ""),
     (
-        "a truth value that is none",
+        "a boolean that is none",
         ' t="b"><v>2</v>',
         refused("Unrecognized boolean cell value: 2"),
     ),
-    ("a truth value in capitals", ' t="b"><v>FALSE</v>', "A1\tb:false\t-\t-\n"),
-    ("a truth value between blanks", ' t="b"><v> 1 </v>', "A1\tb:true\t-\t-\n"),
+    ("a boolean in capitals", ' t="b"><v>FALSE</v>', "A1\tb:false\t-\t-\n"),
+    ("a boolean between blanks", ' t="b"><v> 1 </v>', "A1\tb:true\t-\t-\n"),
     (
-        "a truth value between blanks of another script",
+        "a boolean between blanks of another script",
         ' t="b"><v>\u3000tRue\u00a0</v>',
         "A1\tb:true\t-\t-\n",
     ),
-    ("blanks for a truth value", ' t="b"><v>  </v>', ""),
+    ("blanks for a boolean", ' t="b"><v>  </v>', ""),
     (
-        "no truth value, as it is written",
+        "no boolean, as it is written",
         ' t="b"><v> 00</v>',
         refused("Unrecognized boolean cell value:  00"),
     ),
@@ -215,7 +215,8 @@ FORMULAS = [
     ),
     (
         "of an area between the names of another sheet the second corner moves alone",
-        '<row r="1"><c r="A1"><f t="shared" ref="A1:A2" si="0">\'S\'!A1:\'S\'!B2+\u00e9A1+A1:Ende</f>'
+        '<row r="1"><c r="A1"><f t="shared" ref="A1:A2" si="0">'
+        "'S'!A1:'S'!B2+\u00e9A1+A1:Ende</f>"
         '</c></row><row r="2"><c r="A2"><f t="shared" si="0"/></c></row>',
         "A1\t-\t='S'!A1:'S'!B2+\u00e9A1+A1:Ende\t-\nA2\t-\t='S'!A1:'S'!B3+\u00e9A2+A1:Ende\t-\n",
     ),

@@ -16,7 +16,7 @@ WITHOUT_CLAUSES = {
     "Tables::new",
     "ExcelDates::is_datetime",
     "ExcelDates::is_duration",
-    "ExcelDates::is_told",
+    "ExcelDates::has_moment",
     "ExcelDates::to_ymd_hms_milli",
     "ExcelDates::push_iso",
 }

@@ -6,7 +6,7 @@ import itertools
 import subprocess
 import unittest
 
-from computed import COMPARES, OVERFLOW, UNSUPPORTED, number, valued
+from support.computed import COMPARES, OVERFLOW, UNSUPPORTED, number, valued
 from test_formulas_named import formula, sheet
 from test_program import BUILDS, OUT
 from test_rows import cell

@@ -9,7 +9,7 @@ from sources import functions_of
 
 FILES = {
     "crates.txt": "# texts\nplain:\n\n# parts\nxlsx_sections:\nxlsx_core: xlsx_sections\n"
-    "\n# tests\nworked: xlsx_core\n",
+    "\n# tests\ntests_parts: xlsx_core\n",
     "crates/plain/src/lib.rt": """//! Functions of each kind.
 
 ghost use Rattle.std.specs.Prelude.{◌≡◌};
@@ -58,7 +58,7 @@ trait Taken {
     "crates/xlsx_sections/proofs/walk/Answers.antt": "one\n",
     "crates/xlsx_sections/proofs/straight/Answers.antt": "one\n",
     "crates/xlsx_core/proofs/Reads/next/Invariants.antt": "one\ntwo\nthree\nfour\nfive\n",
-    "crates/worked/src/lib.rt": "fn worked() {\n    1\n}\n",
+    "crates/tests_parts/src/lib.rt": "fn tests_parts() {\n    1\n}\n",
     "README.md": "one\n",
     "CONTRIBUTING.md": "one\ntwo\n",
     "docs/FORMAT.md": "one\n\ntwo\n",
@@ -108,7 +108,7 @@ class Counts(unittest.TestCase):
             "     6  lines of documents",
         ):
             self.assertIn(f"{line}\n", f"{text}\n")
-        self.assertNotIn("worked", text)
+        self.assertNotIn("tests_parts", text)
 
 
 if __name__ == "__main__":

@@ -1,10 +1,10 @@
-"""Tries that the program cut_events cuts the parts of the samples as tools/reading/markup.py does."""
+"""Tries that the program cut_events cuts the parts of samples as tools/reading/markup.py does."""
 
 import pathlib
 import unittest
 import zipfile
 
-from cutting import BUILDS, OUT, found, wanted
+from support.cutting import BUILDS, OUT, found, wanted
 
 SAMPLES = pathlib.Path(__file__).resolve().parent.parent / "samples"
 

@@ -8,7 +8,7 @@ import re
 import subprocess
 import unittest
 
-from noted import SHEET_NAME, WORKBOOK, WORKBOOK_NAME, package_with, told, with_data
+from support.noted import SHEET_NAME, WORKBOOK, WORKBOOK_NAME, package_with, told, with_data
 from test_program import BUILDS, OUT
 from test_rows import STYLES, TOO_LARGE, cell, numbers, texts
 from test_samples import WORKBOOKS, package_text

@@ -16,7 +16,7 @@ PROMISES = [TOP / "docs" / "PROMISES.md", TOP / "docs" / "CLAUSES.md"]
 # name in code and in the definitions.
 NEWEST_LIST = "comments"
 # The crates of the bytes of files.
-OF_FILES = r"crates/(?:\w*markup|text_package|cut_events|zip_\w+|\w+_archives?|unpack)/"
+OF_FILES = r"crates/(?:\w*markup|text_package|cut_events|zip_\w+|\w+_archive|unpack)/"
 NEWEST_VALUE = ("DateTimeIso", "iso_time")
 # Documents that tell of each command and list. The others tell of what was chosen and measured.
 OF_EACH = ("ARCHITECTURE", "CLAUSES", "FORMAT", "PROMISES", "USING")
@@ -74,7 +74,7 @@ class Documents(unittest.TestCase):
         cls.words = {word for one in cls.code.values() for word in WORD.findall(one)}
         cls.words |= cls.crates | cls.edits
         for folder in ("tools", "bench", "samples"):
-            for path in (TOP / folder).glob("*.py"):
+            for path in (TOP / folder).glob("**/*.py"):
                 cls.words |= {path.name, path.stem, *WORD.findall(text(path))}
                 cls.tests |= set(re.findall(r"def test_(\w+)", text(path)))
         cls.words |= cls.tests
@@ -118,7 +118,8 @@ class Documents(unittest.TestCase):
 
     def test_every_file_that_a_document_names_is_there(self):
         for document in DOCUMENTS:
-            for found in re.findall(r"\b(?:crates|docs|tools|samples|bench)/[\w./-]*\w", text(document)):
+            path = r"\b(?:crates|docs|tools|samples|bench)/[\w./-]*\w"
+            for found in re.findall(path, text(document)):
                 if not re.search(r"\b(?:NAME|out)\b", found):
                     self.assertTrue((TOP / found).exists(), f"{document.name}: {found}")
             for link in re.findall(r"\]\(([^)#:]+)\)", text(document)):
@@ -150,7 +151,8 @@ class Documents(unittest.TestCase):
             names = QUOTED.findall(spoken)
             calls = [name.split("::")[-1].rstrip("!") for name in names]
             of_calls = {label for call in calls for label in clauses.get(call, ())}
-            labels = {name for name in names if name not in clauses} & set().union(*clauses.values())
+            of_all = set().union(*clauses.values())
+            labels = {name for name in names if name not in clauses} & of_all
             # A clause that is a record has the labels of its fields: "`step` (`TakesStep`): ..".
             held = {own for name in re.findall(r"\(`(\w+)`\): `", cell) for own in fields[name]}
             # A cell that names a type alone speaks of all its calls.
@@ -179,9 +181,11 @@ class Documents(unittest.TestCase):
         for path, code in self.code.items():
             crate, part, *names = path.relative_to(TOP / "crates").parts
             is_beside = part == "proofs" and len(names) > 1
-            if not (re.match("worked_|test_", crate) or path.stem.endswith("tests") or is_beside):
+            is_test = re.match("tests?_", crate) or path.stem.endswith("tests")
+            # A module that passes words on is made.
+            if not (is_test or is_beside or path.name == "Words.antt"):
                 yield path, re.sub(r"^\s*(?://|--).*$", "", code, flags=re.M)
-        for folder in ("tools", "bench", "samples"):
+        for folder in ("tools", "tools/support", "bench", "samples"):
             for path in (TOP / folder).glob("*.py"):
                 if not path.stem.startswith("test_"):
                     yield path, text(path)
@@ -244,7 +248,7 @@ class Documents(unittest.TestCase):
         told = self.told("To add an escape of a line")
         # What is written as markup has escapes of its own.
         places = self.places(f"{coded}|{listed}")
-        places = {path for path in places if not path.startswith("crates/xlsx_out/")}
+        places = {path for path in places if not path.startswith("crates/xlsx_writer/")}
         self.assertEqual(sorted(places), sorted(told))
 
     def test_every_file_that_the_guide_names_is_there(self):

@@ -3,8 +3,8 @@
 import subprocess
 import unittest
 
-from fixtures import SALES, package_text
-from noted import (
+from support.fixtures import SALES, package_text
+from support.noted import (
     RELATIONSHIPS,
     ROOT,
     SHEET_NAME,

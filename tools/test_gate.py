@@ -12,7 +12,7 @@ import time
 import unittest
 import unittest.mock
 
-from front_copy import FILES, TOP
+from support.front_copy import FILES, TOP
 from place import cache_of
 
 LOW = """\
@@ -161,7 +161,7 @@ class Gate(unittest.TestCase):
         xlsx = self.begin_xlsx()
         self.wait_for(self.git / "rt-ci.lock")
         gate = self.begin(RT_CI)
-        # It waits, whether it says so or not: what it does first is to take `out` of each crate away.
+        # It waits, whether it says so or not: it takes `out` of each crate away first.
         left = self.top / "crates" / "low" / "out"
         left.mkdir()
         time.sleep(2)

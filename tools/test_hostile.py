@@ -4,8 +4,8 @@ parts that are nested deep or hold the same again and again."""
 import subprocess
 import unittest
 
-from noted import RELATIONSHIPS, ROOT, SHEET_NAME, STRINGS_NAME, WORKBOOK_NAME, package_with
-from noted import refused, told, with_data
+from support.noted import RELATIONSHIPS, ROOT, SHEET_NAME, STRINGS_NAME, WORKBOOK_NAME, package_with
+from support.noted import refused, told, with_data
 from test_comments import FOUND, NOBODY, ONE
 from test_comments import RELATED as TO_COMMENTS
 from test_pivots import DEFINITIONS, PARTS, RECORDS, ROWS
@@ -214,7 +214,10 @@ OF_PROGRAM = (
     f"<a><TotalTime>{MOST}</TotalTime><TitlesOfParts><vector size='{MOST}'/></TitlesOfParts>"
     "<Company>C</Company></a>",
 )
-OF_USERS = ("docProps/custom.xml", f'<a><property pid="{MOST}" name="n"><i8>{MOST}</i8></property></a>')
+OF_USERS = (
+    "docProps/custom.xml",
+    f'<a><property pid="{MOST}" name="n"><i8>{MOST}</i8></property></a>',
+)
 PROPERTIES = [counted(part, "a") for part in (OF_CORE, OF_PROGRAM, OF_USERS)]
 THEME = counted(
     (

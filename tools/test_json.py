@@ -9,7 +9,7 @@ import unittest
 from decimal import Decimal
 
 from escapes import unescaped
-from noted import SHEET_NAME, package_with, told, with_data
+from support.noted import SHEET_NAME, package_with, told, with_data
 from test_comments import ONE, RELATED
 from test_program import BUILDS, OUT
 from test_rows import STYLES, cell, texts
@@ -42,7 +42,7 @@ CELLS = [
         '{"cell":"A1","type":"text","value":"\\u0001\\u001f\\b\\f"}\n',
     ),
     (
-        "truth values",
+        "booleans",
         cell("A1", "1", ' t="b"') + cell("B1", "0", ' t="b"'),
         '{"cell":"A1","type":"boolean","value":true}\n'
         '{"cell":"B1","type":"boolean","value":false}\n',
@@ -425,7 +425,7 @@ class Json(unittest.TestCase):
         self.check(package, words, two_columns("1"), "the first and the last key")
 
     def test_objects_of_the_samples_have_the_items_of_their_arrays(self):
-        """Each object has the fields of the first record as keys, and the items of its array, or two
+        """Each object has the fields of the first record as keys and the items of its array, or two
         of these fields are equal."""
         for path in WORKBOOKS:
             package = package_text(path)

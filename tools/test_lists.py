@@ -3,7 +3,7 @@
 import subprocess
 import unittest
 
-from noted import (
+from support.noted import (
     RELATIONSHIPS,
     ROOT,
     SHEET,

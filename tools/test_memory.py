@@ -1,5 +1,5 @@
 """Tries that taking cells asks for no memory where nothing of a cell has to be kept: numbers,
-places of shared strings and truth values, and formulas of a group that are told by their index; and
+places of shared strings and booleans, and formulas of a group that are told by their index; and
 that a theme which finds no memory isn't told as the default one.
 
 A program of its own makes five readers and takes the first cells of each, so that their buffers

@@ -4,7 +4,7 @@ how their dates count."""
 import subprocess
 import unittest
 
-from noted import (
+from support.noted import (
     RELATIONSHIPS,
     RELATIONSHIPS_MARKUP,
     RELATIONSHIPS_NAME,

@@ -13,7 +13,7 @@ import unittest
 import zipfile
 from unittest import mock
 
-from fixtures import MINIMAL, SALES, archive, relationships
+from support.fixtures import MINIMAL, SALES, archive, relationships
 from package_text import Refusal, Sheets, workbook_of, write
 
 HERE = pathlib.Path(__file__).resolve().parent

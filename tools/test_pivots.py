@@ -3,8 +3,8 @@
 import subprocess
 import unittest
 
-from noted import RELATIONSHIPS, ROOT, SHEET_NAME, TYPES, WORKBOOK, events_of, package_cut
-from noted import package_of, package_with, refused, related, told, with_data
+from support.noted import RELATIONSHIPS, ROOT, SHEET_NAME, TYPES, WORKBOOK, events_of, package_cut
+from support.noted import package_of, package_with, refused, related, told, with_data
 from test_program import BUILDS, OUT
 
 RELATED = (

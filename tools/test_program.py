@@ -17,7 +17,7 @@ import time
 import unittest
 import zipfile
 
-from fixtures import (
+from support.fixtures import (
     BROKEN_THEME,
     BROKEN_THEME_LINES,
     LINES,
@@ -275,7 +275,8 @@ class Edge:
         for sample in sorted((TOP / "samples").glob("*.xlsx")):
             file = sample.read_bytes()
             with tempfile.TemporaryFile() as text:
-                command = [sys.executable, TOP / "tools" / "reading" / "package_text.py", "--all", sample]
+                reading = TOP / "tools" / "reading" / "package_text.py"
+                command = [sys.executable, reading, "--all", sample]
                 subprocess.run(command, stdout=text, check=True)
                 text.seek(0)
                 data = text.read()
@@ -422,7 +423,11 @@ class Edge:
                 refused(b"Unexpected end of xml, expecting '</styleSheet>'"),
             ),
             (
-                {"xl/workbook.xml": MINIMAL["xl/workbook.xml"].replace("sheetId", 'state="x" sheetId')},
+                {
+                    "xl/workbook.xml": MINIMAL["xl/workbook.xml"].replace(
+                        "sheetId", 'state="x" sheetId'
+                    )
+                },
                 refused(b"Unrecognized sheet:state: x"),
             ),
         ):

@@ -7,7 +7,7 @@ import subprocess
 import unittest
 import zipfile
 
-from noted import SHEET_NAME, WORKBOOK_NAME, package_with, refused, with_data
+from support.noted import SHEET_NAME, WORKBOOK_NAME, package_with, refused, with_data
 from test_formulas_named import formula
 from test_program import BUILDS, OUT, TOP
 from test_rows import cell
@@ -93,7 +93,7 @@ CASES = [
         [],
     ),
     (
-        "truth values",
+        "booleans",
         cell("A1", "1", ' t="b"') + cell("A2", "0", ' t="b"'),
         ["A1\tb:true\t-", "A2\tb:false\t-"],
         [],

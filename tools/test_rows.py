@@ -5,8 +5,8 @@ import io
 import subprocess
 import unittest
 
-from fixtures import SALES, package_text
-from noted import (
+from support.fixtures import SALES, package_text
+from support.noted import (
     RELATIONSHIPS,
     ROOT,
     SHEET_NAME,
@@ -64,7 +64,7 @@ ROWS = [
     ("line ends", texts(A1="a\nb", B1="a_x000D_b", C1="a\tb"), '"a\nb","a\rb",a\tb\n'),
     ("a text of other letters", texts(A1="n\u00fct\U0001f330"), "n\u00fct\U0001f330\n"),
     ("an apostrophe and a semicolon", texts(A1="it's", B1="a;b"), "it's,a;b\n"),
-    ("truth values", cell("A1", "1", ' t="b"') + cell("B1", "0", ' t="b"'), "true,false\n"),
+    ("booleans", cell("A1", "1", ' t="b"') + cell("B1", "0", ' t="b"'), "true,false\n"),
     ("an error", cell("A1", "#N/A", ' t="e"') + cell("B1", "#DIV/0!", ' t="e"'), "#N/A,#DIV/0!\n"),
     ("an ISO date", cell("A1", "2024-01-01", ' t="d"'), "2024-01-01\n"),
     ("numbers", cell("A1", "1E30") + cell("B1", "-10.50") + cell("C1", "0"), "1E30,-10.5,0\n"),

@@ -190,7 +190,7 @@ class Samples(unittest.TestCase):
         self.assertEqual(answer, (0, wanted, b""), (path.name, words))
 
     def test_workbooks_give_their_lines(self):
-        """From the parts that are written without being asked for, in each version, and from all."""
+        """From the parts that are written without being asked for, in each version, and all."""
         self.assertEqual({path.stem for path in SAMPLES.glob("*.lines")}, set(LINES))
         for name, words in LINES.items():
             path = SAMPLES / f"{name.partition('.')[0]}.xlsx"

@@ -1,5 +1,5 @@
-"""Tries ./xlsx where a program that stands in for the real one answers a workbook file, and how other
-programs read what the real one writes."""
+"""Tries ./xlsx where a program that stands in for the real one answers a workbook file, and how
+other programs read what the real one writes."""
 
 import json
 import math
@@ -13,8 +13,8 @@ import unittest
 import zipfile
 
 from escapes import unescaped
-from fixtures import MINIMAL, MIXED, SALES, archive
-from front_copy import TOP, FrontCopy
+from support.fixtures import MINIMAL, MIXED, SALES, archive
+from support.front_copy import TOP, FrontCopy
 
 PROGRAM = TOP / "crates" / "xlsx_tool" / "out" / "xlsx_tool"
 SAMPLES = sorted((TOP / "samples").glob("*.xlsx"))
@@ -48,7 +48,8 @@ for path in sys.argv[1:]:
     for data_only in (True, False):
         (sheet,) = load_workbook(path, data_only=data_only).worksheets
         cells = (cell for row in sheet.iter_rows() for cell in row)
-        found.append({cell.coordinate: told(cell.value) for cell in cells if cell.value is not None})
+        used = (cell for cell in cells if cell.value is not None)
+        found.append({cell.coordinate: told(cell.value) for cell in used})
     books.append(found)
 print(json.dumps(books))
 """

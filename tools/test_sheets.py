@@ -4,7 +4,7 @@ found by their names."""
 import subprocess
 import unittest
 
-from noted import (
+from support.noted import (
     RELATIONSHIPS,
     RELATIONSHIPS_MARKUP,
     RELATIONSHIPS_NAME,

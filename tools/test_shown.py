@@ -1,5 +1,5 @@
 """Tries the built program on the rows of a sheet as its cells show them. The codes, the values and
-their texts are those of the table in crates/worked_shown."""
+their texts are those of the table in crates/tests_values."""
 
 import csv
 import html
@@ -8,13 +8,13 @@ import pathlib
 import subprocess
 import unittest
 
-from noted import SHEET_NAME, STRINGS_NAME, package_with, with_data
+from support.noted import SHEET_NAME, STRINGS_NAME, package_with, with_data
 from test_dates import DATED
 from test_program import BUILDS, OUT
 from test_rows import cell, texts
 from test_tables import RELATED, TABLE_NAME, table
 
-TABLE = pathlib.Path(__file__).resolve().parent.parent / "crates/worked_shown/src/text_tests.rt"
+TABLE = pathlib.Path(__file__).resolve().parent.parent / "crates/tests_values/src/shown_tests.rt"
 
 # A workbook reads a number under a code of dates as a date, and this one shows the two otherwise.
 NUMBERS_ALONE = ["[$-407]d. mmmm yyyy"]
@@ -40,7 +40,7 @@ REFUSED = [
 STRINGS = (STRINGS_NAME, "<sst><si><t>nut</t></si><si><t>bolt</t></si></sst>")
 
 
-def worked_rows():
+def shown_rows():
     """The codes of the table, each with a value and the text that is shown of it."""
     text = TABLE.read_text(encoding="utf-8")
     table = text.split('const SHOWN: &str = r##"\n')[1].split('"##;')[0]
@@ -145,7 +145,7 @@ OF_TABLES = [
         "Name,Qty\n5,12345678902\n,\n",
     ),
     (
-        "texts, a truth value and an error",
+        "texts, a boolean and an error",
         ['"<"@">"'],
         '<c r="A2" t="s"><v>1</v></c>' + cell("B2", "1", ' t="b"') + cell("A3", "#N/A", ' t="e"'),
         "Name,Qty\n<bolt>,<TRUE>\n#N/A,\n",
@@ -177,12 +177,13 @@ class Shown(unittest.TestCase):
         for prefix, parts in (("", ()), ("1904:", (DATED,))):
             rows = [
                 (code.removeprefix("1904:"), value, text)
-                for code, value, text in worked_rows()
+                for code, value, text in shown_rows()
                 if code.startswith("1904:") == bool(prefix)
                 and (code not in NUMBERS_ALONE or value.startswith("days:"))
             ]
             tried += len(rows)
-            data = "".join(cell_of(row, value, row - 1) for row, (_, value, _) in enumerate(rows, 1))
+            values = enumerate((value for _, value, _ in rows), 1)
+            data = "".join(cell_of(row, value, row - 1) for row, value in values)
             package = package_with(
                 (SHEET_NAME, with_data(data)), styles_of([code for code, _, _ in rows]), *parts
             )
@@ -216,7 +217,8 @@ class Shown(unittest.TestCase):
         self.check(package, ["csv", "S", "--shown"], (0, wanted, b""), "built-in formats")
 
     def test_options_of_rows_stand_beside_it(self):
-        package = package_with((SHEET_NAME, with_data(cell("B2", "1234.5"))), styles_of(["#,##0.00"]))
+        sheet = (SHEET_NAME, with_data(cell("B2", "1234.5")))
+        package = package_with(sheet, styles_of(["#,##0.00"]))
         words = ["--delimiter=;", "--shown", "--crlf", "--bom", "--from-a1"]
         wanted = b"\xef\xbb\xbf;\r\n;1,234.50\r\n"
         for options in (words, words[::-1]):

@@ -1,12 +1,15 @@
 """Tries the sources for what no clause can say: where want of memory is told of, where memory is
 asked for by a number, and what bounds that, that each public type with `==` or copies has its law,
-that functions and files are short enough to be read, and that each example in a doc comment is
-code."""
+that functions and files are short enough to be read, that each word is defined once and imported
+from where its crate passes it on, and that each example in a doc comment is code."""
 
 import re
 import unittest
+from collections import defaultdict
 
 from counts import FILE_LINES, FUNCTION_LINES
+from definitions import definitions
+from imports import changes
 from sources import OF_TESTS, TOP, exported, functions_of, in_clauses, text
 
 # Where want of memory is told of beside the conversions from the kit's own, and why it can be
@@ -36,10 +39,10 @@ TOLD = {
     ("xlsx_core/worksheet_list.rt", "ends_listing", 1): "it is asked for",
     ("xlsx_error/error.rt", "fmt", 1): "its text",
     ("xlsx_error/error.rt", "from", 2): PASSED_ON,
-    ("xlsx_rows/error.rt", "fmt", 1): "its text",
-    ("xlsx_rows/record.rt", "end_record", 1): OF_WRITER,
-    ("xlsx_rows/record.rt", "write_bytes", 1): OF_WRITER,
-    ("xlsx_rows/rows.rt", "written_rows", 1): OF_WRITER,
+    ("csv_rows/error.rt", "fmt", 1): "its text",
+    ("csv_rows/record.rt", "end_record", 1): OF_WRITER,
+    ("csv_rows/record.rt", "write_bytes", 1): OF_WRITER,
+    ("csv_rows/rows.rt", "written_rows", 1): OF_WRITER,
     ("zip_archive/opening.rt", "inflated_of_size", 1): PASSED_ON,
     ("xlsx_sections/decode.rt", "decode_at", 1): PASSED_ON,
     ("xlsx_sections/decode.rt", "push_text_at", 1): PASSED_ON,
@@ -47,7 +50,7 @@ TOLD = {
     ("xlsx_tool/run.rt", "package_from", 1): PASSED_ON,
 }
 
-# Where memory is asked for by a number, and what bounds that number: what is held or written already,
+# Where memory is asked for by a number, and what bounds that: what is held or written already,
 # or a constant. None is what a file says of itself.
 OF_TEXT = "the bytes of the text that is appended"
 OF_EVENTS = "the texts of the event that is kept, and one or two events"
@@ -194,7 +197,8 @@ class Sources(unittest.TestCase):
     def test_memory_is_asked_for_by_a_number_in_these_places_alone(self):
         self.assertEqual(places(asking_places_of), set(RESERVED))
         body = "fn wide(count: u32) -> Result<(), AllocError> {\n    %s\n}\n"
-        for made in ("Vec::with_capacity(alloc, n)?", "out.reserve(n)?", "out.try_reserve_exact(n)"):
+        asked = ("Vec::with_capacity(alloc, n)?", "out.reserve(n)?", "out.try_reserve_exact(n)")
+        for made in asked:
             self.assertEqual(asking_places_of("x.rt", body % made), {("x.rt", "wide", 1)}, made)
         for plain in ("out.push(n)?", "// out.reserve(n)", "let reserve = n;"):
             self.assertEqual(asking_places_of("x.rt", body % plain), set(), plain)
@@ -206,6 +210,15 @@ class Sources(unittest.TestCase):
         for plain in ("Ok(())", "take(row)?;\n    // Err(AllocError)", "let a: AllocError = b;"):
             self.assertEqual(places_of("x.rt", body % plain), set(), plain)
 
+    def test_imports_are_as_short_as_they_can_be(self):
+        self.assertEqual([path.relative_to(TOP).as_posix() for path, _ in changes()], [])
+
+    def test_a_word_is_defined_once(self):
+        found = defaultdict(set)
+        for own in definitions():
+            found[own.name].add(own.path.as_posix())
+        self.assertEqual({name: paths for name, paths in found.items() if len(paths) > 1}, {})
+
     def test_functions_and_files_are_short(self):
         found = []
         for folder in crates():
@@ -214,7 +227,8 @@ class Sources(unittest.TestCase):
                 name = f"{folder.name}/{path.name}"
                 self.assertLessEqual(len(code.splitlines()), FILE_LINES, name)
                 if not path.stem.endswith("tests"):
-                    own_lines = [(own.name, own.head + (own.body or 0)) for own in functions_of(code)]
+                    functions = functions_of(code)
+                    own_lines = [(own.name, own.head + (own.body or 0)) for own in functions]
                     found += [(name, *own) for own in own_lines]
         self.assertGreater(len(found), 1500)
         self.assertEqual([own for own in found if own[-1] > FUNCTION_LINES], [])

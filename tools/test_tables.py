@@ -3,8 +3,9 @@
 import subprocess
 import unittest
 
-from noted import RELATIONSHIPS, ROOT, SHEET_NAME, WORKBOOK, events_of, package_cut, package_of
-from noted import package_with, refused, related, told, with_data
+from support.noted import RELATIONSHIPS, ROOT, SHEET_NAME, WORKBOOK, events_of, package_cut
+from support.noted import package_of
+from support.noted import package_with, refused, related, told, with_data
 from test_program import BUILDS, OUT
 
 RELATED_NAME = "xl/worksheets/_rels/sheet1.xml.rels"
@@ -41,9 +42,19 @@ TABLES = [
     ("one row of data", table(ref="A1:B3"), "T1\tS\tA2:B2\tName\tQty\n", "A2\ts:nut\nB2\tn:3\n"),
     ("one column", table(ref="B1:B4", columns=["Qty"]), "T1\tS\tB2:B3\tQty\n", "B2\tn:3\n"),
     ("no column", table(columns=[]), "T1\tS\tA2:B3\n", "A2\ts:nut\nB2\tn:3\n"),
-    ("columns with escapes", table(columns=["a&amp;b", "_x000a_"]), "T1\tS\tA2:B3\ta&b\t_x000a_\n", None),
+    (
+        "columns with escapes",
+        table(columns=["a&amp;b", "_x000a_"]),
+        "T1\tS\tA2:B3\ta&b\t_x000a_\n",
+        None,
+    ),
     ("an area behind the values", table(ref="D1:E4"), "T1\tS\tD2:E3\tName\tQty\n", ""),
-    ("a count that is no number", table('totalsRowCount="+1"'), refused("Parse integer error: +1"), None),
+    (
+        "a count that is no number",
+        table('totalsRowCount="+1"'),
+        refused("Parse integer error: +1"),
+        None,
+    ),
     ("no table", "<x/>", NO_END, None),
     ("a table that is cut", '<table displayName="T1" ref="A1:B4"><tableColumns>', NO_END, None),
 ]

@@ -9,9 +9,9 @@ import unittest
 import zipfile
 import zlib
 
-from cutting import cut
+from support.cutting import cut
 from escapes import unescaped
-from fixtures import BROKEN_THEME, LISTED, MINIMAL, MIXED, SALES, archive, relationships
+from support.fixtures import BROKEN_THEME, LISTED, MINIMAL, MIXED, SALES, archive, relationships
 from place import OF_GATE
 from words import A_TABLE, AS_JSON, COMMANDS, ROWS_AS_JSON
 

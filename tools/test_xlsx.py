@@ -13,8 +13,8 @@ import time
 import unittest
 import zlib
 
-from fixtures import LINES, MINIMAL, archive, package_text
-from front_copy import TOP, FrontCopy
+from support.fixtures import LINES, MINIMAL, archive, package_text
+from support.front_copy import TOP, FrontCopy
 from words import COMMANDS, USAGE, is_of_sheet
 
 PROGRAM = TOP / "crates" / "xlsx_tool" / "out" / "xlsx_tool"
@@ -329,7 +329,10 @@ class Wrapper(FrontCopy):
             (["cells", "--sheet", "0"], f"{number} '0'"),
             (["cells", "--sheet", "x"], f"{number} 'x'"),
             (["cells", b"\xff"], "'\\udcff' isn't UTF-8"),
-            (["--unproved", "book.xlsx", "cell", "S"], f"{no_command} 'cell': the nearest is cells"),
+            (
+                ["--unproved", "book.xlsx", "cell", "S"],
+                f"{no_command} 'cell': the nearest is cells",
+            ),
             (["book.xlsx", "list"], "there is no command 'list': the nearest is links"),
             (["book.xlsx", "cells", "--", "S", "--sheet"], f"cells takes {sheet}: {quotes}"),
             (["book.xlsx", "cells", "S", "--sheet", "2"], f"cells takes {sheet}"),
@@ -745,7 +748,8 @@ class Wrapper(FrontCopy):
             ["graph", "--json"],
         ):
             with self.subTest(words=words):
-                ran = subprocess.run([PROGRAM, *words], stdin=subprocess.DEVNULL, capture_output=True)
+                empty = subprocess.DEVNULL
+                ran = subprocess.run([PROGRAM, *words], stdin=empty, capture_output=True)
                 self.assertEqual(self.run_on(*words)[0] == 2, ran.returncode == 2)
 
     def test_the_program_reads_a_workbook_file(self):

@@ -385,7 +385,7 @@ class Workbook:
     def fits(self, names):
         """Whether the text of parts can be short enough, for all that the archive says of their
         sizes. What is too large is told so before it is cut."""
-        # Of an element with nothing in it version 2 has the name once, and markup may have it twice.
+        # Of an element with nothing in it version 2 has the name once, and markup perhaps twice.
         most = self.limit if self.version == 1 else 2 * self.limit
         if sum(self.entries[name].file_size for name in names) <= most:
             return True
@@ -484,7 +484,7 @@ def write(path, is_all, limit, descriptor, sheets=Sheets.ALL, version=2):
 
 
 def parser_of(description, statuses):
-    """What reads the words of a command line. No script that has its words needs what this takes."""
+    """What reads the words of a command line. No script that has its words needs this."""
     import argparse
 
     class Parser(argparse.ArgumentParser):

@@ -1,16 +1,16 @@
-"""What tools/reading/markup.py and the program cut_events cut the bytes of a part into, as the lines
-that the latter prints."""
+"""What tools/reading/markup.py and the program cut_events cut the bytes of a part into, as the
+lines that the latter prints."""
 
 import json
 import pathlib
 import re
 import subprocess
 
-import fixtures  # noqa: F401, by which tools/reading is found
+import support.fixtures  # noqa: F401, by which tools/reading is found
 import markup
 from escapes import escaped
 
-TOP = pathlib.Path(__file__).resolve().parent.parent
+TOP = pathlib.Path(__file__).resolve().parent.parent.parent
 OUT = TOP / "crates" / "cut_events" / "out"
 # The gate builds the program twice, by two compilers.
 BUILDS = ["cut_events", "cut_events.by-rattle"]

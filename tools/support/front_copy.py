@@ -7,9 +7,9 @@ import subprocess
 import tempfile
 import unittest
 
-from fixtures import MINIMAL, archive
+from support.fixtures import MINIMAL, archive
 
-TOP = pathlib.Path(__file__).resolve().parent.parent
+TOP = pathlib.Path(__file__).resolve().parent.parent.parent
 
 # Takes the words `cells NAME`, prints them and its input's size, and ends with the status NAME.
 STAND_IN = """\

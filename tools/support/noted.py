@@ -1,4 +1,4 @@
-"""Packages of parts whose markup may hold events that no markup spells, as crates/test_packages has.
+"""Packages of parts whose markup may hold events that no markup spells, as in crates/test_packages.
 
 A tag that begins with `!` is such an event: `<!>` nests nothing and says nothing, `<!text>` is an
 empty text, `<!data>` the character data `x`, `<!flaw>` a flaw, and any other a reference of that

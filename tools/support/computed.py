@@ -1,8 +1,8 @@
 """What a formula comes to by the values of its cells, read anew from its definition and slowly: a
 formula is split at its last operator (docs/FORMAT.md, `check`).
 
-A number is a pair of integers, a mantissa and a power of ten. What isn't a number or a truth value
-is `UNSUPPORTED`; a number or a truth value that is past the limits is `OVERFLOW` with its kind.
+A number is a pair of integers, a mantissa and a power of ten. What isn't a number or a boolean
+is `UNSUPPORTED`; a number or a boolean that is past the limits is `OVERFLOW` with its kind.
 """
 
 from fractions import Fraction

@@ -7,10 +7,10 @@ import subprocess
 from dataclasses import dataclass
 
 from escapes import unescaped
-from noted import RELATIONSHIPS, ROOT, SMALLEST, TYPES, WORKBOOK, events_of
+from support.noted import RELATIONSHIPS, ROOT, SMALLEST, TYPES, WORKBOOK, events_of
 
-TOP = pathlib.Path(__file__).resolve().parent.parent
-TABLES = TOP / "tools" / "calls"
+TOP = pathlib.Path(__file__).resolve().parent.parent.parent
+TABLES = TOP / "tools" / "support" / "calls"
 OUT = TOP / "crates" / "call_answers" / "out"
 # The gate builds the program twice, by two compilers.
 BUILDS = ["call_answers", "call_answers.by-rattle"]

@@ -6,7 +6,7 @@ import pathlib
 import sys
 import zipfile
 
-READING = pathlib.Path(__file__).resolve().parent / "reading"
+READING = pathlib.Path(__file__).resolve().parent.parent / "reading"
 sys.path.insert(0, str(READING))
 
 from markup import events, spelled  # noqa: E402
@@ -78,7 +78,8 @@ LISTED["xl/worksheets/sheet1.xml"] = LISTED["xl/worksheets/sheet1.xml"].replace(
 # The markup of the package that is shipped in crates/xlsx_tool, as a spreadsheet program writes it.
 SALES = {
     **with_rows(
-        '<row r="1" spans="1:3"><c r="A1" s="1" t="s"><v>0</v></c><c r="B1" s="1" t="s"><v>1</v></c>'
+        '<row r="1" spans="1:3"><c r="A1" s="1" t="s"><v>0</v></c>'
+        '<c r="B1" s="1" t="s"><v>1</v></c>'
         '<c r="C1" s="1" t="s"><v>2</v></c></row>'
         '<row r="2"><c r="A2" s="2"><v>45292</v></c><c r="B2"><v>10.5</v></c>'
         '<c r="C2"><f t="shared" ref="C2:C3" si="0">SUM(B$2:B2)</f><v>10.5</v></c></row>'
