@@ -1,11 +1,13 @@
 """Tries the built program on what formulas name in the whole workbook, on their order, their cycles
 and what needs a cell."""
 
+import random
 import re
 import subprocess
 import unittest
 
 from support.fixtures import with_sheets
+from support.graphs import Graph, has, reference
 from support.noted import RELATIONSHIPS, WORKBOOK, package_of, refused, related, told, with_data
 from test_formulas_named import formula
 from test_program import BUILDS, OUT
@@ -212,6 +214,7 @@ NAMED = [
 
 AREA = re.compile(r"'S'(?::'\w+')?!([A-Z]+)(\d+):([A-Z]+)(\d+)")
 KNOWN = ("?external", "?gone")
+LAST_ROW = 1_048_576
 
 
 def numbered(letters):
@@ -239,6 +242,45 @@ def doubling(last):
     return "".join([*each, name_of("N50_", last)])
 
 
+def area_of(chance, side):
+    """A cell, a rectangle or a whole column of a square with a side, or of what lies beside it."""
+    top, bottom = sorted(chance.choices(range(1, side + 2), k=2))
+    left, right = sorted(chance.choices(range(1, side + 2), k=2))
+    areas = [(top, left, top, left), (top, left, bottom, right), (1, left, LAST_ROW, left)]
+    return chance.choices(areas, [6, 4, 1])[0]
+
+
+def formulas_of(chance):
+    """The cells of some formulas in a square, row by row, and the areas that each names."""
+    side = chance.randint(1, 7)
+    square = [(row, column) for row in range(1, side + 1) for column in range(1, side + 1)]
+    cells = sorted(chance.sample(square, chance.randint(1, min(24, len(square)))))
+    counts = chance.choices([0, 1, 2], [2, 5, 1], k=len(cells))
+    return cells, [[area_of(chance, side) for _ in range(count)] for count in counts]
+
+
+def text_of(areas):
+    """A formula that names areas."""
+    return "+".join(["1", *(f"{reference(own[:2])}:{reference(own[2:])}" for own in areas)])
+
+
+def by_edges(cells, named, cell):
+    """The rounds, the cycles and what needs a cell, as they are defined, by edges."""
+    numbers = range(len(cells))
+    edges = [{n for n in numbers if any(has(area, cells[n]) for area in own)} for own in named]
+    rounds, ready = {}, True
+    while ready:
+        ready = [n for n in numbers if n not in rounds and edges[n] <= rounds.keys()]
+        rounds.update(dict.fromkeys(ready, max(rounds.values(), default=-1) + 1))
+    reached, before = edges, None
+    while reached != before:
+        reached, before = [own.union(*(reached[n] for n in own)) for own in reached], reached
+    cycles = {tuple(n for n in numbers if {m, n} <= reached[m] & reached[n]) for m in numbers}
+    asking = {n for n in numbers if any(has(area, cell) for area in named[n])}
+    needing = [n for n in numbers if n in asking or asking & reached[n]]
+    return rounds, sorted(list(cycle) for cycle in cycles if cycle), needing
+
+
 class Graphs(unittest.TestCase):
     def check(self, package, words, wanted, shown, builds=BUILDS):
         for build in builds:
@@ -250,6 +292,25 @@ class Graphs(unittest.TestCase):
             self.check(WORKED, words, wanted, words)
         for words in OTHER_WORDS:
             self.check(WORKED, words, USAGE, words)
+
+    def test_areas_tell_what_edges_tell(self):
+        chance = random.Random(1)
+        for _ in range(1000):
+            cells, named = formulas_of(chance)
+            graph = Graph(cells, named)
+            for cell in ((1, 1), cells[-1]):
+                found = graph.rounds, graph.cycles, graph.dependents(cell)
+                self.assertEqual(found, by_edges(cells, named, cell), (cells, named))
+
+    def test_formulas_that_name_areas_have_their_lines(self):
+        chance = random.Random(2)
+        for _ in range(40):
+            cells, named = formulas_of(chance)
+            own = (formula(reference(cell), text_of(areas)) for cell, areas in zip(cells, named))
+            package = book(("S", "".join(own)))
+            for word, lines in Graph(cells, named).lines().items():
+                words = [word, "S", "A1", "--all"] if word == "dependents" else [word]
+                self.check(package, words, lines, (word, cells, named))
 
     def test_words_are_looked_up_in_the_workbook(self):
         for text, fields in NAMED:
