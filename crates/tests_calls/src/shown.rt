@@ -1,11 +1,12 @@
 //! Calls of an open workbook, one or two in each function, and what is done with their answers.
 
 ghost use Rattle.std.specs.Prelude.{◌≡◌, ◌==◌, true, None, Ok, Some, List, length, map, IfOk};
-ghost use Rattle.std.specs.Prelude.{IfErr, IfSome, option_map, string_bytes};
+ghost use Rattle.std.specs.Prelude.{IfErr, IfSome, IsSomeAnd, option_map, string_bytes};
 ghost use Rattle.std.specs.Arc.{arc_str_bytes};
 ghost use Rattle.std.specs.List.{flat_map};
 ghost use Rattle.cell_data.specs.Words.{cells_of, bounds_of, height_of, width_of};
 ghost use Rattle.cell_styles.specs.Words.{style_at};
+ghost use Rattle.looks.specs.Words.{look_said};
 ghost use Rattle.xlsx_areas.specs.Hyperlinks.{link_said};
 ghost use Rattle.xlsx_core.specs.Words.{OpensInto, named_comments_ask, all_formulas_ask};
 ghost use Rattle.xlsx_core.specs.Words.{links_placed, PlacedLinksFail, AreListed, sheets_of_book};
@@ -16,7 +17,7 @@ ghost use Rattle.xlsx_cells.specs.Words.{values_alone, formulas_alone, styles_al
 ghost use Rattle.xlsx_open.specs.Words.{OpeningFails};
 ghost use Rattle.xlsx_pivot_cache.specs.Words.{row_kept};
 ghost use Rattle.xlsx_pivots.specs.Words.{PivotSaid, pivots_ask};
-ghost use Rattle.xlsx_properties.specs.Parts.{property_said, PropertiesCause};
+ghost use Rattle.xlsx_properties.specs.Parts.{PropertiesCause, properties_look};
 ghost use Rattle.xlsx_sections.specs.Words.{FailsBy, SoundFails};
 ghost use Rattle.tests_calls.specs.Shown.{Shows, fill_color_of, comment_texts_in, IsFirstCell};
 ghost use Rattle.tests_calls.specs.Shown.{IsFirstRow};
@@ -160,8 +161,8 @@ pub fn link_count<P: Package>(xlsx: &mut Xlsx<P>, name: &str) -> Result<usize, X
 /// The title of the workbook, where it has one.
 pub fn title<P: Package>(alloc: Global, xlsx: &mut Xlsx<P>) -> Result<Option<String>, XlsxError>
     ensures ok { xlsx.old.workbook.lists.properties ≡ None → xlsx.old.xml.source.is_visible ≡ true →
-        IfOk result (λ title. property_said xlsx.old.xml.source.parts Property.Title
-        ≡ Ok (option_map string_bytes title)) }
+        IfOk result (λ title. IsSomeAnd (look_said properties_look xlsx.old.xml.source.parts)
+        (λ said. said.texts Property.Title ≡ option_map string_bytes title)) }
     ensures err { IfErr result (FailsBy (PropertiesCause xlsx.old.xml.source.parts)
         xlsx.old.xml.source xlsx.new.xml.source) }
 {

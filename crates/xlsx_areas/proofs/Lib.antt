@@ -3,4 +3,3 @@ pub mod LinksBeside
 pub mod LinksRead
 pub mod MergesRead
 pub mod SoundLinks
-pub mod SoundMerges

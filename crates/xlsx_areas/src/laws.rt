@@ -5,8 +5,9 @@ ghost use Rattle.cell_refs.specs.declared.dimensions.Dimensions.{Dimensions};
 ghost use Rattle.part_events.specs.Words.{Event, Part, part_of};
 ghost use Rattle.xlsx_error.specs.declared.error.XlsxError.{XlsxError};
 ghost use Rattle.xlsx_parts.specs.Words.{SheetPath, IfThere};
+ghost use Rattle.looks.specs.Words.{look_said, LookCause};
 ghost use Rattle.xlsx_relationships.specs.Words.{LinkTarget, link_targets, LinkTargetsCause};
-ghost use Rattle.xlsx_relationships.specs.Words.{related_parts, RelatedCause};
+ghost use Rattle.xlsx_relationships.specs.Words.{related_look};
 ghost use Rattle.xlsx_areas.specs.Hyperlinks.{Link, links_at};
 ghost use Rattle.xlsx_areas.specs.LinkErrors.{SheetLinksCause};
 ghost use Rattle.xlsx_areas.specs.MergeErrors.{MergesCause, RegionsCause};
@@ -37,8 +38,8 @@ pub fn links_have_no_cause_of_a_refusal()
 /// type are sought nor where links are.
 pub fn targets_have_no_cause_of_a_refusal()
     ensures related { (parts : List Part) (wanted path : List ℕ) (found : List (List ℕ))
-        (error : XlsxError) → related_parts parts wanted path ≡ Some found →
-        RelatedCause parts wanted path error → ⊥ }
+        (error : XlsxError) → look_said (related_look wanted path) parts ≡ Some found →
+        LookCause (related_look wanted path) parts error → ⊥ }
     ensures links { (parts : List Part) (path : List ℕ) (found : List LinkTarget)
         (error : XlsxError) → link_targets parts path ≡ Some found →
         LinkTargetsCause parts path error → ⊥ }

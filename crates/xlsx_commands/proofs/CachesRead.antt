@@ -25,7 +25,7 @@ use Rattle.xlsx_commands.specs.declared.error.ToolError.{ToolError}
 use Rattle.xlsx_commands.specs.declared.error.ToolError.TheVariants.{Workbook}
 use Rattle.xlsx_commands.proofs.MemoryCalls.{IsInMemory, memory_fails}
 use Rattle.xlsx_commands.proofs.NamedSheets.{OpeningsNever}
-use Rattle.xlsx_commands.proofs.PivotsListed.{PivotsNever, pivots_never}
+use Rattle.xlsx_commands.proofs.PivotsListed.{pivots_never}
 use Rattle.xlsx_commands.proofs.SheetsOpened.{IsNotMissing, same_sheets}
 
 -- a workbook whose pivot tables aren't found has no rows of one
@@ -167,23 +167,23 @@ cache_never parts sheet name definitions records rows error never has read why =
     (subst (λ (own : List ℕ). CacheCause parts own why.records error) same.0 why.cause))
 
 either_never : (parts : List Part) (sheet name definitions records : List ℕ)
-    (rows : List (List CellValue)) (error : XlsxError) → OpeningsNever → PivotsNever
-    → CachesNever → HasCache parts sheet name definitions records
+    (rows : List (List CellValue)) (error : XlsxError) → OpeningsNever → CachesNever
+    → HasCache parts sheet name definitions records
     → cache_rows parts definitions records ≡ Some rows
     → ListedPivotsCause parts error ⊎ HasCacheCause parts sheet name error → ⊥
-either_never parts sheet name definitions records rows error opened found never has read
-    (inl cause) = pivots_never parts has.pivots error opened found has.has cause
-either_never parts sheet name definitions records rows error opened found never has read
+either_never parts sheet name definitions records rows error opened never has read
+    (inl cause) = pivots_never parts has.pivots error opened has.has cause
+either_never parts sheet name definitions records rows error opened never has read
     (inr cause) = cache_never parts sheet name definitions records rows error never has read cause
 
 pub rows_never_refused : (parts : List Part) (sheet name definitions records : List ℕ)
-    (rows : List (List CellValue)) (error : XlsxError) → OpeningsNever → PivotsNever
-    → CachesNever → HasCache parts sheet name definitions records
+    (rows : List (List CellValue)) (error : XlsxError) → OpeningsNever → CachesNever
+    → HasCache parts sheet name definitions records
     → cache_rows parts definitions records ≡ Some rows → NamedPivotCause parts sheet name error
     → ⊥
 rows_never_refused parts sheet name definitions records rows (workbook.PivotTableNotFound asked)
-    opened found never has read cause =
+    opened never has read cause =
     lacks_never parts sheet name definitions records has cause.1
-rows_never_refused parts sheet name definitions records rows error opened found never has read
-    cause = either_never parts sheet name definitions records rows error opened found never has
+rows_never_refused parts sheet name definitions records rows error opened never has read
+    cause = either_never parts sheet name definitions records rows error opened never has
     read cause

@@ -1,7 +1,7 @@
 -- The formulas of a workbook that opened with what they name, and why they aren't had.
 use Rattle.std.proofs.Common.{◌≡◌, ◌⊎◌, inl, inr, ◌∙◌, ap, sym, subst, refl, ℕ, List, [], ◌∷◌, ◌+◌}
 use Rattle.std.proofs.Common.{true, false, Bool, Option, Some, None, map, String, Global}
-use Rattle.std.specs.Prelude.{string_bytes, if◌then◌else◌, IsSome, option_map}
+use Rattle.std.specs.Prelude.{string_bytes, if◌then◌else◌, IsSome}
 use Rattle.std.specs.List.{position_from}
 use Rattle.std.specs.Str.{bytes_eq}
 use Rattle.book_names.specs.Book.{Book}
@@ -15,20 +15,17 @@ use Rattle.part_events.specs.Words.{Part, PackageState, SameParts}
 use Rattle.xlsx_error.specs.declared.error.XlsxError.{XlsxError}
 use Rattle.xlsx_error.specs.declared.error.XlsxError.TheVariants as workbook
 use Rattle.xlsx_graph.specs.Words.{is_too_large, GraphFormula, all_dependents_lines}
-use Rattle.xlsx_parts.specs.Words.{put_together, SheetPath, sheet_at}
-use Rattle.xlsx_parts.proofs.ManySaid.{no_some_cause}
+use Rattle.xlsx_parts.specs.Words.{SheetPath}
+use Rattle.looks.proofs.Sound.{said_has_no_cause}
 use Rattle.xlsx_tables.specs.TableParts.{TableSaid}
-use Rattle.xlsx_tables.specs.Tables.{tables_at, table_of_sheet, table_on_sheet, TablesAtCause}
 use Rattle.xlsx_workbook.specs.Words.{pair_of, workbook_part, PlacedSheet}
 use Rattle.xlsx_workbook.specs.declared.name_scope.NameScope.{NameScope}
 use Rattle.xlsx_workbook.specs.declared.sheet.Sheet.{Sheet}
 use Rattle.xlsx_open.specs.Words.{Opening, OpensAs, HasScopes, ListedSheet, listed_sheet}
 use Rattle.xlsx_open.specs.Words.{without_path, scopes_at, OpeningCause, OpeningFails}
 use Rattle.xlsx_open.proofs.Sound.{same_path}
-use Rattle.xlsx_core.specs.Words.{IsWorkbookOf, FormulaSaid, FormulasCause, NumberedSheet}
-use Rattle.xlsx_core.specs.Words.{sheets_from, workbook_formulas, sheets_of_book}
-use Rattle.xlsx_core.specs.Words.{NumberedTablesCause, numbered_tables, numbered_tables_on}
-use Rattle.xlsx_core.specs.Words.{path_named}
+use Rattle.xlsx_core.specs.Words.{IsWorkbookOf, FormulaSaid, FormulasCause, all_numbered_look}
+use Rattle.xlsx_core.specs.Words.{workbook_formulas, sheets_of_book, numbered_tables, path_named}
 use Rattle.xlsx_core.specs.declared.xlsx.Xlsx.{Xlsx}
 use Rattle.xlsx_core.proofs.SheetLaws.{are_alike}
 use Rattle.xlsx_commands.specs.GraphLists.{AreAllDependents, DependentsPathCause, HasGraph}
@@ -46,7 +43,6 @@ use Rattle.xlsx_commands.proofs.MemoryCalls.{IsInMemory, memory_fails}
 use Rattle.xlsx_commands.proofs.NamedSheets.{OpeningsNever, named_never}
 use Rattle.xlsx_commands.proofs.PartsNamed.{path_never}
 use Rattle.xlsx_commands.proofs.SheetsOpened.{same_sheets, sheets_listed, sheets_never}
-use Rattle.xlsx_commands.proofs.TablesListed.{TablesNever}
 
 -- ---- what is had
 
@@ -307,40 +303,22 @@ FormulasNever =
     (parts : List Part) (sheets : List SheetPath) (all : List FormulaSaid) (error : XlsxError)
     → workbook_formulas parts sheets ≡ Some all → FormulasCause parts sheets error → ⊥
 
--- the tables of one sheet
-one_sheet_never : TablesNever → (parts : List Part) (sheet : NumberedSheet)
-    (found : Option (List TableSaid)) (own : List (ℕ × TableSaid)) (error : XlsxError)
-    → tables_at parts sheet.path ≡ found
-    → option_map (map (table_on_sheet sheet.number)) found ≡ Some own
-    → TablesAtCause parts sheet.path error → ⊥
-one_sheet_never taken parts sheet None own error says is cause = absurd (cc)
-one_sheet_never taken parts sheet (Some tables) own error says is cause =
-    taken parts (sheet_at [] sheet.path ∷ []) _ error
-    (ap (λ (all : Option (List TableSaid)).
-    put_together (option_map (map (table_of_sheet [])) all) (Some [])) says)
-    (inl cause)
-
-book_never : TablesNever → FormulasNever → (parts : List Part) (sheets : List SheetPath)
+book_never : FormulasNever → (parts : List Part) (sheets : List SheetPath)
     (tables : List (ℕ × TableSaid)) (said : List FormulaSaid) (error : XlsxError)
     → numbered_tables parts sheets ≡ Some tables → workbook_formulas parts sheets ≡ Some said
     → GraphCause parts sheets error → ⊥
-book_never taken never parts sheets tables said error has are (inl cause) =
-    no_some_cause (numbered_tables_on parts) (NumberedTablesCause parts) (sheets_from 0 sheets)
-    error tables
-    (λ sheet own says why.
-    one_sheet_never taken parts sheet (tables_at parts sheet.path) own error refl says why) has
-    cause
-book_never taken never parts sheets tables said error has are (inr (others, again, cause)) =
+book_never never parts sheets tables said error has are (inl cause) =
+    said_has_no_cause (all_numbered_look sheets) parts tables error has cause
+book_never never parts sheets tables said error has are (inr (others, again, cause)) =
     never parts sheets said error are cause
 
-module _ (opened : OpeningsNever) (taken : TablesNever) (never : FormulasNever)
-    (parts : List Part) (book : Book) (formulas : List GraphFormula)
-    (has : HasGraph parts book formulas) (error : XlsxError) where
+module _ (opened : OpeningsNever) (never : FormulasNever) (parts : List Part) (book : Book)
+    (formulas : List GraphFormula) (has : HasGraph parts book formulas) (error : XlsxError) where
   pub graph_never : ListedGraphCause parts error → ⊥
   graph_never cause =
       sheets_never GraphCause parts has.opening error opened has.opens
-      (book_never taken never parts (sheets_opened has.opening.sheets) has.has.tables has.has.said
-      error has.has.has_tables has.has.has_formulas) cause
+      (book_never never parts (sheets_opened has.opening.sheets) has.has.tables has.has.said error
+      has.has.has_tables has.has.has_formulas) cause
 
   either_never : (name : List ℕ) (path : Option (List ℕ)) → IsSome path
       → DependentsPathCause name path parts error → ⊥

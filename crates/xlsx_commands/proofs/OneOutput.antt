@@ -1,8 +1,7 @@
 -- A command has one output on a package: what it prints is a function of what is read, and that is
 -- read in one way.
 use Rattle.std.proofs.Common.{◌≡◌, ◌∙◌, refl, ap, sym, subst, ℕ, List, Option, Some, None, map}
-use Rattle.std.proofs.Common.{Bool, true, false, Ok}
-use mathlib.Core.Path.{fun_ext}
+use Rattle.std.proofs.Common.{Bool, true, false}
 use Rattle.std.specs.Prelude.{T, ◌&&◌, if◌then◌else◌, ◌++◌, ◌∷◌, [], filter}
 use Rattle.std.proofs.lemmas.Cmp.{nat_list_cmp_total}
 use Rattle.std.proofs.lemmas.Map.Lookups.{exact_bytes}
@@ -46,6 +45,7 @@ use Rattle.xlsx_pivot_cache.specs.Words.{cache_rows}
 use Rattle.xlsx_pivots.specs.Words.{pairs_of, PivotSaid}
 use Rattle.xlsx_precedents.specs.Lines.{precedents_lines}
 use Rattle.xlsx_precedents.specs.Lines as of_sheet
+use Rattle.xlsx_properties.specs.Parts.{PropertiesSaid, properties_with}
 use Rattle.xlsx_properties.specs.declared.property.Property.{Property}
 use Rattle.xlsx_tables.specs.Tables.{SheetTable}
 use Rattle.xlsx_values.specs.Words.{ValueContext}
@@ -283,13 +283,14 @@ one_properties : (form : LineForm) (parts : List Part) (one other : List ℕ)
     → ArePropertyLines form parts one
     → ArePropertyLines form parts other → one ≡ other
 one_properties form parts one other first second =
-    let texts : first.texts ≡ second.texts = fun_ext (λ own.
-    let both : Ok (first.texts own) ≡ Ok (second.texts own) =
-    sym (first.say.said own) ∙ second.say.said own in cc) in
+    let both : Some (properties_with first.texts (text_of_name first.customs))
+    ≡ Some (properties_with second.texts (text_of_name second.customs)) =
+    sym first.say ∙ second.say in
+    let said : properties_with first.texts (text_of_name first.customs)
+    ≡ properties_with second.texts (text_of_name second.customs) = cc in
+    let texts : first.texts ≡ second.texts = ap (λ (own : PropertiesSaid). own.texts) said in
     let customs = one_by_name first.customs second.customs first.by_name second.by_name
-    (λ name. let both : Ok (text_of_name first.customs name)
-    ≡ Ok (text_of_name second.customs name) =
-    sym (first.say.custom name) ∙ second.say.custom name in cc) in
+    (λ name. ap (λ (own : PropertiesSaid). own.customs name) said) in
     first.listed
     ∙ ap (λ (own : Property → Option (List ℕ)). property_lines form own
     ++ custom_lines form first.customs)

@@ -10,11 +10,11 @@ use Rattle.list_lines.specs.declared.content.LineForm.TheVariants.{Text, Json}
 use Rattle.sheet_listing.specs.CellObjects.{object_listing}
 use Rattle.sheet_listing.specs.SheetListing.{listing}
 use Rattle.xlsx_error.specs.declared.error.XlsxError.{XlsxError}
+use Rattle.looks.proofs.Sound.{said_has_no_cause}
 use Rattle.xlsx_areas.specs.Hyperlinks.{Link}
+use Rattle.xlsx_properties.specs.Parts.{properties_with}
 use Rattle.xlsx_open.specs.Words.{OpensSoundly, without_path}
-use Rattle.xlsx_comments.specs.CommentParts.{CommentsSaid}
-use Rattle.xlsx_comments.specs.Comments.{sheet_comments_ask}
-use Rattle.xlsx_core.specs.Words.{named_comments_ask, links_placed, PlacedLinksCause, ReadsAs}
+use Rattle.xlsx_core.specs.Words.{named_comments_look, links_placed, PlacedLinksCause, ReadsAs}
 use Rattle.xlsx_core.specs.Words.{IsReadable, SheetCause}
 use Rattle.xlsx_commands.specs.BookLists.{sheet_lines, name_lines}
 use Rattle.csv_rows.specs.declared.options.CsvOptions.{CsvOptions}
@@ -42,13 +42,13 @@ use Rattle.xlsx_commands.proofs.CachesRead.{CachesNever, rows_never_refused}
 use Rattle.xlsx_commands.proofs.GraphsListed.{FormulasNever, dependents_never, fits_never}
 use Rattle.xlsx_commands.proofs.GraphsListed.{graph_never}
 use Rattle.xlsx_commands.proofs.PartsNamed.{path_never}
-use Rattle.xlsx_commands.proofs.PivotsListed.{PivotsNever, pivots_never}
-use Rattle.xlsx_commands.proofs.PropertiesListed.{PropertiesNever, listed_never}
+use Rattle.xlsx_commands.proofs.PivotsListed.{pivots_never}
+use Rattle.xlsx_commands.proofs.PropertiesListed.{listed_never}
 use Rattle.xlsx_commands.proofs.OneListing.{AreReadAlike}
 use Rattle.xlsx_commands.proofs.ObjectsPlaced.{read_by_json_rows, json_rows_never, headless_never}
 use Rattle.xlsx_commands.proofs.ObjectsPlaced.{double_key_never, objects_never, double_name_never}
 use Rattle.xlsx_commands.proofs.RowsPlaced.{rows_or_large, rows_never, read_by_row_values}
-use Rattle.xlsx_commands.proofs.TablesListed.{TablesNever, tables_never}
+use Rattle.xlsx_commands.proofs.TablesListed.{tables_never}
 use Rattle.xlsx_commands.proofs.TablesNamed.{AreasNever, table_never}
 use Rattle.xlsx_commands.proofs.TablesPlaced.{records_or_large, records_never, values_of_table}
 
@@ -172,23 +172,6 @@ LinksNever =
     (error : XlsxError)
     → links_placed path parts ≡ Some all → PlacedLinksCause name path parts error → ⊥
 
--- ---- comments
-
--- comments that can be taken aren't refused, as each is
-abbrev pub CommentsNever : Type 0
-CommentsNever =
-    (parts : List Part) (path : List ℕ) (all : List CommentsSaid) (error : XlsxError)
-    → (sheet_comments_ask path).said parts ≡ Some all
-    → (sheet_comments_ask path).cause parts error → ⊥
-
-comments_never : CommentsNever → (name : List ℕ) (path : Option (List ℕ)) (parts : List Part)
-    (all : List CommentsSaid) (error : XlsxError)
-    → (named_comments_ask name path).said parts ≡ Some all
-    → CommentsPathCause name path parts error → ⊥
-comments_never never name None parts all error says cause = absurd (cc)
-comments_never never name (Some path) parts all error says cause =
-    never parts path all error says cause
-
 -- ---- all commands
 
 -- what is read of a workbook isn't refused
@@ -197,12 +180,8 @@ pub record AreNever : Type 0 where
   pub openings : OpeningsNever
   pub merges : MergesNever
   pub links : LinksNever
-  pub comments : CommentsNever
-  pub properties : PropertiesNever
   pub alike : (parts : List Part) (name : List ℕ) → AreReadAlike parts parts name
-  pub tables : TablesNever
   pub areas : AreasNever
-  pub pivots : PivotsNever
   pub caches : CachesNever
   pub formulas : FormulasNever
 
@@ -230,44 +209,44 @@ workbook_never never (links form name) parts output error prints cause =
 workbook_never never (comments form name) parts output error prints cause =
     let (path, opens, taken) = prints.has in
     named_never (CommentsPathCause name) parts name path error never.openings opens
-    (comments_never never.comments name path parts prints.all error taken) cause
+    (said_has_no_cause (named_comments_look name path) parts prints.all error taken) cause
 workbook_never never (props form) parts output error prints cause =
-    listed_never parts prints.texts (text_of_name prints.customs) error never.openings
-    never.properties prints.opens prints.say cause
+    listed_never parts (properties_with prints.texts (text_of_name prints.customs)) error
+    never.openings prints.opens prints.say cause
 workbook_never never (csv name asked) parts output error prints cause =
     let (values, formulas, styles, reads) =
     read_by_row_values asked.shown parts name prints.values prints.reads in
     never.sheets parts name values formulas styles error reads cause
 workbook_never never (csv_table name asked) parts output error prints cause =
-    table_never asked.shown parts name prints.table error never.openings never.tables never.areas
-    prints.has cause
+    table_never asked.shown parts name prints.table error never.openings never.areas prints.has
+    cause
 workbook_never never (json_rows name asked) parts output error prints cause =
     let (values, formulas, styles, reads) =
     read_by_json_rows asked.header parts name asked output prints in
     never.sheets parts name values formulas styles error reads cause
 workbook_never never (table_objects name options) parts output error prints cause =
-    table_never false parts name prints.table error never.openings never.tables never.areas
-    prints.has cause
+    table_never false parts name prints.table error never.openings never.areas prints.has
+    cause
 workbook_never never (tables form) parts output error prints cause =
-    tables_never parts prints.tables error never.openings never.tables prints.has cause
+    tables_never parts prints.tables error never.openings prints.has cause
 workbook_never never (table name) parts output error prints cause =
-    table_never false parts name prints.table error never.openings never.tables never.areas
-    prints.has cause
+    table_never false parts name prints.table error never.openings never.areas prints.has
+    cause
 workbook_never never (pivots form) parts output error prints cause =
-    pivots_never parts prints.pivots error never.openings never.pivots prints.has cause
+    pivots_never parts prints.pivots error never.openings prints.has cause
 workbook_never never (pivot sheet name) parts output error prints cause =
     rows_never_refused parts sheet name prints.definitions prints.records prints.rows error
-    never.openings never.pivots never.caches prints.has prints.read cause
+    never.openings never.caches prints.has prints.read cause
 workbook_never never (precedents name) parts output error prints cause =
     never.sheets parts name prints.values prints.formulas prints.styles error prints.reads cause
 workbook_never never (dependents name position) parts output error prints cause =
     never.sheets parts name prints.values prints.formulas prints.styles error prints.reads cause
 workbook_never never (all_dependents name position) parts output error prints cause =
-    dependents_never never.openings never.tables never.formulas parts prints.book prints.formulas
-    prints.has error name prints.sheet prints.called cause
+    dependents_never never.openings never.formulas parts prints.book prints.formulas prints.has
+    error name prints.sheet prints.called cause
 workbook_never never (workbook_graph list) parts output error prints cause =
-    graph_never never.openings never.tables never.formulas parts prints.book prints.formulas
-    prints.has error cause
+    graph_never never.openings never.formulas parts prints.book prints.formulas prints.has error
+    cause
 workbook_never never (check name) parts output error prints cause =
     never.sheets parts name prints.values prints.formulas prints.styles error prints.reads cause
 workbook_never never (part name) parts output error prints cause =

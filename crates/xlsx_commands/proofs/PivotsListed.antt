@@ -5,9 +5,9 @@ use Rattle.input_package.specs.Told.{Told}
 use Rattle.part_events.specs.Words.{Part}
 use Rattle.xlsx_error.specs.declared.error.XlsxError.{XlsxError}
 use Rattle.xlsx_error.specs.declared.error.XlsxError.TheVariants.{TableNotFound, PivotTableNotFound}
-use Rattle.xlsx_parts.specs.Words.{SheetPath}
+use Rattle.looks.proofs.Sound.{said_has_no_cause}
 use Rattle.xlsx_relationships.specs.Words.{folder_of}
-use Rattle.xlsx_pivots.specs.Words.{IsPivotsError, PivotSaid, pivots_of, PivotsCause}
+use Rattle.xlsx_pivots.specs.Words.{IsPivotsError, PivotSaid, PivotsCause, pivots_look, pivots_of}
 use Rattle.xlsx_open.specs.Words.{Opening, OpensAs, LiesIn}
 use Rattle.xlsx_open.proofs.Sound.{same_path}
 use Rattle.xlsx_core.specs.Words.{IsWorkbookOf, sheets_of_book}
@@ -47,16 +47,9 @@ pivots_there (TableNotFound asked) is = is
 pivots_there (PivotTableNotFound asked) is = is
 pivots_there error is = tt
 
--- pivot tables that are found aren't refused, as each is
-abbrev pub PivotsNever : Type 0
-PivotsNever =
-    (parts : List Part) (folder : List ℕ) (sheets : List SheetPath) (found : List PivotSaid)
-    (error : XlsxError)
-    → pivots_of parts folder sheets ≡ Some found → PivotsCause parts sheets error → ⊥
-
 pub pivots_never : (parts : List Part) (pivots : List PivotSaid) (error : XlsxError)
-    → OpeningsNever → PivotsNever → HasPivots parts pivots → ListedPivotsCause parts error → ⊥
-pivots_never parts pivots error opened never has cause =
+    → OpeningsNever → HasPivots parts pivots → ListedPivotsCause parts error → ⊥
+pivots_never parts pivots error opened has cause =
     sheets_never PivotsCause parts has.opening error opened has.opens
-    (never parts (folder_of has.opens.path) (sheets_opened has.opening.sheets) pivots error
-    has.found) cause
+    (said_has_no_cause (pivots_look (folder_of has.opens.path) (sheets_opened has.opening.sheets))
+    parts pivots error has.found) cause

@@ -1,6 +1,6 @@
 -- The properties of a workbook as they are kept, and as their lines have them.
-use Rattle.std.proofs.Common.{◌≡◌, inl, inr, refl, ℕ, List, [], ◌∷◌, map, true, false, Option, Some}
-use Rattle.std.proofs.Common.{String, Global, string_bytes}
+use Rattle.std.proofs.Common.{◌≡◌, inl, inr, refl, ℕ, List, [], ◌∷◌, map, true, false, Some, String}
+use Rattle.std.proofs.Common.{Global, string_bytes}
 use Rattle.std.specs.Prelude.{if◌then◌else◌, option_map}
 use Rattle.std.specs.BTreeMap.{is_at}
 use Rattle.std.specs.Cmp.Lexicographic.{slice_cmp}
@@ -13,8 +13,9 @@ use Rattle.std.specs.declared.cmp.Ordering.TheVariants.{Less}
 use Rattle.part_events.specs.Words.{Part}
 use Rattle.xlsx_error.specs.declared.error.XlsxError.{XlsxError}
 use Rattle.xlsx_properties.specs.Kept.{entry_texts}
-use Rattle.xlsx_properties.specs.Parts.{SayProperties, PropertiesCause}
-use Rattle.xlsx_properties.specs.declared.property.Property.{Property}
+use Rattle.looks.specs.Words.{look_said}
+use Rattle.looks.proofs.Sound.{said_has_no_cause}
+use Rattle.xlsx_properties.specs.Parts.{PropertiesSaid, properties_look}
 use Rattle.xlsx_open.specs.Words.{OpensSoundly}
 use Rattle.xlsx_commands.specs.PropertyLists.{ListedPropertiesCause, text_of_name, AreByName}
 use Rattle.xlsx_commands.proofs.NamedSheets.{OpeningsNever}
@@ -56,18 +57,10 @@ listed_by_name [] ordered = tt
 listed_by_name (own ∷ entries) ordered =
     (below_all own.0 entries ordered.0, listed_by_name entries ordered.1)
 
--- properties that are read aren't refused, as each is
-abbrev pub PropertiesNever : Type 0
-PropertiesNever =
-    (parts : List Part) (texts : Property → Option (List ℕ))
-    (customs : List ℕ → Option (List ℕ)) (error : XlsxError)
-    → SayProperties parts texts customs → PropertiesCause parts error → ⊥
-
-pub listed_never : (parts : List Part) (texts : Property → Option (List ℕ))
-    (customs : List ℕ → Option (List ℕ)) (error : XlsxError) → OpeningsNever → PropertiesNever
-    → OpensSoundly parts → SayProperties parts texts customs → ListedPropertiesCause parts error
-    → ⊥
-listed_never parts texts customs error opened read (opening, opens) say (inl cause) =
+pub listed_never : (parts : List Part) (said : PropertiesSaid) (error : XlsxError)
+    → OpeningsNever → OpensSoundly parts → look_said properties_look parts ≡ Some said
+    → ListedPropertiesCause parts error → ⊥
+listed_never parts said error opened (opening, opens) say (inl cause) =
     opened parts opening error opens cause
-listed_never parts texts customs error opened read sound say (inr (other, cause)) =
-    read parts texts customs error say cause
+listed_never parts said error opened sound say (inr (other, cause)) =
+    said_has_no_cause properties_look parts said error say cause

@@ -16,8 +16,9 @@ use Rattle.input_package.specs.Told.{Told}
 use Rattle.part_events.specs.Words.{Part, SameParts}
 use Rattle.xlsx_error.specs.declared.error.XlsxError.{XlsxError}
 use Rattle.xlsx_error.specs.declared.error.XlsxError.TheVariants.{TableNotFound, PivotTableNotFound}
-use Rattle.xlsx_parts.specs.Words.{SheetPath}
+use Rattle.looks.proofs.Sound.{said_has_no_cause}
 use Rattle.xlsx_tables.specs.Tables.{SheetTable, tables_of, TablesCause, IsTablesError}
+use Rattle.xlsx_tables.specs.Tables.{all_tables_look}
 use Rattle.xlsx_workbook.specs.Words.{pair_of, path_kept}
 use Rattle.xlsx_workbook.specs.declared.paths.PartPath.{PartPath}
 use Rattle.xlsx_workbook.specs.declared.sheet.Metadata.{Metadata}
@@ -173,14 +174,9 @@ tables_there error is = tt
 
 -- ---- what is had isn't refused
 
--- tables that are taken aren't refused, as each is
-abbrev pub TablesNever : Type 0
-TablesNever =
-    (parts : List Part) (sheets : List SheetPath) (found : List SheetTable) (error : XlsxError)
-    → tables_of parts sheets ≡ Some found → TablesCause parts sheets error → ⊥
-
 pub tables_never : (parts : List Part) (tables : List SheetTable) (error : XlsxError)
-    → OpeningsNever → TablesNever → HasTables parts tables → ListedTablesCause parts error → ⊥
-tables_never parts tables error opened taken has cause =
+    → OpeningsNever → HasTables parts tables → ListedTablesCause parts error → ⊥
+tables_never parts tables error opened has cause =
     sheets_never TablesCause parts has.opening error opened has.opens
-    (taken parts (sheets_opened has.opening.sheets) tables error has.taken) cause
+    (said_has_no_cause (all_tables_look (sheets_opened has.opening.sheets)) parts tables error
+    has.taken) cause

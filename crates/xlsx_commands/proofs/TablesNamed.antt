@@ -37,7 +37,7 @@ use Rattle.xlsx_commands.specs.declared.error.ToolError.TheVariants.{Workbook}
 use Rattle.xlsx_commands.proofs.MemoryCalls.{memory_fails, IsInMemory}
 use Rattle.xlsx_commands.proofs.NamedSheets.{OpeningsNever}
 use Rattle.xlsx_commands.proofs.SheetsOpened.{same_sheets}
-use Rattle.xlsx_commands.proofs.TablesListed.{TablesNever, tables_never}
+use Rattle.xlsx_commands.proofs.TablesListed.{tables_never}
 
 -- a workbook that doesn't open with its tables has no table of a name
 pub loading_is_named : (shown : Bool) (parts : List Part) (name : List ℕ) (error : ToolError)
@@ -279,18 +279,18 @@ cause_never shown parts name table error areas has cause =
     (path_named one.sheet there.opening.sheets) parts error) own cause.cause)))
 
 either_never : (shown : Bool) (parts : List Part) (name : List ℕ) (table : Table Data)
-    (error : XlsxError) → OpeningsNever → TablesNever → AreasNever
+    (error : XlsxError) → OpeningsNever → AreasNever
     → HasTable shown parts name table
     → ListedTablesCause parts error ⊎ HasTableCause shown parts name error → ⊥
-either_never shown parts name table error opened taken areas has (inl cause) =
-    tables_never parts has.has.tables error opened taken has.has.has cause
-either_never shown parts name table error opened taken areas has (inr cause) =
+either_never shown parts name table error opened areas has (inl cause) =
+    tables_never parts has.has.tables error opened has.has.has cause
+either_never shown parts name table error opened areas has (inr cause) =
     cause_never shown parts name table error areas has cause
 
 pub table_never : (shown : Bool) (parts : List Part) (name : List ℕ) (table : Table Data)
-    (error : XlsxError) → OpeningsNever → TablesNever → AreasNever
+    (error : XlsxError) → OpeningsNever → AreasNever
     → HasTable shown parts name table → NamedTableCause shown parts name error → ⊥
-table_never shown parts name table (workbook.TableNotFound asked) opened taken areas has cause =
+table_never shown parts name table (workbook.TableNotFound asked) opened areas has cause =
     lacks_never parts name has.own has.has cause.1
-table_never shown parts name table error opened taken areas has cause =
-    either_never shown parts name table error opened taken areas has cause
+table_never shown parts name table error opened areas has cause =
+    either_never shown parts name table error opened areas has cause

@@ -10,8 +10,9 @@ use Rattle.part_events.specs.Words.{Part}
 use Rattle.list_lines.specs.Lines.{property_line, custom_line}
 use Rattle.list_lines.specs.declared.content.LineForm.{LineForm}
 use Rattle.xlsx_error.specs.declared.error.XlsxError.{XlsxError}
-use Rattle.xlsx_properties.specs.Kept.{held, custom_held}
-use Rattle.xlsx_properties.specs.Parts.{SayProperties, PropertiesCause}
+use Rattle.looks.specs.Words.{look_said}
+use Rattle.xlsx_properties.specs.Kept.{properties_kept}
+use Rattle.xlsx_properties.specs.Parts.{PropertiesCause, properties_look, properties_with}
 use Rattle.xlsx_properties.specs.Property.{named_properties}
 use Rattle.xlsx_properties.specs.declared.property.Property.{Property}
 use Rattle.xlsx_properties.specs.declared.workbook_properties.WorkbookProperties.{
@@ -48,14 +49,15 @@ custom_lines form customs = flat_map (λ own. custom_line form own.0 own.1) cust
 -- the workbook opens, and these are the properties that its parts say
 pub record HasProperties (parts : List Part) (kept : WorkbookProperties) : Type 0 where
   pub opens : OpensSoundly parts
-  pub say : SayProperties parts (λ own. held own kept) (λ name. custom_held name kept)
+  pub say : look_said properties_look parts ≡ Some (properties_kept kept)
 
 -- the workbook opens, and these are the lines of its properties
 pub record ArePropertyLines (form : LineForm) (parts : List Part) (lines : List ℕ) : Type 0 where
   pub texts : Property → Option (List ℕ)
   pub customs : List (List ℕ × List ℕ)
   pub opens : OpensSoundly parts
-  pub say : SayProperties parts texts (text_of_name customs)
+  pub say :
+      look_said properties_look parts ≡ Some (properties_with texts (text_of_name customs))
   pub by_name : AreByName customs
   pub listed : lines ≡ property_lines form texts ++ custom_lines form customs
 

@@ -1,6 +1,5 @@
 -- The comments of a sheet (ECMA-376 part 1, section 18.7), and which refusals they have.
-use Rattle.std.specs.Prelude.{◌≡◌, ◌⊎◌, ⊤, ℕ, List, [], ◌∷◌, codes, Option, option_map}
-use Rattle.part_events.specs.Words.{Event, Part, part_of, event_count}
+use Rattle.std.specs.Prelude.{◌≡◌, ◌⊎◌, ⊤, ℕ, List, [], ◌∷◌, codes}
 use Rattle.part_events.specs.declared.fault.XmlFault.TheVariants.{Break, Entity}
 use Rattle.xlsx_error.specs.declared.error.XlsxError.{XlsxError}
 use Rattle.xlsx_error.specs.declared.error.XlsxError.TheVariants.{OutOfMemory, Io, Xml, XmlAttr}
@@ -9,16 +8,11 @@ use Rattle.xlsx_error.specs.declared.error.XlsxError.TheVariants.{RangeWithoutRo
 use Rattle.xlsx_error.specs.declared.error.XlsxError.TheVariants.{RangeWithoutColumnComponent}
 use Rattle.xlsx_error.specs.declared.error.XlsxError.TheVariants.{ColumnNumberOverflow}
 use Rattle.xlsx_error.specs.declared.error.XlsxError.TheVariants.{RowNumberOverflow, DimensionCount}
-use Rattle.xlsx_sections.specs.Words.{Ask, IsInsideRefused, OptionalPartCause, section_events_of}
-use Rattle.xlsx_parts.specs.Words.{part_said, unless_absent}
+use Rattle.xlsx_sections.specs.Words.{Ask}
+use Rattle.looks.specs.Words.{Look, asks, look_ask, mapped, section_or}
 use Rattle.xlsx_relationships.specs.Words.{each_related, IsRelatedError}
 use Rattle.xlsx_comments.specs.CommentParts.{CommentEntry, CommentsSaid, entries_in, end_in_entries}
 use Rattle.xlsx_comments.specs.CommentParts.{gathered, told_in_comment}
-
--- why the comments of a part can't be taken, which may be absent
-abbrev pub CommentsCause : Option (List Event) → XlsxError → Type 0
-CommentsCause part error =
-    OptionalPartCause (codes "comments") end_in_entries (IsInsideRefused entries_in) part error
 
 -- the refusals that the start of a comment can have
 abbrev pub IsCommentStartError : XlsxError → Type 0
@@ -57,34 +51,26 @@ abbrev pub comments_type : List ℕ
 comments_type =
     codes "http://schemas.openxmlformats.org/officeDocument/2006/relationships/comments"
 
--- what the elements of the part at a path say; an absent part says nothing
-abbrev pub entries_at : List Part → List ℕ → Option (List CommentEntry)
-entries_at parts path =
-    unless_absent [] (part_of parts path) (part_said (codes "comments") entries_in parts path)
-
 -- the names and the comments of one part, as a list
 abbrev pub one_gathered : List CommentEntry → List CommentsSaid
 one_gathered entries = gathered entries ∷ []
-
--- the comments of the part at a path
-abbrev pub comments_at : List Part → List ℕ → Option (List CommentsSaid)
-comments_at parts path = option_map one_gathered (entries_at parts path)
 
 -- a refusal that reading the comments of a sheet can have
 abbrev pub AreSheetCommentsError : XlsxError → Type 0
 AreSheetCommentsError error = IsRelatedError error ⊎ IsCommentsError error
 
--- what is asked for the comments of the part at a path
-abbrev pub comments_ask : List ℕ → Ask (List CommentsSaid)
-comments_ask path = record {
-  most = λ parts. event_count parts path;
-  exact = λ parts. section_events_of (codes "comments") parts path;
-  said = λ parts. comments_at parts path;
-  cause = λ parts. CommentsCause (part_of parts path);
-  kind = AreSheetCommentsError;
-}
+-- what the elements of the part at a path say; an absent part says nothing
+abbrev pub entries_look : List ℕ → Look (List CommentEntry)
+entries_look path = asks path (section_or [] (codes "comments") end_in_entries entries_in)
 
--- what is asked for the comments of the sheet whose part is at a path, in the order of its
--- relationships
+-- the comments of the part at a path
+abbrev pub comments_look : List ℕ → Look (List CommentsSaid)
+comments_look path = mapped one_gathered (entries_look path)
+
+-- the comments of the sheet whose part is at a path, in the order of its relationships
+abbrev pub sheet_comments_look : List ℕ → Look (List CommentsSaid)
+sheet_comments_look path = each_related comments_look comments_type path
+
+-- what is asked for the comments of the sheet whose part is at a path
 abbrev pub sheet_comments_ask : List ℕ → Ask (List CommentsSaid)
-sheet_comments_ask path = each_related AreSheetCommentsError comments_ask comments_type path
+sheet_comments_ask path = look_ask AreSheetCommentsError (sheet_comments_look path)

@@ -1,16 +1,14 @@
 ghost use Rattle.std.proofs.Common.{inl};
-ghost use Rattle.std.specs.Prelude.{◌≡◌, ◌≤◌, true, Ok, Some, codes, suc, length, map, IfOk, OnOk};
-ghost use Rattle.std.specs.Prelude.{IfErr};
-ghost use Rattle.part_events.specs.Words.{Uses, event_count, part_of, IsReading, ReadsPart};
-ghost use Rattle.part_events.specs.Words.{section_ahead, is_closed_ahead, section_end};
+ghost use Rattle.std.specs.Prelude.{◌≡◌, ◌≤◌, true, Ok, suc, length, map, IfOk, OnOk, IfErr};
+ghost use Rattle.part_events.specs.Words.{IsReading, ReadsPart, section_ahead, is_closed_ahead};
+ghost use Rattle.part_events.specs.Words.{section_end};
 ghost use Rattle.xlsx_error.specs.declared.error.XlsxError.TheVariants.{Io};
-ghost use Rattle.xlsx_sections.specs.Words.{Answers, IsInsideRefused, FailsBy, SectionFails};
-ghost use Rattle.xlsx_sections.specs.Words.{ReadsToEnd};
+ghost use Rattle.xlsx_sections.specs.Words.{Answers, IsInsideRefused, SectionFails};
+ghost use Rattle.looks.specs.Words.{look_ask};
 ghost use Rattle.xlsx_comments.specs.CommentParts.{CommentsSaid, entries_in, end_in_entries};
 ghost use Rattle.xlsx_comments.specs.CommentParts.{gathered, entry_kept, comments_kept};
-ghost use Rattle.xlsx_comments.specs.Comments.{CommentsCause, IsCommentsError, entries_at};
-ghost use Rattle.xlsx_comments.specs.Comments.{AreSheetCommentsError, comments_ask};
-ghost use Rattle.xlsx_comments.specs.Comments.{sheet_comments_ask};
+ghost use Rattle.xlsx_comments.specs.Comments.{IsCommentsError, entries_look, comments_look};
+ghost use Rattle.xlsx_comments.specs.Comments.{AreSheetCommentsError, sheet_comments_ask};
 
 use crate::comment::Comments;
 use crate::entry::{Entry, EntryReader};
@@ -46,15 +44,8 @@ fn entries_in<P: Package>(xml: &mut XlReader<P>, base: usize) -> Result<Vec<Entr
 
 /// What the authors and the comments say in the part at this path. An absent part has none.
 fn read_entries<P: Package>(xml: &mut XlReader<P>, path: &str) -> Result<Vec<Entry>, XlsxError>
-    ensures uses { Uses (event_count xml.old.source.parts path.now) Io result
-        xml.old.source xml.new.source }
-    ensures to_end { ReadsToEnd (codes "comments") path.now result xml.old.source xml.new.source }
-    ensures entries { xml.old.source.is_visible ≡ true → IfOk result (λ entries.
-        entries_at xml.old.source.parts path.now ≡ Some (map entry_kept entries.items)) }
-    ensures err { IfErr result
-        (FailsBy (CommentsCause (part_of xml.old.source.parts path.now))
-        xml.old.source xml.new.source) }
-    ensures kind { IfErr result IsCommentsError }
+    ensures answers { Answers (look_ask IsCommentsError (entries_look path.now))
+        (λ entries. map entry_kept entries.items) result xml.old.source xml.new.source }
 {
     if !enter_part(xml, path, "comments")? {
         return Ok(Vec::new(xml.alloc()));
@@ -90,11 +81,9 @@ impl ReadsRelated for CommentsReader {
 
     ghost kept = { λ r own. comments_kept own };
 
-    ghost ask = { λ r. comments_ask };
+    ghost look = { λ r. comments_look };
 
     ghost Kind = { AreSheetCommentsError };
-
-    ghost kinds = { λ r path error is. is };
 
     ghost related_kinds = { λ error is. inl is };
 

@@ -7,7 +7,7 @@ ghost use Rattle.xlsx_sections.specs.Words.{Answers, ReadsToEnd};
 ghost use Rattle.xlsx_parts.specs.Words.{IsBreakError};
 ghost use Rattle.xlsx_areas.specs.MergeErrors.{IsRegionsError};
 ghost use Rattle.xlsx_areas.specs.MergedCells.{merges_at};
-ghost use Rattle.xlsx_areas.specs.Regions.{Region, region_of, regions_ask, all_regions_ask};
+ghost use Rattle.xlsx_areas.specs.Regions.{Region, region_of, regions_look, all_regions_ask};
 ghost use Rattle.xlsx_areas.specs.Regions.{regions_left, is_of_sheet};
 ghost use Rattle.xlsx_core.specs.Merges.{sheets_of_book, sheet_name_at, path_at, merges_placed};
 ghost use Rattle.xlsx_core.specs.Merges.{merges_or_none_placed, PlacedMergesFail};
@@ -100,11 +100,9 @@ impl ReadsSheets for RegionLists {
 
     ghost held = { λ sheets regions. map region_of regions.items };
 
-    ghost ask = { λ r. regions_ask };
+    ghost look = { λ r. regions_look };
 
     ghost Kind = { IsRegionsError };
-
-    ghost kinds = { λ r sheet error is. is };
 
     ghost memory = { tt };
 

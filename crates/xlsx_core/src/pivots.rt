@@ -4,7 +4,7 @@ ghost use Rattle.part_events.specs.Words.{LentFails};
 ghost use Rattle.xlsx_error.specs.declared.error.XlsxError.TheVariants.{Io};
 ghost use Rattle.xlsx_sections.specs.Words.{Answers};
 ghost use Rattle.xlsx_pivots.specs.Words.{IsPivotsError, pivots_kept, paths_of, PivotSaid};
-ghost use Rattle.xlsx_pivots.specs.Words.{pivots_ask, pivots_on_ask};
+ghost use Rattle.xlsx_pivots.specs.Words.{pivots_ask, pivots_on_look};
 ghost use Rattle.xlsx_core.specs.Merges.{sheets_of_book};
 ghost use Rattle.xlsx_pivot_cache.specs.Words.{rows_by, OpensRows};
 ghost use Rattle.xlsx_core.specs.PivotList.{PivotDataFails, IsPivotDataError};
@@ -32,11 +32,9 @@ impl ReadsSheets for PivotLists<'_> {
 
     ghost held = { λ sheets pivots. pivots_kept pivots };
 
-    ghost ask = { λ r. pivots_on_ask r.folder.now };
+    ghost look = { λ r. pivots_on_look r.folder.now };
 
     ghost Kind = { IsPivotsError };
-
-    ghost kinds = { λ r sheet error is. is };
 
     ghost memory = { tt };
 

@@ -1,13 +1,11 @@
-ghost use Rattle.std.specs.Prelude.{◌≡◌, ℕ, List, true, None, Ok, OnErr, IfOk, IfErr, IfSome};
-ghost use Rattle.std.specs.Prelude.{IsSomeAnd, OnOk};
-ghost use Rattle.part_events.specs.Words.{SameParts, Uses, CountsUp};
-ghost use Rattle.xlsx_error.specs.declared.error.XlsxError.TheVariants.{OutOfMemory, Io};
+ghost use Rattle.std.specs.Prelude.{◌≡◌, None, OnErr, IfOk, IfErr, IfSome, IsSomeAnd};
+ghost use Rattle.part_events.specs.Words.{SameParts};
+ghost use Rattle.xlsx_error.specs.declared.error.XlsxError.TheVariants.{OutOfMemory};
+ghost use Rattle.xlsx_sections.specs.Words.{Answers, FailsBy};
+ghost use Rattle.looks.specs.Words.{look_ask};
 ghost use Rattle.xlsx_properties.specs.Errors.{IsPropertyError};
-ghost use Rattle.xlsx_properties.specs.Kept.{AreSame, held, custom_held};
-ghost use Rattle.xlsx_properties.specs.Parts.{AreWhole, PropertiesCause, property_events};
-ghost use Rattle.xlsx_properties.specs.Parts.{property_said, custom_said};
-ghost use Rattle.xlsx_properties.specs.declared.property.Property.{Property};
-ghost use Rattle.xlsx_sections.specs.Words.{FailsBy};
+ghost use Rattle.xlsx_properties.specs.Kept.{AreSame, properties_kept};
+ghost use Rattle.xlsx_properties.specs.Parts.{PropertiesCause, properties_look};
 ghost use Rattle.xlsx_core.specs.Worksheets.{KeepsBook, KeepsWorkbook};
 
 use crate::xlsx::Xlsx;
@@ -43,23 +41,9 @@ impl<P: Package> Xlsx<P> {
             (λ kept. KeepsWorkbook self.old self.new
             × (self.new.xml.source ≡ self.old.xml.source)
             × IfOk result (AreSame kept) × IfErr result (λ error. error ≡ OutOfMemory)) }
-        ensures uses { self.old.workbook.lists.properties ≡ None →
-            Uses (property_events self.old.xml.source.parts) Io result self.old.xml.source
-            self.new.xml.source }
-        ensures to_end { let old = self.old.xml.source in
-            self.old.workbook.lists.properties ≡ None → old.is_visible ≡ true →
-            OnOk result (CountsUp (property_events old.parts) old.taken self.new.xml.source.taken) }
-        ensures whole { self.old.workbook.lists.properties ≡ None →
-            self.old.xml.source.is_visible ≡ true →
-            IfOk result (λ properties. AreWhole self.old.xml.source.parts) }
-        ensures properties { self.old.workbook.lists.properties ≡ None →
-            self.old.xml.source.is_visible ≡ true →
-            IfOk result (λ properties. (wanted : Property) →
-            property_said self.old.xml.source.parts wanted ≡ Ok (held wanted properties)) }
-        ensures custom { self.old.workbook.lists.properties ≡ None →
-            self.old.xml.source.is_visible ≡ true →
-            IfOk result (λ properties. (name : List ℕ) →
-            custom_said self.old.xml.source.parts name ≡ Ok (custom_held name properties)) }
+        ensures answers { self.old.workbook.lists.properties ≡ None →
+            Answers (look_ask IsPropertyError properties_look) properties_kept result
+            self.old.xml.source self.new.xml.source }
         ensures err { IfErr result
             (FailsBy (PropertiesCause self.old.xml.source.parts) self.old.xml.source
             self.new.xml.source) }

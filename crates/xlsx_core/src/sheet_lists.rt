@@ -1,8 +1,9 @@
 ghost use Rattle.std.specs.Prelude.{◌≡◌, List, []};
 ghost use Rattle.xlsx_error.specs.declared.error.XlsxError.{XlsxError};
 ghost use Rattle.xlsx_error.specs.declared.error.XlsxError.TheVariants.{OutOfMemory};
-ghost use Rattle.xlsx_parts.specs.Words.{Appends, each, SheetPath, sheet_at};
-ghost use Rattle.xlsx_sections.specs.Words.{Ask, Answers};
+ghost use Rattle.xlsx_parts.specs.Words.{Appends, SheetPath, sheet_at};
+ghost use Rattle.xlsx_sections.specs.Words.{Answers};
+ghost use Rattle.looks.specs.Words.{Look, for_each, look_ask};
 ghost use Rattle.xlsx_workbook.specs.declared.sheet.Sheet.{Sheet};
 ghost use Rattle.xlsx_core.specs.Merges.{sheet_paths};
 ghost use Rattle.xlsx_core.specs.TableList.{sheet_name};
@@ -19,7 +20,7 @@ pub(crate) trait ReadsSheets {
 
     ghost held: { List Sheet → Self.Items → List Kept };
 
-    ghost ask: { Self → SheetPath → Ask (List Kept) };
+    ghost look: { Self → SheetPath → Look (List Kept) };
 
     ghost Kind: { XlsxError → Type 0 };
 
@@ -33,11 +34,8 @@ pub(crate) trait ReadsSheets {
         path: &str,
     ) -> Result<(), XlsxError>
         ensures { let sheet = sheet_at (sheet_name sheets.now number) path.now in
-            Appends (ask self.now sheet) (held sheets.now items.old) (held sheets.now items.new)
-            result xml.old.source xml.new.source };
-
-    ghost kinds: { (by : Self) (sheet : SheetPath) (error : XlsxError) → (ask by sheet).kind error →
-        Kind error };
+            Appends (look_ask Kind (look self.now sheet)) (held sheets.now items.old)
+            (held sheets.now items.new) result xml.old.source xml.new.source };
 
     ghost memory: { Kind OutOfMemory };
 }
@@ -52,8 +50,8 @@ pub(crate) fn read_sheets<P: Package, R: ReadsSheets>(
     by: &R,
 ) -> Result<R::Items, XlsxError>
     requires { R.held sheets.now items ≡ [] }
-    ensures { let ask = each R.Kind (R.ask by.now) (sheet_paths sheets.now paths.now) in
-        Answers ask (R.held sheets.now) result xml.old.source xml.new.source }
+    ensures { let look = for_each (R.look by.now) (sheet_paths sheets.now paths.now) in
+        Answers (look_ask R.Kind look) (R.held sheets.now) result xml.old.source xml.new.source }
 {
     let alloc = xml.alloc();
     let mut items = items;

@@ -4,7 +4,7 @@ ghost use Rattle.std.specs.Prelude.{None, Some, true, option_map, string_bytes};
 ghost use Rattle.std.specs.Option.{option_copied};
 ghost use Rattle.cell_refs.specs.Words.{are_sheet_bounds};
 ghost use Rattle.xlsx_sections.specs.Words.{Answers};
-ghost use Rattle.xlsx_tables.specs.Tables.{SheetTable, IsTablesError, tables_on_ask};
+ghost use Rattle.xlsx_tables.specs.Tables.{SheetTable, IsTablesError, tables_on_look};
 ghost use Rattle.xlsx_tables.specs.Tables.{all_tables_ask};
 ghost use Rattle.xlsx_core.specs.Merges.{sheets_of_book};
 ghost use Rattle.xlsx_core.specs.TableList.{sheet_name, table_held, tables_held, loaded_tables};
@@ -50,11 +50,9 @@ impl ReadsSheets for TableLists {
 
     ghost held = { λ sheets tables. tables_held sheets tables.items };
 
-    ghost ask = { λ r. tables_on_ask };
+    ghost look = { λ r. tables_on_look };
 
     ghost Kind = { IsTablesError };
-
-    ghost kinds = { λ r sheet error is. is };
 
     ghost memory = { inl tt };
 

@@ -1,10 +1,12 @@
 -- A row for each command: what packages have that have the same parts where it looks.
-use Rattle.std.proofs.Common.{ℕ, List, Option, Some, sym, ◌∙◌, subst, inl, inr, Bool, true, false}
+use Rattle.std.proofs.Common.{ℕ, List, Some, sym, ◌∙◌, subst, inl, inr, Bool, true, false}
 use Rattle.std.proofs.Common.{string_bytes}
 use Rattle.cell_data.specs.Words.{CellValue, value_pairs, formula_pairs}
 use Rattle.list_lines.specs.declared.content.LineForm.TheVariants.{Text, Json}
 use Rattle.part_events.specs.Words.{Part}
 use Rattle.xlsx_error.specs.declared.error.XlsxError.{XlsxError}
+use Rattle.looks.proofs.Alike.{said_alike, cause_alike, alike_back}
+use Rattle.xlsx_properties.specs.Parts.{properties_look}
 use Rattle.xlsx_core.proofs.Agreeing.{same_back, reads_over}
 use Rattle.xlsx_core.proofs.ShownLaws.{shown_over}
 use Rattle.xlsx_commands.specs.Words.{Command, cells, sheets, names, merges, links, props, csv}
@@ -12,8 +14,8 @@ use Rattle.xlsx_commands.specs.Words.{csv_table, tables, table, pivots, pivot, p
 use Rattle.xlsx_commands.specs.Words.{dependents, check, part, upgrade, resave, sample, comments}
 use Rattle.xlsx_commands.specs.Words.{resave_file, json_rows, table_objects, all_dependents}
 use Rattle.xlsx_commands.specs.Words.{workbook_graph, OutputCause, IsUpgrade, PartPathCause}
-use Rattle.xlsx_commands.specs.Words.{ListedPropertiesCause, text_of_name, AreJsonRows, LacksHeader}
-use Rattle.xlsx_commands.specs.Words.{GivesTwice, sample_name, HasRowValues}
+use Rattle.xlsx_commands.specs.Words.{ListedPropertiesCause, AreJsonRows, LacksHeader, GivesTwice}
+use Rattle.xlsx_commands.specs.Words.{sample_name, HasRowValues}
 use Rattle.xlsx_commands.specs.Outputs.{IsOutput, RefusedWorkbookCause, IsTooLarge, HasLargeGraph}
 use Rattle.xlsx_commands.specs.Outputs.{IsUnwritable, HasNoKeys, HasTwoColumns}
 use Rattle.xlsx_commands.specs.declared.error.ToolError.{ToolError}
@@ -27,13 +29,11 @@ use Rattle.xlsx_footprints.proofs.CommentsAlike.{comments_over, comments_cause_o
 use Rattle.xlsx_footprints.proofs.GraphsAlike.{graph_over, graph_cause_over, graph_back}
 use Rattle.xlsx_footprints.proofs.GraphsAlike.{dependents_cause_over, large_book_over}
 use Rattle.xlsx_footprints.proofs.GraphsAlike.{large_dependents_over}
-use Rattle.xlsx_footprints.proofs.ListsAlike.{properties_over, properties_cause_over}
-use Rattle.xlsx_footprints.proofs.ListsAlike.{properties_back, tables_had_over, tables_listed_over}
-use Rattle.xlsx_footprints.proofs.ListsAlike.{each_tables_back, table_over, table_cause_over}
-use Rattle.xlsx_footprints.proofs.ListsAlike.{table_data_back, table_rows_over, table_rows_back}
-use Rattle.xlsx_footprints.proofs.ListsAlike.{data_of_rows, pivots_had_over, pivots_listed_over}
-use Rattle.xlsx_footprints.proofs.ListsAlike.{each_pivots_back, has_cache_over, pivot_cause_over}
-use Rattle.xlsx_footprints.proofs.ListsAlike.{cache_back}
+use Rattle.xlsx_footprints.proofs.ListsAlike.{tables_had_over, tables_listed_over, each_tables_back}
+use Rattle.xlsx_footprints.proofs.ListsAlike.{table_over, table_cause_over, table_data_back}
+use Rattle.xlsx_footprints.proofs.ListsAlike.{table_rows_over, table_rows_back, data_of_rows}
+use Rattle.xlsx_footprints.proofs.ListsAlike.{pivots_had_over, pivots_listed_over, each_pivots_back}
+use Rattle.xlsx_footprints.proofs.ListsAlike.{has_cache_over, pivot_cause_over, cache_back}
 use Rattle.xlsx_footprints.proofs.OpeningsAlike.{opening_over, soundly_over, opens_at_over}
 use Rattle.xlsx_footprints.proofs.OpeningsAlike.{opening_cause_over, opening_back, other_opening}
 use Rattle.xlsx_footprints.proofs.OpeningsAlike.{cells_back, cells_of_sheet}
@@ -110,7 +110,7 @@ way_back (links form name) one two same =
     (back, links_back one two name back.opening same.1)
 way_back (comments form name) one two same =
     let back = opening_back one two same.0 in (back, comments_back one two name back same.1)
-way_back (props form) one two same = (opening_back one two same.0, properties_back one two same.1)
+way_back (props form) one two same = (opening_back one two same.0, alike_back properties_look one two same.1)
 way_back (csv name asked) one two same = rows_back asked.shown one two name same
 way_back (json_rows name asked) one two same = rows_back asked.shown one two name same
 way_back (table_objects name options) one two same = table_data_back one two name same
@@ -179,7 +179,7 @@ output_over (props form) one two output same prints = record {
   texts = prints.texts;
   customs = prints.customs;
   opens = soundly_over one two same.0 prints.opens;
-  say = properties_over one two prints.texts (text_of_name prints.customs) same.1 prints.say;
+  say = sym (said_alike properties_look one two same.1) ∙ prints.say;
   by_name = prints.by_name;
   listed = prints.listed;
 }
@@ -322,7 +322,7 @@ listed_properties_over : (one two : List Part) (error : XlsxError) → HaveSameO
 listed_properties_over one two error same own (inl opening) =
     inl (opening_cause_over one two error same opening)
 listed_properties_over one two error same own (inr has) =
-    inr (soundly_over one two same has.0, properties_cause_over one two error own has.1)
+    inr (soundly_over one two same has.0, cause_alike properties_look one two error own has.1)
 
 -- why its workbook refuses it
 pub cause_over : (command : Command) (one two : List Part) (error : XlsxError)

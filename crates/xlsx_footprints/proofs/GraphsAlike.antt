@@ -1,35 +1,34 @@
 -- The formulas of all sheets of packages that have the same parts where they are looked for.
-use Rattle.std.proofs.Common.{◌≡◌, ℕ, suc, List, [], ◌∷◌, Option, Some, IsSome, sym, ◌∙◌, ap, subst}
-use Rattle.std.proofs.Common.{inl, inr, codes, map}
+use Rattle.std.proofs.Common.{◌≡◌, ℕ, suc, List, [], ◌∷◌, Option, sym, ◌∙◌, ap, inl, inr, codes}
+use Rattle.std.proofs.Common.{map}
 use Rattle.std.specs.Prelude.{unwrap_or, option_map, option_and_then}
 use Rattle.book_names.specs.Book.{Book}
 use Rattle.cell_refs.specs.Words.{last_of_each}
 use Rattle.graph_reading.specs.BookRead.{GraphCause, book_with}
-use Rattle.part_events.specs.Words.{Event, Part, part_of}
+use Rattle.part_events.specs.Words.{Event, Part}
 use Rattle.xlsx_cells.specs.Words.{formulas_alone}
 use Rattle.xlsx_error.specs.declared.error.XlsxError.{XlsxError}
 use Rattle.xlsx_graph.specs.Words.{GraphFormula}
 use Rattle.xlsx_parts.specs.Words.{unless_absent, SheetPath}
 use Rattle.xlsx_sections.specs.Words.{closed_section}
 use Rattle.xlsx_tables.specs.TableParts.{TableSaid}
-use Rattle.xlsx_tables.specs.Tables.{table_on_sheet, TablesAtCause}
-use Rattle.xlsx_workbook.specs.Words.{scopes_in, workbook_part}
+use Rattle.xlsx_workbook.specs.Words.{scopes_in}
 use Rattle.xlsx_workbook.specs.declared.name_scope.NameScope.{NameScope}
-use Rattle.xlsx_open.specs.Words.{Opening, OpensAs, scopes_at}
+use Rattle.xlsx_open.specs.Words.{Opening, OpensAs}
 use Rattle.xlsx_core.specs.Words.{HaveSamePart, FormulasCause, NumberedSheet, SheetFormulasCause}
 use Rattle.xlsx_core.specs.Words.{formula_on, no_context, sheets_from, part_formulas}
 use Rattle.xlsx_core.specs.Words.{sheet_formulas, workbook_formulas, AllTablesCause}
-use Rattle.xlsx_core.specs.Words.{numbered_tables, numbered_tables_on, RangePartCause}
+use Rattle.xlsx_core.specs.Words.{numbered_tables, numbered_tables_look, RangePartCause}
 use Rattle.xlsx_commands.specs.Words.{DependentsPathCause, HasGraph, HasLargeBook}
 use Rattle.xlsx_commands.specs.Words.{HasLargeDependents, ListedGraphCause, NamedDependentsCause}
-use Rattle.xlsx_commands.specs.Words.{opened_book, sheet_names, HasSheetsCause, sheets_opened}
-use Rattle.xlsx_footprints.specs.Footprints.{Each, HaveSameGraph, HaveSameOpening, HaveSameTables}
+use Rattle.xlsx_commands.specs.Words.{opened_book, sheet_names, sheets_opened}
+use Rattle.xlsx_footprints.specs.Footprints.{Each, HaveSameGraph, HaveSameTables}
 use Rattle.xlsx_footprints.proofs.ListsAlike.{each_tables_back, listed_over, sheets_back}
 use Rattle.xlsx_footprints.proofs.OpeningsAlike.{opening_back, opening_over, other_opening}
 use Rattle.xlsx_footprints.proofs.PartsAlike.{there_over}
-use Rattle.xlsx_footprints.proofs.SaidAlike.{each_over, said_over, some_over}
+use Rattle.xlsx_footprints.proofs.SaidAlike.{each_over, looks_over, looks_cause_over, said_over}
+use Rattle.xlsx_footprints.proofs.SaidAlike.{some_over}
 use Rattle.xlsx_footprints.proofs.SheetsAlike.{named_over, part_path_over}
-use Rattle.xlsx_footprints.proofs.TablesAlike.{tables_over, tables_cause_over}
 
 -- what holds of the path of each sheet holds of each by its number
 numbered : (same : List ℕ → Type 0) (number : ℕ) (sheets : List SheetPath)
@@ -43,24 +42,15 @@ module _ (one two : List Part) (sheets : List SheetPath) where
   pub numbered_tables_over : Each (λ (sheet : SheetPath). HaveSameTables one two sheet.path) sheets
       → numbered_tables one sheets ≡ numbered_tables two sheets
   numbered_tables_over each =
-      said_over (numbered_tables_on one) (numbered_tables_on two) (sheets_from 0 sheets)
-      (each_over (λ (sheet : NumberedSheet). HaveSameTables one two sheet.path)
-      (λ sheet. numbered_tables_on one sheet ≡ numbered_tables_on two sheet)
-      (sheets_from 0 sheets)
-      (λ sheet own. ap (option_map (map (table_on_sheet sheet.number)))
-      (tables_over one two sheet.path own))
-      (numbered (HaveSameTables one two) 0 sheets each))
+      looks_over numbered_tables_look one two (sheets_from 0 sheets)
+      (numbered (HaveSameTables one two) 0 sheets each)
 
   numbered_cause_over : (error : XlsxError)
       → Each (λ (sheet : SheetPath). HaveSameTables one two sheet.path) sheets
       → AllTablesCause one sheets error → AllTablesCause two sheets error
   numbered_cause_over error each cause =
-      some_over (λ (sheet : NumberedSheet). TablesAtCause one sheet.path)
-      (λ (sheet : NumberedSheet). TablesAtCause two sheet.path) (sheets_from 0 sheets) error
-      (each_over (λ (sheet : NumberedSheet). HaveSameTables one two sheet.path)
-      (λ sheet. TablesAtCause one sheet.path error → TablesAtCause two sheet.path error)
-      (sheets_from 0 sheets) (λ sheet own. tables_cause_over one two sheet.path error own)
-      (numbered (HaveSameTables one two) 0 sheets each)) cause
+      looks_cause_over numbered_tables_look one two (sheets_from 0 sheets) error
+      (numbered (HaveSameTables one two) 0 sheets each) cause
 
   pub formulas_over : Each (λ (sheet : SheetPath). HaveSamePart one two sheet.path) sheets
       → workbook_formulas one sheets ≡ workbook_formulas two sheets

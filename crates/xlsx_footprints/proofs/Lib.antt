@@ -1,4 +1,3 @@
-pub mod RelatedAlike
 pub mod SaidAlike
 pub mod PartsAlike
 pub mod TablesAlike

@@ -1,8 +1,8 @@
 -- What is had of all sheets of packages that have the same parts where it is looked for.
-use Rattle.std.proofs.Common.{◌≡◌, ℕ, List, Option, Some, None, sym, ◌∙◌, ap, subst, inl, inr, Bool}
+use Rattle.std.proofs.Common.{◌≡◌, ℕ, List, Option, Some, None, sym, ◌∙◌, subst, inl, inr, Bool}
 use Rattle.std.proofs.Common.{true, false}
 use Rattle.std.specs.Prelude.{◌⊎◌, IsSomeAnd}
-use Rattle.part_events.specs.Words.{Event, Part, part_of}
+use Rattle.part_events.specs.Words.{Event, Part}
 use Rattle.cell_refs.specs.declared.dimensions.Dimensions.{Dimensions}
 use Rattle.cell_data.specs.Words.{table_data, CellValue, nothing, value_of_data}
 use Rattle.cell_data.specs.declared.range.Range.{Range}
@@ -11,16 +11,7 @@ use Rattle.cell_data.specs.declared.value.HeaderRow.{HeaderRow}
 use Rattle.cell_data.specs.declared.value.HeaderRow.TheVariants.{FirstNonEmptyRow}
 use Rattle.xlsx_error.specs.declared.error.XlsxError.{XlsxError}
 use Rattle.xlsx_error.specs.declared.error.XlsxError.TheVariants.{TableNotFound, PivotTableNotFound}
-use Rattle.xlsx_sections.specs.Words.{or_later}
-use Rattle.xlsx_parts.specs.Words.{SheetPath, WholePartCause}
-use Rattle.xlsx_properties.specs.CustomProperties.{custom_in}
-use Rattle.xlsx_properties.specs.Parts.{core_part, program_part, custom_part, said_by}
-use Rattle.xlsx_properties.specs.Parts.{property_said, custom_said, PropertiesCause, SayProperties}
-use Rattle.xlsx_properties.specs.Parts.{IsWholeIfThere}
-use Rattle.xlsx_properties.specs.Property.{core_properties, program_properties}
-use Rattle.xlsx_properties.specs.PropertyTexts.{property_in}
-use Rattle.xlsx_properties.specs.Said.{AreRefused}
-use Rattle.xlsx_properties.specs.declared.property.Property.{Property}
+use Rattle.xlsx_parts.specs.Words.{SheetPath}
 use Rattle.xlsx_relationships.specs.Words.{folder_of}
 use Rattle.xlsx_tables.specs.Tables.{SheetTable, TablesCause}
 use Rattle.cell_data.specs.declared.table.Table.{Table}
@@ -28,21 +19,19 @@ use Rattle.xlsx_pivots.specs.Words.{PivotSaid, PivotsCause}
 use Rattle.xlsx_values.specs.Words.{ValueContext}
 use Rattle.xlsx_open.specs.Words.{Opening, OpensAs, HasPath, SharedSaid}
 use Rattle.xlsx_cells.specs.Words.{values_and_styles, with_texts}
-use Rattle.xlsx_core.specs.Words.{HaveSameBook, HaveSamePart, PlacedCause, events_at}
-use Rattle.xlsx_core.specs.Words.{opened_context, path_named, shown_cells, AnswersStyledValues}
-use Rattle.xlsx_core.specs.Words.{ShowsValuesIn, ReadsValuesIn, IsRangeIn, RangePartCause}
-use Rattle.xlsx_core.specs.Words.{AnswersValues}
+use Rattle.xlsx_core.specs.Words.{HaveSameBook, PlacedCause, events_at, opened_context, path_named}
+use Rattle.xlsx_core.specs.Words.{shown_cells, AnswersStyledValues, ShowsValuesIn, ReadsValuesIn}
+use Rattle.xlsx_core.specs.Words.{IsRangeIn, RangePartCause, AnswersValues}
 use Rattle.xlsx_core.proofs.Agreeing.{events_over, opens_over, path_over}
 use Rattle.xlsx_commands.specs.Words.{HasCache, LacksPivot, HasCacheCause, NamedPivotCause}
 use Rattle.xlsx_commands.specs.Words.{HasPivots, sheets_opened, ListedCause, HasDataIn, HasTables}
 use Rattle.xlsx_commands.specs.Words.{HasNamedTable, NamesNoTable, HasTableCause, NamedTableCause}
 use Rattle.xlsx_commands.specs.Words.{HasTable, table_wants}
-use Rattle.xlsx_footprints.specs.Footprints.{OfEachSheet, HaveSameOpening, HaveSameProperties}
-use Rattle.xlsx_footprints.specs.Footprints.{HaveSameTables, HaveSamePivots, HaveSameTableData}
-use Rattle.xlsx_footprints.specs.Footprints.{HaveSameTableRows, HaveSameTheme, HaveSameCache}
+use Rattle.xlsx_footprints.specs.Footprints.{OfEachSheet, HaveSameOpening, HaveSameTables}
+use Rattle.xlsx_footprints.specs.Footprints.{HaveSamePivots, HaveSameTableData, HaveSameTableRows}
+use Rattle.xlsx_footprints.specs.Footprints.{HaveSameTheme, HaveSameCache}
 use Rattle.xlsx_footprints.proofs.OpeningsAlike.{opening_over, opening_cause_over, opening_back}
 use Rattle.xlsx_footprints.proofs.OpeningsAlike.{context_over, other_opening}
-use Rattle.xlsx_footprints.proofs.PartsAlike.{there_over}
 use Rattle.xlsx_footprints.proofs.PivotsAlike.{all_pivots_over, all_pivots_cause_over}
 use Rattle.xlsx_footprints.proofs.PivotsAlike.{cache_cause_over, pivots_back}
 use Rattle.xlsx_footprints.proofs.SaidAlike.{each_over}
@@ -72,59 +61,6 @@ listed_over cause one two error same over (inr has) =
       opens = opening_over one two has.opening same has.opens;
       cause = over has.opening has.opens has.cause;
     })
-
--- ---- properties
-
-whole_over : (one two : List Part) (path : List ℕ) → HaveSamePart one two path
-    → IsWholeIfThere (part_of one path) → IsWholeIfThere (part_of two path)
-whole_over one two path same whole = subst IsWholeIfThere same whole
-
-property_over : (one two : List Part) (own : Property) → HaveSameProperties one two
-    → property_said one own ≡ property_said two own
-property_over one two own same =
-    ap (λ (events : Option (List Event)).
-    or_later (said_by (property_in core_properties) own events)
-    (said_by (property_in program_properties) own (part_of one program_part))) same.core
-    ∙ ap (λ (events : Option (List Event)).
-    or_later (said_by (property_in core_properties) own (part_of two core_part))
-    (said_by (property_in program_properties) own events)) same.program
-
-custom_over : (one two : List Part) (name : List ℕ) → HaveSameProperties one two
-    → custom_said one name ≡ custom_said two name
-custom_over one two name same = ap (said_by custom_in name) same.custom
-
-pub properties_over : (one two : List Part) (texts : Property → Option (List ℕ))
-    (customs : List ℕ → Option (List ℕ)) → HaveSameProperties one two
-    → SayProperties one texts customs → SayProperties two texts customs
-properties_over one two texts customs same say = record {
-  whole = record {
-    core = whole_over one two core_part same.core say.whole.core;
-    program = whole_over one two program_part same.program say.whole.program;
-    custom = whole_over one two custom_part same.custom say.whole.custom;
-  };
-  said = λ (own : Property). sym (property_over one two own same) ∙ say.said own;
-  custom = λ (name : List ℕ). sym (custom_over one two name same) ∙ say.custom name;
-}
-
-pub properties_cause_over : (one two : List Part) (error : XlsxError)
-    → HaveSameProperties one two → PropertiesCause one error → PropertiesCause two error
-properties_cause_over one two error same (inl core) =
-    inl (there_over (WholePartCause (AreRefused (property_in core_properties))) one two core_part
-    error same.core core)
-properties_cause_over one two error same (inr (inl program)) =
-    inr (inl (there_over (WholePartCause (AreRefused (property_in program_properties))) one two
-    program_part error same.program program))
-properties_cause_over one two error same (inr (inr custom)) =
-    inr (inr (there_over (WholePartCause (AreRefused custom_in)) one two custom_part error
-    same.custom custom))
-
-pub properties_back : (one two : List Part) → HaveSameProperties one two
-    → HaveSameProperties two one
-properties_back one two same = record {
-  core = sym same.core;
-  program = sym same.program;
-  custom = sym same.custom;
-}
 
 -- ---- tables
 

@@ -1,14 +1,10 @@
 -- What a part says that two packages have in the same way, and why it can't be taken.
-use Rattle.std.proofs.Common.{◌≡◌, ℕ, List, [], Option, sym, ◌∙◌, ap, subst, inl, inr, codes}
-use Rattle.std.specs.Prelude.{option_and_then}
+use Rattle.std.proofs.Common.{ℕ, List, Option, sym, ◌∙◌, subst, inl, inr}
 use Rattle.part_events.specs.Words.{Event, Part, part_of}
 use Rattle.xlsx_error.specs.declared.error.XlsxError.{XlsxError}
 use Rattle.xlsx_error.specs.declared.error.XlsxError.TheVariants.{FileNotFound}
-use Rattle.xlsx_sections.specs.Words.{IsInsideRefused, Ending, Refusing, LacksPart, PartCause}
-use Rattle.xlsx_sections.specs.Words.{always, OptionalPartCause}
-use Rattle.xlsx_parts.specs.Words.{section_said, unless_absent, IfThere}
-use Rattle.xlsx_relationships.specs.Words.{relationships_beside, all_lead_to, related_parts}
-use Rattle.xlsx_relationships.specs.Words.{RelatedCause}
+use Rattle.xlsx_sections.specs.Words.{Ending, Refusing, LacksPart, PartCause, OptionalPartCause}
+use Rattle.xlsx_parts.specs.Words.{IfThere}
 use Rattle.xlsx_core.specs.Words.{HaveSamePart}
 
 pub lacks_over : (one two : List Part) (path : List ℕ) (error : XlsxError)
@@ -30,19 +26,3 @@ part_cause_over name ending refused one two path error same (inl lacks) =
 part_cause_over name ending refused one two path error same (inr cause) =
     inr (subst (λ (events : Option (List Event)).
     OptionalPartCause name ending refused events error) same cause)
-
--- where the relationships of a part lead
-pub related_over : (one two : List Part) (wanted path : List ℕ)
-    → HaveSamePart one two (relationships_beside path)
-    → related_parts one wanted path ≡ related_parts two wanted path
-related_over one two wanted path same =
-    ap (λ (events : Option (List Event)). unless_absent [] events
-    (option_and_then (section_said (codes "Relationships") (all_lead_to path wanted)) events)) same
-
-pub related_cause_over : (one two : List Part) (wanted path : List ℕ) (error : XlsxError)
-    → HaveSamePart one two (relationships_beside path) → RelatedCause one wanted path error
-    → RelatedCause two wanted path error
-related_cause_over one two wanted path error same cause =
-    subst (λ (events : Option (List Event)).
-    OptionalPartCause (codes "Relationships") (always (codes "Relationships"))
-    (IsInsideRefused (all_lead_to path wanted)) events error) same cause

@@ -1,8 +1,11 @@
 -- What is said of several parts, one after the other, by packages that agree on each.
 use Rattle.std.proofs.Common.{◌≡◌, List, [], ◌∷◌, Option, Some, None, refl, ◌∙◌, ap, inl, inr}
 use Rattle.std.specs.Prelude.{MatchOption, option_and_then}
+use Rattle.part_events.specs.Words.{Part}
 use Rattle.xlsx_error.specs.declared.error.XlsxError.{XlsxError}
 use Rattle.xlsx_parts.specs.Words.{all_said, put_together, SomeCause}
+use Rattle.looks.specs.Words.{Look, for_each, look_said, LookCause, HaveSameLook}
+use Rattle.looks.proofs.Alike.{said_alike, cause_alike}
 use Rattle.xlsx_footprints.specs.Footprints.{Each}
 
 pub each_over : {X : Type 0} (one two : X → Type 0) (xs : List X) → ((x : X) → one x → two x)
@@ -36,3 +39,23 @@ pub cause_over : {X : Type 0} (found : Option X) (one two : X → Type 0)
     → MatchOption found ⊥ two
 cause_over None one two over cause = cause
 cause_over (Some x) one two over cause = over x refl cause
+
+-- what is read for each of several, one after the other
+module _ {X A : Type 0} (look : X → Look (List A)) (one two : List Part) where
+  -- two packages have the same parts where one of these looks goes
+  abbrev same : X → Type 0
+  same x = HaveSameLook (look x) one two
+
+  pub looks_over : (xs : List X) → Each same xs
+      → look_said (for_each look xs) one ≡ look_said (for_each look xs) two
+  looks_over xs each =
+      said_over (λ x. look_said (look x) one) (λ x. look_said (look x) two) xs
+      (each_over same (λ x. look_said (look x) one ≡ look_said (look x) two) xs
+      (λ x own. said_alike (look x) one two own) each)
+
+  pub looks_cause_over : (xs : List X) (error : XlsxError) → Each same xs
+      → LookCause (for_each look xs) one error → LookCause (for_each look xs) two error
+  looks_cause_over xs error each cause =
+      some_over (λ x. LookCause (look x) one) (λ x. LookCause (look x) two) xs error
+      (each_over same (λ x. LookCause (look x) one error → LookCause (look x) two error) xs
+      (λ x own. cause_alike (look x) one two error own) each) cause

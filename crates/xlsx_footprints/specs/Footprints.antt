@@ -1,14 +1,15 @@
 -- Where each command looks in a package, and packages that have the same parts there.
 use Rattle.std.specs.Prelude.{◌≡◌, ⊤, ℕ, List, [], ◌∷◌, Some, codes, Bool, true, false}
 use Rattle.part_events.specs.Words.{Part}
-use Rattle.xlsx_parts.specs.Words.{SheetPath}
-use Rattle.xlsx_properties.specs.Parts.{core_part, program_part, custom_part}
-use Rattle.xlsx_relationships.specs.Words.{relationships_beside, related_parts}
+use Rattle.xlsx_parts.specs.Words.{SheetPath, sheet_at}
+use Rattle.looks.specs.Words.{HaveSameLook}
+use Rattle.xlsx_properties.specs.Parts.{properties_look}
+use Rattle.xlsx_relationships.specs.Words.{relationships_beside}
 use Rattle.xlsx_workbook.specs.Words.{workbook_part, relationships_part, strings_part, styles_part}
 use Rattle.xlsx_workbook.specs.Words.{theme_part}
-use Rattle.xlsx_comments.specs.Comments.{comments_type}
-use Rattle.xlsx_tables.specs.Tables.{table_type, SheetTable}
-use Rattle.xlsx_pivots.specs.Words.{pivot_type, definitions_at}
+use Rattle.xlsx_comments.specs.Comments.{sheet_comments_look}
+use Rattle.xlsx_tables.specs.Tables.{tables_look, SheetTable}
+use Rattle.xlsx_pivots.specs.Words.{pivots_on_look}
 use Rattle.xlsx_open.specs.Words.{Opening, OpensAs, HasPath}
 use Rattle.xlsx_core.specs.Words.{HaveSamePart, HaveSameSheet, path_named}
 use Rattle.xlsx_commands.specs.Words.{HasCache, Command, cells, sheets, names, merges, links, props}
@@ -58,18 +59,9 @@ HaveSameLinks one two name =
     (opening : Opening) (path : List ℕ) → OpensAs one opening →
     path_named name opening.sheets ≡ Some path → HaveSamePart one two (relationships_beside path)
 
--- two packages have the same relationships of the part at this path, and the parts that those of a
--- type lead to are alike
-pub record HaveSameRelated (alike : List ℕ → Type 0) (wanted : List ℕ) (one two : List Part)
-    (path : List ℕ) : Type 0 where
-  pub relationships : HaveSamePart one two (relationships_beside path)
-  pub related :
-      (paths : List (List ℕ)) → related_parts one wanted path ≡ Some paths → Each alike paths
-
 -- two packages have the same parts of the comments of the sheet at this path
 abbrev pub HaveSameCommentParts : List Part → List Part → List ℕ → Type 0
-HaveSameCommentParts one two path =
-    HaveSameRelated (HaveSamePart one two) comments_type one two path
+HaveSameCommentParts one two path = HaveSameLook (sheet_comments_look path) one two
 
 -- two packages have the same parts of the comments of the sheet of this name
 abbrev pub HaveSameComments : List Part → List Part → List ℕ → Type 0
@@ -78,27 +70,17 @@ HaveSameComments one two name =
     path_named name opening.sheets ≡ Some path → HaveSameCommentParts one two path
 
 -- two packages have the same parts of properties: the core part, the program's and the users' own
-pub record HaveSameProperties (one two : List Part) : Type 0 where
-  pub core : HaveSamePart one two core_part
-  pub program : HaveSamePart one two program_part
-  pub custom : HaveSamePart one two custom_part
+abbrev pub HaveSameProperties : List Part → List Part → Type 0
+HaveSameProperties one two = HaveSameLook properties_look one two
 
 -- two packages have the same parts of the tables of the sheet at this path
 abbrev pub HaveSameTables : List Part → List Part → List ℕ → Type 0
-HaveSameTables one two path = HaveSameRelated (HaveSamePart one two) table_type one two path
+HaveSameTables one two path = HaveSameLook (tables_look path) one two
 
--- two packages have the same pivot table at this path: its part, its relationships and, where these
--- lead to definitions, those of these
-pub record HaveSamePivot (one two : List Part) (path : List ℕ) : Type 0 where
-  pub own : HaveSamePart one two path
-  pub relationships : HaveSamePart one two (relationships_beside path)
-  pub definitions :
-      (there : List ℕ) → definitions_at one path ≡ Some there →
-      HaveSamePart one two (relationships_beside there)
-
--- two packages have the same pivot tables of the sheet at this path
+-- two packages have the same pivot tables of the sheet at this path; where these are looked up goes
+-- neither by the folder of the workbook nor by the sheet's name
 abbrev pub HaveSamePivots : List Part → List Part → List ℕ → Type 0
-HaveSamePivots one two path = HaveSameRelated (HaveSamePivot one two) pivot_type one two path
+HaveSamePivots one two path = HaveSameLook (pivots_on_look [] (sheet_at [] path)) one two
 
 -- a fact of the path of each sheet's part
 abbrev pub OfEachSheet : (List ℕ → Type 0) → List Part → Type 0

@@ -1,3 +1,1 @@
 pub mod PivotsRead
-pub mod PivotsTaken
-pub mod SoundPivots

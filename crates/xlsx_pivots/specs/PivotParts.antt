@@ -1,10 +1,9 @@
 -- The name that the part of a pivot table says (ECMA-376 part 1, section 18.10.1.73).
-use Rattle.std.specs.Prelude.{◌⊎◌, ℕ, List, [], ◌∷◌, length, Bool, codes, Option, None, Result}
+use Rattle.std.specs.Prelude.{ℕ, List, [], ◌∷◌, length, Bool, codes, Option, None, Result}
 use Rattle.part_events.specs.Words.{Tag, Event, PlacedTag, starts_by, is_named}
-use Rattle.xlsx_error.specs.declared.error.XlsxError.{XlsxError}
 use Rattle.xlsx_sections.specs.Words.{all_changes, changed_by, name_by, Refusal, placed_at}
-use Rattle.xlsx_parts.specs.Words.{first_said, FirstElementCause}
-use Rattle.xlsx_pivots.specs.Singles.{single_kept_by, Lacks}
+use Rattle.looks.specs.Words.{EventsAsk, Look, asks, in_first_element, needing, of_part}
+use Rattle.xlsx_pivots.specs.Singles.{single_kept_by, TellsLack}
 use Rattle.xlsx_pivots.specs.declared.single.Single.TheVariants as single
 
 -- a start of the element `pivotTableDefinition`, a pivot table
@@ -24,13 +23,13 @@ abbrev pub name_said : Tag → List Event → Result (Option (List ℕ)) Refusal
 name_said tag inside =
     changed_by (λ kept. name_behind kept inside) (name_kept (placed_at tag (length inside)) None)
 
--- whether a part says a name, by its first pivot table, and which
-abbrev pub name_in_part : List Event → Option (Option (List ℕ))
-name_in_part events = first_said (codes "pivotTableDefinition") name_said events
-
--- why the name of a part can't be taken: its pivot table is refused, or has none
-abbrev pub NameCause : List Event → XlsxError → Type 0
-NameCause events error =
+-- what is asked of the events of such a part: the name of its first pivot table, which has to have
+-- one
+abbrev pub name_ask : EventsAsk (List ℕ)
+name_ask =
     let name = codes "pivotTableDefinition" in
-    FirstElementCause name name name_said events error
-    ⊎ Lacks single.Name (name_in_part events) error
+    needing (TellsLack single.Name) (in_first_element name name name_said)
+
+-- the name of the pivot table whose part is at a path
+abbrev pub name_look : List ℕ → Look (List ℕ)
+name_look path = asks path (of_part path name_ask)

@@ -34,14 +34,9 @@ abbrev pub single_kept_by :
 single_kept_by single kept (Ok own) = kept_with single kept own
 single_kept_by single kept (Err refusal) = Err refusal
 
--- the one that was found, where it is said whether there is one
-abbrev pub only_one : Option (Option (List ℕ)) → Option (List ℕ)
-only_one None = None
-only_one (Some own) = own
-
--- a pivot table says that it lacks what it has to have once, and the refusal tells so
-abbrev pub Lacks : Single → Option (Option (List ℕ)) → XlsxError → Type 0
-Lacks single said error = (said ≡ Some None) × (plain_told error ≡ Some (lacking single))
+-- an error tells of what a pivot table lacks
+abbrev pub TellsLack : Single → XlsxError → Type 0
+TellsLack single error = plain_told error ≡ Some (lacking single)
 
 -- the refusals of which an error of a pivot table tells
 abbrev pub IsPivotRefusal : PlainRefusal → Type 0

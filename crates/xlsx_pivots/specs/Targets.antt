@@ -1,15 +1,15 @@
 -- Where the parts of a pivot table's cache lie (ECMA-376 part 2, section 9.3).
-use Rattle.std.specs.Prelude.{◌⊎◌, ⊤, ℕ, List, [], ◌∷◌, ◌++◌, nat_eq, codes, if◌then◌else◌, Option}
-use Rattle.std.specs.Prelude.{Some, None, option_map, option_and_then, Result, Ok, Err}
+use Rattle.std.specs.Prelude.{⊤, ℕ, List, [], ◌∷◌, ◌++◌, nat_eq, codes, if◌then◌else◌, Option, Some}
+use Rattle.std.specs.Prelude.{None, Result, Ok, Err}
 use Rattle.std.specs.Coded.{Unit-prop}
 use Rattle.std.specs.List.{starts_with}
 use Rattle.part_events.specs.Words.{Event, Part, PlacedTag}
-use Rattle.xlsx_error.specs.declared.error.XlsxError.{XlsxError}
-use Rattle.xlsx_sections.specs.Words.{all_changes, IsInsideRefused, PartCause, always, Refusal}
-use Rattle.xlsx_parts.specs.Words.{part_said}
+use Rattle.xlsx_sections.specs.Words.{all_changes, always, Refusal}
+use Rattle.looks.specs.Words.{EventsAsk, Look, and_then, asks, in_section, look_said, mapped}
+use Rattle.looks.specs.Words.{needing, of_part, refuses, says}
 use Rattle.xlsx_relationships.specs.Words.{relationships_beside, without_slash, target_path}
 use Rattle.xlsx_relationships.specs.Words.{typed_target, relationship_starts}
-use Rattle.xlsx_pivots.specs.Singles.{single_kept_by, only_one, Lacks}
+use Rattle.xlsx_pivots.specs.Singles.{single_kept_by, TellsLack}
 use Rattle.xlsx_pivots.specs.declared.single.Single.{Single}
 use Rattle.xlsx_pivots.specs.declared.single.Single.TheVariants as single
 
@@ -60,25 +60,37 @@ abbrev pub single_target_in : List ℕ → Single → List Event → Result (Opt
 single_target_in wanted single inside =
     all_changes (target_kept wanted single) (relationship_starts inside) None
 
--- whether the relationships beside the part at a path name a target of one type, and which
-abbrev pub target_beside : List Part → List ℕ → Single → List ℕ → Option (Option (List ℕ))
-target_beside parts wanted single path =
-    part_said (codes "Relationships") (single_target_in wanted single) parts
-    (relationships_beside path)
+-- what is asked of the events of relationships: their single target of one type, which has to be
+-- there
+abbrev pub target_ask : List ℕ → Single → EventsAsk (List ℕ)
+target_ask wanted single =
+    let name = codes "Relationships" in
+    needing (TellsLack single) (in_section name (always name) (single_target_in wanted single))
 
--- why the single target of relationships can't be taken: these are absent or refused, or there is
--- none
-abbrev pub TargetCause : List Part → List ℕ → Single → List ℕ → XlsxError → Type 0
-TargetCause parts wanted single path error =
-    PartCause (codes "Relationships") (always (codes "Relationships"))
-    (IsInsideRefused (single_target_in wanted single)) parts (relationships_beside path) error
-    ⊎ Lacks single (target_beside parts wanted single path) error
+-- the single target of one type that the relationships beside the part at a path name
+abbrev pub target_look : List ℕ → Single → List ℕ → Look (List ℕ)
+target_look wanted single path =
+    let beside = relationships_beside path in
+    asks beside (of_part beside (target_ask wanted single))
+
+-- the path that a target leads to, where it leads somewhere: one that counts does, and so there is
+-- no cause that it doesn't
+abbrev pub path_led : Option (List ℕ) → Look (List ℕ)
+path_led (Some there) = says there
+path_led None = refuses (λ error. ⊥)
+
+-- the path to which a target of the part at a path leads
+abbrev pub led_look : List ℕ → List ℕ → Look (List ℕ)
+led_look path target = path_led (target_path path target)
 
 -- the path of the definitions of the pivot table whose part is at a path
+abbrev pub definitions_look : List ℕ → Look (List ℕ)
+definitions_look path =
+    and_then (target_look definitions_type single.Definitions path) (led_look path)
+
+-- what the parts of a package say of it
 abbrev pub definitions_at : List Part → List ℕ → Option (List ℕ)
-definitions_at parts path =
-    option_and_then (target_path path)
-    (only_one (target_beside parts definitions_type single.Definitions path))
+definitions_at parts path = look_said (definitions_look path) parts
 
 -- The path of the records to which a target leads. One that doesn't lie in the workbook's folder,
 -- in one whose name begins with `pivotCache`, is put there.
@@ -91,7 +103,6 @@ abbrev pub records_path : List ℕ → List ℕ → List ℕ
 records_path folder target = in_caches (folder ++ codes "pivotCache") (without_slash target)
 
 -- the path of the records of the definitions whose part is at a path
-abbrev pub records_at : List Part → List ℕ → List ℕ → Option (List ℕ)
-records_at parts folder path =
-    option_map (records_path folder)
-    (only_one (target_beside parts records_type single.Records path))
+abbrev pub records_look : List ℕ → List ℕ → Look (List ℕ)
+records_look folder path =
+    mapped (records_path folder) (target_look records_type single.Records path)

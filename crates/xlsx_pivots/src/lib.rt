@@ -5,10 +5,13 @@
 //! `targets` (where its definitions and their records lie), `pivots` (those of sheets),
 //! `pivot_tables` and `names` (what is kept, and the iterators over its names), `laws`.
 //!
-//! **A name, definitions and records are each said as none or one** (`name_in_part`,
-//! `target_beside`): a second one is a refusal of its start, and none is told of what was read to
-//! its end (`Lacks`). So a part that ends in its section is refused for its end, and never for what
-//! it lacks. The walk that keeps one text is the same for all three (`single_kept_by`).
+//! **A name, definitions and records are each said as none or one** (`name_said`,
+//! `single_target_in`), and needed: a second one is a refusal of its start, and none is told of
+//! what was read to its end (`TellsLack`). So a part that ends in its section is refused for its
+//! end, and never for what it lacks. The walk that keeps one text is the same for all three
+//! (`single_kept_by`).
+//!
+//! Its lemma file `PivotsRead` says which refusals of the layers below are refusals of pivot tables.
 #![tactic(auto)]
 
 mod laws;

@@ -1,14 +1,12 @@
 ghost use Rattle.std.proofs.Common.{rules};
 ghost use Rattle.std.specs.Prelude.{◌≡◌, ⊤, ℕ, List, Option, Ok, Some, codes, true, option_map};
 ghost use Rattle.std.specs.Prelude.{string_bytes, IfOk, OnOk, IfErr};
-ghost use Rattle.part_events.specs.Words.{tag_of, Uses, event_count, IsReading, ReadsPart};
-ghost use Rattle.part_events.specs.Words.{events_of};
+ghost use Rattle.part_events.specs.Words.{tag_of, IsReading, ReadsPart, events_of};
 ghost use Rattle.xlsx_error.specs.declared.error.XlsxError.TheVariants.{Io};
-ghost use Rattle.xlsx_sections.specs.Words.{FailsBy, ElementFails, placed_at, ReadsToEnd};
-ghost use Rattle.xlsx_sections.specs.Words.{section_events};
+ghost use Rattle.xlsx_sections.specs.Words.{Answers, FailsBy, ElementFails, placed_at};
+ghost use Rattle.looks.specs.Words.{look_ask};
 ghost use Rattle.xlsx_pivots.specs.PivotErrors.{IsPivotsError};
-ghost use Rattle.xlsx_pivots.specs.PivotParts.{name_kept, name_in_part, NameCause};
-ghost use Rattle.xlsx_pivots.specs.Pivots.{pivot_name_at, NameAtCause};
+ghost use Rattle.xlsx_pivots.specs.PivotParts.{name_kept, name_ask, name_look};
 
 use crate::single::Single;
 use part_events::{Package, StartTag, XlReader};
@@ -70,12 +68,12 @@ fn name_in_part<P: Package>(xml: &mut XlReader<P>) -> Result<String, XlsxError>
     requires reading { IsReading xml.old }
     requires first { xml.old.at ≡ 0 }
     ensures reads { ReadsPart Io result xml.old xml.new }
-    ensures ends { let count = section_events (codes "pivotTableDefinition") (events_of xml.old) in
-        xml.old.source.is_visible ≡ true → OnOk result (xml.new.at ≡ count) }
+    ensures ends { xml.old.source.is_visible ≡ true →
+        OnOk result (xml.new.at ≡ name_ask.exact (events_of xml.old)) }
     ensures name { xml.old.source.is_visible ≡ true → IfOk result (λ name.
-        name_in_part (events_of xml.old) ≡ Some (Some (string_bytes name))) }
+        name_ask.said (events_of xml.old) ≡ Some (string_bytes name)) }
     ensures err { IfErr result
-        (FailsBy (NameCause (events_of xml.old)) xml.old.source xml.new.source) }
+        (FailsBy (name_ask.cause (events_of xml.old)) xml.old.source xml.new.source) }
     ensures kind { IfErr result IsPivotsError }
 {
     let alloc = xml.alloc();
@@ -107,15 +105,8 @@ fn name_in_part<P: Package>(xml: &mut XlReader<P>) -> Result<String, XlsxError>
 /// `Unexpected` of the text that says so. A name with a reference without a character is
 /// `Xml(Entity)` with the number of its start, counted from 0.
 pub fn name_at<P: Package>(xml: &mut XlReader<P>, path: &str) -> Result<String, XlsxError>
-    ensures uses { Uses (event_count xml.old.source.parts path.now) Io result
+    ensures answers { Answers (look_ask IsPivotsError (name_look path.now)) string_bytes result
         xml.old.source xml.new.source }
-    ensures to_end { ReadsToEnd (codes "pivotTableDefinition") path.now result
-        xml.old.source xml.new.source }
-    ensures name { xml.old.source.is_visible ≡ true → IfOk result (λ name.
-        pivot_name_at xml.old.source.parts path.now ≡ Some (string_bytes name)) }
-    ensures err { IfErr result
-        (FailsBy (NameAtCause xml.old.source.parts path.now) xml.old.source xml.new.source) }
-    ensures kind { IfErr result IsPivotsError }
 {
     if !open_part(xml, path)? {
         return Err(XlsxError::FileNotFound(String::from_str(xml.alloc(), path)?));

@@ -1,13 +1,11 @@
 ghost use Rattle.std.proofs.Common.{rules};
-ghost use Rattle.std.specs.Prelude.{◌≡◌, ◌++◌, List, map, true, Some, IfOk, OnOk, IfErr};
-ghost use Rattle.part_events.specs.Words.{Uses, CountsUp};
-ghost use Rattle.xlsx_error.specs.declared.error.XlsxError.TheVariants.{Io};
-ghost use Rattle.xlsx_sections.specs.Words.{Answers, FailsBy};
+ghost use Rattle.std.specs.Prelude.{◌≡◌, ◌++◌, List, map};
+ghost use Rattle.xlsx_sections.specs.Words.{Answers};
 ghost use Rattle.xlsx_parts.specs.Words.{Appends, sheet_at};
+ghost use Rattle.looks.specs.Words.{look_ask};
 ghost use Rattle.xlsx_pivots.specs.PivotErrors.{IsPivotsError};
 ghost use Rattle.xlsx_pivots.specs.PivotTables.{pivot_kept, pivots_kept, sheet_given};
-ghost use Rattle.xlsx_pivots.specs.Pivots.{PivotSaid, PivotCause, pivot_at, pivot_events};
-ghost use Rattle.xlsx_pivots.specs.Pivots.{pivot_sections, one_pivot_ask, pivots_on_ask};
+ghost use Rattle.xlsx_pivots.specs.Pivots.{PivotSaid, pivot_look, one_pivot_look, pivots_on_ask};
 ghost use Rattle.xlsx_pivots.specs.Pivots.{pivots_ask};
 
 use crate::pivot_parts::name_at;
@@ -27,16 +25,8 @@ fn pivot_at<P: Package>(
     path: &str,
     folder: &str,
 ) -> Result<PivotTable, XlsxError>
-    ensures uses { Uses (pivot_events xml.old.source.parts path.now) Io result
-        xml.old.source xml.new.source }
-    ensures to_end { let old = xml.old.source in
-        let count = pivot_sections old.parts path.now in
-        old.is_visible ≡ true → OnOk result (CountsUp count old.taken xml.new.source.taken) }
-    ensures pivot { xml.old.source.is_visible ≡ true → IfOk result (λ pivot.
-        pivot_at xml.old.source.parts folder.now sheet.now path.now ≡ Some (pivot_kept pivot)) }
-    ensures err { IfErr result
-        (FailsBy (PivotCause xml.old.source.parts path.now) xml.old.source xml.new.source) }
-    ensures kind { IfErr result IsPivotsError }
+    ensures answers { let look = pivot_look folder.now sheet.now path.now in
+        Answers (look_ask IsPivotsError look) pivot_kept result xml.old.source xml.new.source }
 {
     let name = name_at(xml, path)?;
     let definitions = definitions_at(xml, path)?;
@@ -63,11 +53,9 @@ impl ReadsRelated for PivotReader<'_> {
 
     ghost kept = { λ r own. pivot_kept own };
 
-    ghost ask = { λ r path. one_pivot_ask r.folder.now r.sheet.now path };
+    ghost look = { λ r. one_pivot_look r.folder.now r.sheet.now };
 
     ghost Kind = { IsPivotsError };
-
-    ghost kinds = { λ r path error is. is };
 
     ghost related_kinds = { Prim.search rules };
 

@@ -1,16 +1,13 @@
 ghost use Rattle.std.proofs.Common.{rules};
-ghost use Rattle.std.specs.Prelude.{◌≡◌, ⊤, ℕ, List, Option, Ok, Some, codes, true, option_map};
+ghost use Rattle.std.specs.Prelude.{◌≡◌, ⊤, ℕ, List, Option, Ok, Some, codes, option_map};
 ghost use Rattle.std.specs.Prelude.{string_bytes, IfOk, OnOk, IfErr};
-ghost use Rattle.part_events.specs.Words.{tag_of, Uses, event_count};
-ghost use Rattle.xlsx_error.specs.declared.error.XlsxError.TheVariants.{Io};
-ghost use Rattle.xlsx_sections.specs.Words.{FailsBy, ElementFails, placed_at, ReadsToEnd};
-ghost use Rattle.xlsx_relationships.specs.Words.{relationships_beside};
+ghost use Rattle.part_events.specs.Words.{tag_of};
+ghost use Rattle.xlsx_sections.specs.Words.{Answers, ElementFails, placed_at};
+ghost use Rattle.looks.specs.Words.{look_ask};
 ghost use Rattle.xlsx_pivots.specs.PivotErrors.{IsPivotsError};
 ghost use Rattle.xlsx_pivots.specs.Targets.{counted, HasText, HasText-prop, target_kept};
-ghost use Rattle.xlsx_pivots.specs.Targets.{target_beside, TargetCause, definitions_at};
-ghost use Rattle.xlsx_pivots.specs.Targets.{definitions_type, records_type, records_path};
-ghost use Rattle.xlsx_pivots.specs.Targets.{records_at};
-ghost use Rattle.xlsx_pivots.specs.declared.single.Single.TheVariants as single;
+ghost use Rattle.xlsx_pivots.specs.Targets.{target_look, definitions_look, records_path};
+ghost use Rattle.xlsx_pivots.specs.Targets.{records_look};
 
 use crate::single::Single;
 use part_events::{Package, StartTag, XlReader};
@@ -109,18 +106,9 @@ fn target_beside<P: Package>(
     wanted: &str,
     single: Single,
 ) -> Result<String, XlsxError>
-    ensures uses { Uses (event_count xml.old.source.parts (relationships_beside path.now)) Io result
-        xml.old.source xml.new.source }
-    ensures to_end { ReadsToEnd (codes "Relationships") (relationships_beside path.now) result
-        xml.old.source xml.new.source }
-    ensures target { xml.old.source.is_visible ≡ true → IfOk result (λ target.
-        target_beside xml.old.source.parts wanted.now single path.now
-        ≡ Some (Some (string_bytes target))) }
+    ensures answers { Answers (look_ask IsPivotsError (target_look wanted.now single path.now))
+        string_bytes result xml.old.source xml.new.source }
     ensures written { IfOk result (λ target. HasText (Some (string_bytes target))) }
-    ensures err { IfErr result
-        (FailsBy (TargetCause xml.old.source.parts wanted.now single path.now)
-        xml.old.source xml.new.source) }
-    ensures kind { IfErr result IsPivotsError }
 {
     let alloc = xml.alloc();
     let part = relationships_beside(alloc, path)?;
@@ -150,16 +138,8 @@ fn target_beside<P: Package>(
 /// `Relationships`, or ends in it, is `XmlEof("Relationships")`. Where no such target is found that
 /// isn't empty, or one more behind the first, it is `Unexpected` of the text that says so.
 pub fn definitions_at<P: Package>(xml: &mut XlReader<P>, path: &str) -> Result<String, XlsxError>
-    ensures uses { Uses (event_count xml.old.source.parts (relationships_beside path.now)) Io result
-        xml.old.source xml.new.source }
-    ensures to_end { ReadsToEnd (codes "Relationships") (relationships_beside path.now) result
-        xml.old.source xml.new.source }
-    ensures path { xml.old.source.is_visible ≡ true → IfOk result (λ there.
-        definitions_at xml.old.source.parts path.now ≡ Some (string_bytes there)) }
-    ensures err { IfErr result (FailsBy
-        (TargetCause xml.old.source.parts definitions_type single.Definitions path.now)
-        xml.old.source xml.new.source) }
-    ensures kind { IfErr result IsPivotsError }
+    ensures answers { Answers (look_ask IsPivotsError (definitions_look path.now)) string_bytes
+        result xml.old.source xml.new.source }
 {
     let target = target_beside(xml, path, DEFINITIONS_TYPE, Single::Definitions)?;
     match target_path(xml.alloc(), path, target.as_str())? {
@@ -194,16 +174,8 @@ pub fn records_at<P: Package>(
     path: &str,
     folder: &str,
 ) -> Result<String, XlsxError>
-    ensures uses { Uses (event_count xml.old.source.parts (relationships_beside path.now)) Io result
-        xml.old.source xml.new.source }
-    ensures to_end { ReadsToEnd (codes "Relationships") (relationships_beside path.now) result
-        xml.old.source xml.new.source }
-    ensures path { xml.old.source.is_visible ≡ true → IfOk result (λ there.
-        records_at xml.old.source.parts folder.now path.now ≡ Some (string_bytes there)) }
-    ensures err { IfErr result
-        (FailsBy (TargetCause xml.old.source.parts records_type single.Records path.now)
-        xml.old.source xml.new.source) }
-    ensures kind { IfErr result IsPivotsError }
+    ensures answers { Answers (look_ask IsPivotsError (records_look folder.now path.now))
+        string_bytes result xml.old.source xml.new.source }
 {
     let target = target_beside(xml, path, RECORDS_TYPE, Single::Records)?;
     Ok(records_path(xml.alloc(), folder, target.as_str())?)

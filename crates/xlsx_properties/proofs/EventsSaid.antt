@@ -100,18 +100,7 @@ events_ended {before = before} {now = now} {saying = saying} {following = follow
     ∙ sym (keeps.said told key)
     ∙ ap (or_earlier (now key)) (ap (following key) ends ∙ none key)
 
--- what two parts say, the second behind the first
-pub said_later : {A : Type 0} (first second : Result (Option A) Refusal) (kept last : Option A)
-    → or_earlier None first ≡ Ok kept → or_earlier kept second ≡ Ok last
-    → or_later first second ≡ Ok last
-said_later (Ok None) second kept last one two =
-    let none : kept ≡ None = cc in
-    ap (λ (own : Option _). or_earlier own second) (sym none) ∙ two
-said_later (Ok (Some a)) second kept last one two =
-    let some : kept ≡ Some a = cc in
-    ap (λ (own : Option _). or_earlier own second) (sym some) ∙ two
-said_later (Err refusal) second kept last one two = absurd (cc)
-
+-- what is said behind nothing
 pub none_earlier : {A : Type 0} (answer : Result (Option A) Refusal) (last : Option A)
     → or_earlier None answer ≡ Ok last → answer ≡ Ok last
 none_earlier (Ok None) last is = is

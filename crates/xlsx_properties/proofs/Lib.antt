@@ -1,5 +1,5 @@
 pub mod CustomKept
 pub mod Errors
 pub mod EventsSaid
-pub mod SoundProperties
+pub mod PropertiesTaken
 pub mod TextsKept

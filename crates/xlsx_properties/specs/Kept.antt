@@ -2,6 +2,7 @@
 use Rattle.std.specs.Prelude.{◌≡◌, ℕ, List, map, Option, option_map, string_bytes, String}
 use Rattle.std.specs.BTreeMap.{get_by_text}
 use Rattle.std.specs.declared.alloc.Global.{Global}
+use Rattle.xlsx_properties.specs.Parts.{PropertiesSaid, properties_with}
 use Rattle.xlsx_properties.specs.declared.property.Property.{Property}
 use Rattle.xlsx_properties.specs.declared.property.Property.TheVariants.{Creator, LastModifiedBy}
 use Rattle.xlsx_properties.specs.declared.property.Property.TheVariants.{Created, Modified, Title}
@@ -46,6 +47,10 @@ entry_texts entry = (string_bytes entry.0, string_bytes entry.1)
 -- the names that users gave, with their texts, in the order of the names
 abbrev pub custom_texts : WorkbookProperties → List (List ℕ × List ℕ)
 custom_texts kept = map entry_texts kept.custom_properties.entries
+
+-- the properties that are kept
+abbrev pub properties_kept : WorkbookProperties → PropertiesSaid
+properties_kept kept = properties_with (λ own. held own kept) (λ name. custom_held name kept)
 
 -- two lists of properties have the same texts
 pub record AreSame (one other : WorkbookProperties) : Type 0 where

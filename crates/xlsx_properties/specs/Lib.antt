@@ -1,3 +1,4 @@
+pub mod ByKeys
 pub mod CustomProperties
 pub mod Errors
 pub mod Kept

@@ -1,14 +1,18 @@
 -- The parts that say the properties of a workbook, each of which may be absent.
-use Rattle.std.specs.Prelude.{◌≡◌, ◌⊎◌, ℕ, ◌+◌, List, codes, Option, Some, None, Result, Ok}
-use Rattle.part_events.specs.Words.{Event, whole, Part, part_of, event_count}
+use Rattle.std.specs.Prelude.{◌≡◌, ℕ, List, [], codes, Option, Some, None, Result, Ok}
+use Rattle.std.specs.Option.{option_or}
+use Rattle.part_events.specs.Words.{Event, whole, Part, part_of}
 use Rattle.xlsx_error.specs.declared.error.XlsxError.{XlsxError}
-use Rattle.xlsx_sections.specs.Words.{or_later, Refusal}
+use Rattle.xlsx_sections.specs.Words.{Refusal}
 use Rattle.xlsx_parts.specs.Words.{WholePartCause, IfThere}
+use Rattle.looks.specs.Words.{Look, LookCause, asks, both}
+use Rattle.xlsx_properties.specs.ByKeys.{if_there_by_keys}
 use Rattle.xlsx_properties.specs.CustomProperties.{custom_in}
 use Rattle.xlsx_properties.specs.Property.{core_properties, program_properties}
 use Rattle.xlsx_properties.specs.PropertyTexts.{property_in}
 use Rattle.xlsx_properties.specs.Said.{Saying, AreRefused}
 use Rattle.xlsx_properties.specs.declared.property.Property.{Property}
+use Rattle.xlsx_properties.specs.declared.property.Property.TheVariants.{Creator}
 
 -- the part of the core properties
 abbrev pub core_part : List ℕ
@@ -38,38 +42,33 @@ abbrev pub SaidCause : {K A : Type 0} → Saying K A → List ℕ → List Part 
 SaidCause saying path parts error =
     IfThere (WholePartCause (AreRefused saying)) (part_of parts path) error
 
--- what the parts say of a property: the core part, and behind it the program's
-abbrev pub property_said : List Part → Property → Result (Option (List ℕ)) Refusal
-property_said parts wanted =
-    or_later (said_by (property_in core_properties) wanted (part_of parts core_part))
-    (said_by (property_in program_properties) wanted (part_of parts program_part))
+-- the properties of a workbook: the texts of those that have names of their own, and of the names
+-- that users gave
+pub record PropertiesSaid : Type 0 where
+  pub texts : Property → Option (List ℕ)
+  pub customs : List ℕ → Option (List ℕ)
 
--- what the parts say of a name that users gave to a property
-abbrev pub custom_said : List Part → List ℕ → Result (Option (List ℕ)) Refusal
-custom_said parts name = said_by custom_in name (part_of parts custom_part)
+-- properties by their texts
+abbrev pub properties_with :
+    (Property → Option (List ℕ)) → (List ℕ → Option (List ℕ)) → PropertiesSaid
+properties_with texts customs = record { texts = texts; customs = customs }
+
+-- of two texts of a key that of the later part, if it says one
+abbrev pub later_texts : {K A : Type 0} → (K → Option A) → (K → Option A) → K → Option A
+later_texts earlier later key = option_or (later key) (earlier key)
+
+-- what the core part says, and behind it the program's
+abbrev pub texts_look : Look (Property → Option (List ℕ))
+texts_look =
+    both later_texts
+    (asks core_part (if_there_by_keys (property_in core_properties) Creator))
+    (asks program_part (if_there_by_keys (property_in program_properties) Creator))
+
+-- the properties of a workbook, by the three parts that say them
+abbrev pub properties_look : Look PropertiesSaid
+properties_look =
+    both properties_with texts_look (asks custom_part (if_there_by_keys custom_in []))
 
 -- why the properties of a workbook can't be read
 abbrev pub PropertiesCause : List Part → XlsxError → Type 0
-PropertiesCause parts error =
-    SaidCause (property_in core_properties) core_part parts error
-    ⊎ (SaidCause (property_in program_properties) program_part parts error
-    ⊎ SaidCause custom_in custom_part parts error)
-
--- how many events the three parts of properties have
-abbrev pub property_events : List Part → ℕ
-property_events parts =
-    event_count parts core_part + (event_count parts program_part + event_count parts custom_part)
-
--- no end breaks the nesting of one of the three parts of properties
-pub record AreWhole (parts : List Part) : Type 0 where
-  pub core : IsWholeIfThere (part_of parts core_part)
-  pub program : IsWholeIfThere (part_of parts program_part)
-  pub custom : IsWholeIfThere (part_of parts custom_part)
-
--- the parts say these texts of the properties and of the names that users gave
-pub record SayProperties
-    (parts : List Part) (texts : Property → Option (List ℕ))
-    (customs : List ℕ → Option (List ℕ)) : Type 0 where
-  pub whole : AreWhole parts
-  pub said : (own : Property) → property_said parts own ≡ Ok (texts own)
-  pub custom : (name : List ℕ) → custom_said parts name ≡ Ok (customs name)
+PropertiesCause parts error = LookCause properties_look parts error

@@ -1,7 +1,7 @@
 pub mod KeptRelationships
 pub mod LinkTargets
 pub mod Paths
-pub mod RelatedAsked
+pub mod RelatedLook
 pub mod RelatedParts
 pub mod RelationshipErrors
 pub mod Relationships

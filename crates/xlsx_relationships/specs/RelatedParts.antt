@@ -2,19 +2,14 @@
 use Rattle.std.specs.Prelude.{ℕ, ◌-◌, List, [], ◌∷◌, ◌++◌, length, take, drop, nat_eq, codes}
 use Rattle.std.specs.Prelude.{if◌then◌else◌, Option, Some, None, unwrap_or, option_and_then, Result}
 use Rattle.std.specs.Prelude.{Ok, Err}
-use Rattle.std.specs.List.{starts_with, sum_by}
-use Rattle.std.specs.Option.{option_map_or}
+use Rattle.std.specs.List.{starts_with}
 use Rattle.std.specs.Str.{bytes_eq}
 use Rattle.attr_text.specs.Words.{lookup}
 use Rattle.attr_text.specs.declared.fault.AttrFault.{AttrFault}
-use Rattle.part_events.specs.Words.{Event, Part, part_of, PlacedTag}
-use Rattle.xlsx_error.specs.declared.error.XlsxError.{XlsxError}
-use Rattle.xlsx_sections.specs.Words.{some_answers, with_two, IsInsideRefused, some_text}
-use Rattle.xlsx_sections.specs.Words.{OptionalPartCause, always, Refusal, plain, lookup_fault}
-use Rattle.xlsx_sections.specs.Words.{decoded_at}
-use Rattle.xlsx_parts.specs.Words.{part_said, unless_absent}
+use Rattle.part_events.specs.Words.{Event, PlacedTag}
+use Rattle.xlsx_sections.specs.Words.{some_answers, with_two, some_text, Refusal, plain}
+use Rattle.xlsx_sections.specs.Words.{lookup_fault, decoded_at}
 use Rattle.xlsx_relationships.specs.Paths.{last_piece, without_slash, part_folder}
-use Rattle.xlsx_relationships.specs.Paths.{relationships_beside}
 use Rattle.xlsx_relationships.specs.Relationships.{relationship_starts}
 
 -- what stands before the last slash of a path
@@ -75,22 +70,3 @@ leads_to path wanted start = led_to path (typed_target wanted start)
 -- where all relationships of one type in a section lead, in order
 abbrev pub all_lead_to : List ℕ → List ℕ → List Event → Result (List (List ℕ)) Refusal
 all_lead_to path wanted inside = some_answers (leads_to path wanted) (relationship_starts inside)
-
--- where the relationships of one type lead that are beside the part at a path; a part without
--- relationships leads nowhere
-abbrev pub related_parts : List Part → List ℕ → List ℕ → Option (List (List ℕ))
-related_parts parts wanted path =
-    unless_absent [] (part_of parts (relationships_beside path))
-    (part_said (codes "Relationships") (all_lead_to path wanted) parts (relationships_beside path))
-
--- what a count of each part comes to in sum to which the relationships of one type lead that are
--- beside the part at a path
-abbrev pub sum_of_related : (List ℕ → ℕ) → List Part → List ℕ → List ℕ → ℕ
-sum_of_related count parts wanted path =
-    option_map_or (sum_by count) (related_parts parts wanted path) 0
-
--- why it can't be said where the relationships of one type lead that are beside a part
-abbrev pub RelatedCause : List Part → List ℕ → List ℕ → XlsxError → Type 0
-RelatedCause parts wanted path error =
-    OptionalPartCause (codes "Relationships") (always (codes "Relationships"))
-    (IsInsideRefused (all_lead_to path wanted)) (part_of parts (relationships_beside path)) error

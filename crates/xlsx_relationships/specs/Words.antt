@@ -5,9 +5,8 @@ pub use Rattle.xlsx_relationships.specs.LinkTargets.{link_targets, link_targets_
 pub use Rattle.xlsx_relationships.specs.LinkTargets.{target_held, target_in}
 pub use Rattle.xlsx_relationships.specs.Paths.{behind_slash, folder_of, last_piece}
 pub use Rattle.xlsx_relationships.specs.Paths.{relationships_beside, without_slash}
-pub use Rattle.xlsx_relationships.specs.RelatedAsked.{each_related}
-pub use Rattle.xlsx_relationships.specs.RelatedParts.{RelatedCause, all_lead_to, related_parts}
-pub use Rattle.xlsx_relationships.specs.RelatedParts.{sum_of_related, target_path, typed_target}
+pub use Rattle.xlsx_relationships.specs.RelatedLook.{each_related, related_ask, related_look}
+pub use Rattle.xlsx_relationships.specs.RelatedParts.{all_lead_to, target_path, typed_target}
 pub use Rattle.xlsx_relationships.specs.RelationshipErrors.{IsRelatedError}
 pub use Rattle.xlsx_relationships.specs.Relationships.{AreRelationshipsRefused, IsPathRefused}
 pub use Rattle.xlsx_relationships.specs.Relationships.{IsTargetRefused, Related, path_in}

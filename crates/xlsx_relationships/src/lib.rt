@@ -13,8 +13,8 @@
 //! target for each relationship that counts, in order, and `target_in` finds the last of an Id. So
 //! a refusal is one whatever Id is asked for. The lemma file is `TargetsKept`. `targets` has where
 //! a target leads, `related` where the relationships of one type lead, by the target of each
-//! (`typed_target`), and `related_lists` what the parts say that they lead to; the lemma files of
-//! these are `RelatedRead` and `RelatedTaken`.
+//! (`typed_target`), and `related_lists` what the parts say that they lead to, by a look of each
+//! (`ReadsRelated`); their lemma file is `RelatedRead`.
 #![tactic(auto)]
 
 mod link_targets;

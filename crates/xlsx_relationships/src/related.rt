@@ -3,7 +3,7 @@ ghost use Rattle.std.specs.Prelude.{◌≡◌, ℕ, List, Ok, Some, codes, map, 
 ghost use Rattle.std.specs.Prelude.{IfOk, IfErr};
 ghost use Rattle.part_events.specs.Words.{tag_of};
 ghost use Rattle.xlsx_sections.specs.Words.{Answers, ElementFails, placed_at};
-ghost use Rattle.xlsx_relationships.specs.RelatedAsked.{related_ask};
+ghost use Rattle.xlsx_relationships.specs.RelatedLook.{related_ask};
 ghost use Rattle.xlsx_relationships.specs.RelatedParts.{typed_target, leads_to};
 ghost use Rattle.xlsx_relationships.specs.RelationshipErrors.{IsRelatedError};
 

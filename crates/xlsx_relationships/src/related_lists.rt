@@ -1,8 +1,8 @@
 ghost use Rattle.std.specs.Prelude.{◌≡◌, ◌++◌, ℕ, List, map};
 ghost use Rattle.xlsx_error.specs.declared.error.XlsxError.{XlsxError};
-ghost use Rattle.xlsx_sections.specs.Words.{Ask};
 ghost use Rattle.xlsx_parts.specs.Words.{Appends};
-ghost use Rattle.xlsx_relationships.specs.RelatedAsked.{each_related};
+ghost use Rattle.looks.specs.Words.{Look, look_ask};
+ghost use Rattle.xlsx_relationships.specs.RelatedLook.{each_related};
 ghost use Rattle.xlsx_relationships.specs.RelationshipErrors.{IsRelatedError};
 
 use crate::related::related_parts;
@@ -17,7 +17,7 @@ pub trait ReadsRelated {
 
     ghost kept: { Self → Self.Item → Kept };
 
-    ghost ask: { Self → List ℕ → Ask (List Kept) };
+    ghost look: { Self → List ℕ → Look (List Kept) };
 
     ghost Kind: { XlsxError → Type 0 };
 
@@ -30,12 +30,9 @@ pub trait ReadsRelated {
     ) -> Result<(), XlsxError>
         ensures answers { let before = map (kept self.now) items.old.items in
             let after = map (kept self.now) items.new.items in
-            Appends (ask self.now path.now) before after result
+            Appends (look_ask Kind (look self.now path.now)) before after result
             xml.old.source xml.new.source }
         ensures kept { (more : List Self.Item) × (items.new.items ≡ items.old.items ++ more) };
-
-    ghost kinds: { (by : Self) (path : List ℕ) (error : XlsxError) →
-        (ask by path).kind error → Kind error };
 
     ghost related_kinds: { (error : XlsxError) → IsRelatedError error → Kind error };
 }
@@ -55,8 +52,8 @@ pub fn push_related<P: Package, R: ReadsRelated>(
 ) -> Result<(), XlsxError>
     ensures answers { let before = map (R.kept by.now) items.old.items in
         let after = map (R.kept by.now) items.new.items in
-        Appends (each_related R.Kind (R.ask by.now) typ.now path.now) before after result
-        xml.old.source xml.new.source }
+        Appends (look_ask R.Kind (each_related (R.look by.now) typ.now path.now)) before after
+        result xml.old.source xml.new.source }
     ensures kept { (more : List R.Item) × (items.new.items ≡ items.old.items ++ more) }
 {
     let paths = related_parts(xml, path, typ)?;

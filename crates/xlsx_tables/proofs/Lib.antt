@@ -1,4 +1,3 @@
 pub mod AreasInside
-pub mod SoundTables
 pub mod TablesKept
 pub mod TablesRead

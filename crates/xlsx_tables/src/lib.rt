@@ -2,9 +2,11 @@
 //!
 //! Rooms: `table_start` (what the start of a table says), `table_part` (a table's part), `loaded`
 //! (a table that is kept), `tables` (those of a sheet), `laws`. A table is told by its own start,
-//! so its part is read by its first element, and not by a section. What is kept of a table has an
+//! so its part is read by its first element, and not by a section. Which parts are read for the
+//! tables of a sheet, and what they say, is a look (`tables_look`). What is kept of a table has an
 //! area that lies in a worksheet, which its type knows; the lemmas `AreasInside` say so of what a
-//! text names.
+//! text names, `TablesRead` which refusals are those of tables, and `TablesKept` that the tables of
+//! each part are those of the sheet.
 #![tactic(auto)]
 
 mod laws;

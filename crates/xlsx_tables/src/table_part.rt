@@ -1,17 +1,17 @@
 ghost use Rattle.std.proofs.Common.{rules};
-ghost use Rattle.std.specs.Prelude.{◌≡◌, ◌≤◌, ℕ, List, Ok, Some, None, suc, length, map, true};
-ghost use Rattle.std.specs.Prelude.{codes, string_bytes, IfOk, OnOk, IfErr, IfSome, MatchOption};
-ghost use Rattle.std.specs.Prelude.{option_and_then};
+ghost use Rattle.std.specs.Prelude.{◌≡◌, ◌≤◌, ℕ, List, Ok, Some, suc, length, map, true, codes};
+ghost use Rattle.std.specs.Prelude.{string_bytes, IfOk, OnOk, IfErr, IfSome, option_map};
+ghost use Rattle.std.specs.Prelude.{option_to_list};
 ghost use Rattle.std.specs.Result.{is_err};
 ghost use Rattle.cell_refs.specs.Words.{are_sheet_bounds};
-ghost use Rattle.part_events.specs.Words.{Uses, event_count, part_of, IsReading, ReadsPart};
-ghost use Rattle.part_events.specs.Words.{events_of, section_ahead};
+ghost use Rattle.part_events.specs.Words.{IsReading, ReadsPart, events_of, section_ahead};
 ghost use Rattle.xlsx_error.specs.declared.error.XlsxError.TheVariants.{Io};
-ghost use Rattle.xlsx_sections.specs.Words.{IsInsideRefused, ReachesEnd, FailsBy, name_by, always};
-ghost use Rattle.xlsx_sections.specs.Words.{SectionFails, ReadsToEnd, section_events};
-ghost use Rattle.xlsx_parts.specs.Words.{IfThere};
+ghost use Rattle.xlsx_sections.specs.Words.{Answers, IsInsideRefused, ReachesEnd, FailsBy, name_by};
+ghost use Rattle.xlsx_sections.specs.Words.{SectionFails, always, section_events};
+ghost use Rattle.looks.specs.Words.{look_ask};
 ghost use Rattle.xlsx_tables.specs.TableErrors.{TableCause, IsTableError};
 ghost use Rattle.xlsx_tables.specs.TableParts.{columns_in, table_of, table_kept};
+ghost use Rattle.xlsx_tables.specs.Tables.{table_look};
 
 use crate::table_start::start_said;
 use cell_refs::Dimensions;
@@ -158,19 +158,11 @@ pub fn read_table_at<P: Package>(
     xml: &mut XlReader<P>,
     path: &str,
 ) -> Result<Option<TablePart>, XlsxError>
-    ensures uses { Uses (event_count xml.old.source.parts path.now) Io result
+    ensures answers { let ask = look_ask IsTableError (table_look path.now) in
+        Answers ask (λ found. option_to_list (option_map table_kept found)) result
         xml.old.source xml.new.source }
-    ensures to_end { ReadsToEnd (codes "table") path.now result xml.old.source xml.new.source }
-    ensures table { let old = xml.old.source in
-        old.is_visible ≡ true → IfOk result (λ found. MatchOption found
-        (part_of old.parts path.now ≡ None)
-        (λ part. option_and_then table_of (part_of old.parts path.now) ≡ Some (table_kept part))) }
     ensures inside { IfOk result (λ found. IfSome found (λ part.
         are_sheet_bounds part.area ≡ true)) }
-    ensures err { IfErr result
-        (FailsBy (IfThere TableCause (part_of xml.old.source.parts path.now))
-        xml.old.source xml.new.source) }
-    ensures kind { IfErr result IsTableError }
 {
     if !open_part(xml, path)? {
         return Ok(None);

@@ -3,8 +3,9 @@ ghost use Rattle.std.specs.Prelude.{◌≡◌, ◌++◌, ℕ, List, map, true, O
 ghost use Rattle.std.specs.Prelude.{option_to_list};
 ghost use Rattle.cell_refs.specs.Words.{are_sheet_bounds};
 ghost use Rattle.xlsx_parts.specs.Words.{Appends, map_each};
+ghost use Rattle.looks.specs.Words.{mapped};
 ghost use Rattle.xlsx_tables.specs.TableParts.{TableSaid, table_kept};
-ghost use Rattle.xlsx_tables.specs.Tables.{IsTablesError, loaded_of, table_on_sheet, table_ask};
+ghost use Rattle.xlsx_tables.specs.Tables.{IsTablesError, loaded_of, table_look, table_on_sheet};
 ghost use Rattle.xlsx_tables.specs.Tables.{tables_ask};
 ghost use Rattle.xlsx_tables.specs.declared.loaded.LoadedTable.{LoadedTable};
 
@@ -48,11 +49,9 @@ impl ReadsRelated for TableReader {
 
     ghost kept = { λ r own. loaded_of own };
 
-    ghost ask = { λ r path. map_each (table_on_sheet r.sheet) (table_ask path) };
+    ghost look = { λ r path. mapped (map (table_on_sheet r.sheet)) (table_look path) };
 
     ghost Kind = { IsTablesError };
-
-    ghost kinds = { λ r path error is. is };
 
     ghost related_kinds = { λ error is. inl is };
 

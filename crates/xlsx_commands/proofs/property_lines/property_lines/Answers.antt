@@ -1,5 +1,7 @@
-use Rattle.std.proofs.Common.{◌∙◌, ap, ℕ, List, Option, Ok, Vec, Global}
+use Rattle.std.proofs.Common.{◌∙◌, ap, ℕ, List, Option, Some, Vec, Global}
+use mathlib.Core.Path.{fun_ext}
 use Rattle.xlsx_properties.specs.Kept.{held, custom_texts}
+use Rattle.xlsx_properties.specs.Parts.{properties_with}
 use Rattle.xlsx_commands.proofs.PropertiesListed.{held_is_listed}
 use Rattle.xlsx_commands.proofs.property_lines.property_lines.Goals as goal
 
@@ -11,13 +13,10 @@ returns-clause-ok c =
       texts = λ own. held own kept;
       customs = custom_texts kept;
       opens = has.opens;
-      say = record {
-        whole = has.say.whole;
-        said = has.say.said;
-        custom = λ name. has.say.custom name
-            ∙ ap (λ (text : Option (List ℕ)). Ok text)
-            (held_is_listed name kept.custom_properties.entries);
-      };
+      say = has.say
+          ∙ ap (λ (named : List ℕ → Option (List ℕ)).
+          Some (properties_with (λ own. held own kept) named))
+          (fun_ext (λ name. held_is_listed name kept.custom_properties.entries));
       by_name = c.in_ok-lines_of_properties.ensures.by_name;
       listed = ap (λ (own : Vec ℕ Global). own.items) c.into_bytes.ensures.value
           ∙ c.in_ok-lines_of_properties.ensures.lines;

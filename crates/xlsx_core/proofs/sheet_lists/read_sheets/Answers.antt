@@ -1,7 +1,8 @@
 use Rattle.std.proofs.Common.{◌≡◌, ◌∙◌, ◌∷◌, [], ℕ, add-one, ap, arith, drop, length, refl, rules}
 use Rattle.std.proofs.Common.{string_bytes}
 use Rattle.std.proofs.lemmas.Result.{err_from_is_err_and}
-use Rattle.xlsx_parts.specs.Words.{each, sheet_at}
+use Rattle.xlsx_parts.specs.Words.{SheetPath, sheet_at}
+use Rattle.looks.specs.Words.{for_each, look_ask}
 use Rattle.xlsx_parts.proofs.ManyRead.{leads_first, leads_on, leads_refused, answers_refused}
 use Rattle.xlsx_workbook.specs.Words.{path_kept}
 use Rattle.xlsx_core.specs.Merges.{sheet_paths}
@@ -11,8 +12,8 @@ use Rattle.xlsx_core.proofs.sheet_lists.read_sheets.Goals as goal
 pub sheets-init : goal.sheets-init
 sheets-init g c =
     let r = g.R.ReadsSheets in
-    let whole = each r.Kind (r.ask c.args.by.now)
-    (sheet_paths c.args.sheets.now c.args.paths.now) in
+    let whole = look_ask r.Kind (for_each (r.look c.args.by.now)
+    (sheet_paths c.args.sheets.now c.args.paths.now)) in
     record {
       leads = rw c.requires (leads_first whole [] c.args.xml.now.source);
       behind = refl;
@@ -21,6 +22,7 @@ sheets-init g c =
 
 pub sheets-preserved : goal.sheets-preserved
 sheets-preserved g c =
+    let r = g.R.ReadsSheets in
     let now = c.sheets.invariant in
     let sheets = c.args.sheets.now in
     let number = c.sheets.number in
@@ -36,7 +38,7 @@ sheets-preserved g c =
     let named = named_there sheets number sheet others front in
     record {
       leads =
-          leads_on (g.R.ReadsSheets.ask c.args.by.now)
+          leads_on (λ (sheet : SheetPath). look_ask r.Kind (r.look c.args.by.now sheet))
           (sheet_at (string_bytes sheet.name) (path_kept path)) (sheet_paths others more)
           (rw (left, rest) at now.leads) (rw (named, there) at c.in_ok-keep.ensures);
       behind =
@@ -63,6 +65,6 @@ returns-in_err-keep g c =
     c.from_residual-in_err-keep.ensures.1 in
     rw (handed.1, handed.2)
     (answers_refused (r.held sheets)
-    (leads_refused (r.ask c.args.by.now) (sheet_at (string_bytes sheet.name) (path_kept path))
-    (sheet_paths others more) [] (λ is. search rules)
+    (leads_refused (λ (sheet : SheetPath). look_ask r.Kind (r.look c.args.by.now sheet))
+    (sheet_at (string_bytes sheet.name) (path_kept path)) (sheet_paths others more) [] (λ is. is)
     (rw (left, rest) at c.sheets.invariant.leads) (rw (named, there) at c.in_err-keep.ensures)))

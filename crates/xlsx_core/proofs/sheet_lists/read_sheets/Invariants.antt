@@ -1,12 +1,13 @@
-use Rattle.std.proofs.Common.{◌≡◌, ◌+◌, [], drop, length}
-use Rattle.xlsx_parts.specs.Words.{Leads, each}
+use Rattle.std.proofs.Common.{◌≡◌, ◌+◌, List, [], drop, length}
+use Rattle.xlsx_parts.specs.Words.{Leads, SheetPath}
+use Rattle.looks.specs.Words.{for_each, look_ask}
 use Rattle.xlsx_core.specs.Merges.{sheet_paths}
 use Rattle.xlsx_core.proofs.sheet_lists.read_sheets.Given as goal
 
 abbrev pub invariant-sheets : goal.invariant-sheets
 invariant-sheets g l =
     let r = g.R.ReadsSheets in
-    let ask = each r.Kind (r.ask l.by) in
+    let ask = λ (sheets : List SheetPath). look_ask r.Kind (for_each (r.look l.by) sheets) in
     record {
       leads :
           Leads (ask (sheet_paths l.left l.rest)) (r.held l.fn.sheets l.items)

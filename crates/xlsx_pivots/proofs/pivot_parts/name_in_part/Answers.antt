@@ -6,12 +6,13 @@ use Rattle.xlsx_sections.specs.Words.{SectionFails, Refusal, placed_at}
 use Rattle.xlsx_sections.proofs.Failing.{given_back}
 use Rattle.xlsx_sections.proofs.Refused.{event_refused, refused_as}
 use Rattle.xlsx_sections.proofs.StartsSaid.{at_start}
-use Rattle.xlsx_parts.specs.Words.{element_in, element_with, IsElementRefused, FirstElementCause}
+use Rattle.xlsx_parts.specs.Words.{element_in, element_with, IsElementRefused}
 use Rattle.xlsx_parts.proofs.ElementsFound.{find_element_refused, element_refused, element_events}
-use Rattle.xlsx_pivots.specs.PivotParts.{name_kept, name_behind, name_said, name_in_part}
-use Rattle.xlsx_pivots.specs.Singles.{Lacks}
+use Rattle.looks.specs.Words.{in_first_element}
+use Rattle.xlsx_pivots.specs.PivotParts.{name_kept, name_behind, name_said}
+use Rattle.xlsx_pivots.specs.Singles.{TellsLack}
 use Rattle.xlsx_pivots.specs.declared.single.Single.TheVariants as single
-use Rattle.xlsx_pivots.proofs.PivotsRead.{first_refused}
+use Rattle.xlsx_pivots.proofs.PivotsRead.{needing_refused}
 use Rattle.xlsx_pivots.proofs.pivot_parts.name_in_part.Goals as goal
 
 pub returns-in_err-at-clause-err : goal.returns-in_err-at-clause-err
@@ -20,8 +21,8 @@ returns-in_err-at-clause-err g c =
     let old = c.args.xml.now in
     let new = c.find_element.new.xml in
     given_back _ c.from_residual.result c.from_residual.ensures.1
-    (first_refused (FirstElementCause name name name_said (events_of old))
-    (Lacks single.Name (name_in_part (events_of old))) old.source new.source c.in_err-at.field-0.0
+    (needing_refused (TellsLack single.Name) (in_first_element name name name_said) (events_of old)
+    old.source new.source c.in_err-at.field-0.0
     (find_element_refused name name name_said old new c.in_err-at.field-0.0
     c.in_err-at.ensures.err))
 
@@ -36,8 +37,8 @@ returns-in_err-keep_name-clause-err g c =
     let stands = rw c.in-Some.is at c.in_ok-at.ensures.stands in
     given_back _ c.from_residual-in_err-keep_name.result
     c.from_residual-in_err-keep_name.ensures.1
-    (first_refused (FirstElementCause name name name_said (events_of old))
-    (Lacks single.Name (name_in_part (events_of old))) old.source mid.source error
+    (needing_refused (TellsLack single.Name) (in_first_element name name name_said) (events_of old)
+    old.source mid.source error
     (element_refused {tag = tag} {s = s} name name name_said old mid.source mid.source error
     c.in_ok-at.ensures.reads.moves.parts
     (λ told. at_start (λ (own : Tag). element_in name (events_of old)
@@ -66,8 +67,8 @@ returns-in_err-keep_starts-clause-err g c =
     error) c.depth-base.ensures (c.in_err-keep_starts.ensures.err tt) in
     given_back _ c.from_residual-in_err-keep_starts.result
     c.from_residual-in_err-keep_starts.ensures.1
-    (first_refused (FirstElementCause name name name_said (events_of old))
-    (Lacks single.Name (name_in_part (events_of old))) old.source new.source error
+    (needing_refused (TellsLack single.Name) (in_first_element name name name_said) (events_of old)
+    old.source new.source error
     (element_refused {tag = tag} {s = s} name name name_said old mid.source new.source error
     c.in_ok-at.ensures.reads.moves.parts
     (λ told. at_start (λ (own : Tag). element_in name (events_of old)

@@ -1,85 +1,105 @@
-use Rattle.std.proofs.Common.{◌≡◌, ◌∙◌, List, arith, codes, subst, string_bytes, Some, rules}
+use Rattle.std.proofs.Common.{List, Global, ap, string_bytes, sym}
 use Rattle.std.proofs.lemmas.Result.{err_from_is_err_and}
-use Rattle.part_events.specs.Words.{Part, LeavesPackage, CountsUp, event_count}
-use Rattle.part_events.proofs.Uses.{leaves_then}
-use Rattle.xlsx_error.specs.declared.error.XlsxError.TheVariants.{Io}
-use Rattle.xlsx_sections.specs.Words.{section_events_of}
-use Rattle.xlsx_relationships.specs.Words.{relationships_beside}
-use Rattle.xlsx_pivots.specs.Targets.{definitions_at}
-use Rattle.xlsx_pivots.proofs.PivotsTaken.{pivot_uses, pivot_leaves, pivot_ends}
+use Rattle.looks.proofs.Called.{then_refused, next_refused, next_said}
+use Rattle.xlsx_pivots.specs.PivotErrors.{IsPivotsError}
+use Rattle.xlsx_pivots.specs.PivotParts.{name_look}
+use Rattle.xlsx_pivots.specs.PivotTables.{pivot_kept}
+use Rattle.xlsx_pivots.specs.Pivots.{kept_at_look, named_look, pivot_with}
+use Rattle.xlsx_pivots.specs.Targets.{definitions_look, records_look}
+use Rattle.looks.proofs.Answered.{mapped_said, mapped_refused, refused_behind}
 use Rattle.xlsx_pivots.proofs.pivots.pivot_at.Goals as goal
 
-pub returns-in_err-definitions-clause-uses : goal.returns-in_err-definitions-clause-uses
-returns-in_err-definitions-clause-uses g c =
-    let old = c.args.xml.now.source in
-    let mid = c.name_at.new.xml.source in
-    let new = c.definitions_at.new.xml.source in
+pub returns-in_err-name : goal.returns-in_err-name
+returns-in_err-name g c =
+    let sheet = c.args.sheet.now in
+    let folder = c.args.folder.now in
     let path = c.args.path.now in
-    let e = c.in_err-definitions.field-0.0 in
-    let first = c.in_ok-name.ensures.uses in
-    let second : LeavesPackage (event_count old.parts (relationships_beside path)) Io mid new e =
-    subst (λ (parts : List Part). LeavesPackage (event_count parts (relationships_beside path)) Io
-    mid new e) first.parts.parts c.in_err-definitions.ensures.uses in
+    let p = err_from_is_err_and c.from_residual.result c.from_residual.ensures.1 in
+    record {
+      answers =
+          rw (p.1, p.2)
+          (then_refused (name_look path) (named_look folder sheet path) pivot_kept (λ e is. is)
+          c.in_err-name.ensures.answers);
+    }
+
+pub returns-in_err-definitions : goal.returns-in_err-definitions
+returns-in_err-definitions g c =
+    let sheet = c.args.sheet.now in
+    let folder = c.args.folder.now in
+    let path = c.args.path.now in
+    let name = string_bytes c.in_ok-name.name in
     let p = err_from_is_err_and c.from_residual-in_err-definitions.result
     c.from_residual-in_err-definitions.ensures.1 in
-    rw (p.1, p.2) (leaves_then (omega arith) first second)
+    record {
+      answers =
+          rw (p.1, p.2)
+          (next_refused {other = IsPivotsError} (name_look path) (named_look folder sheet path)
+          pivot_kept (λ e is. is) c.in_ok-name.ensures.answers
+          (then_refused (definitions_look path) (kept_at_look folder sheet name) pivot_kept
+          (λ e is. is) c.in_err-definitions.ensures.answers));
+    }
 
-pub returns-in_err-records-clause-uses : goal.returns-in_err-records-clause-uses
-returns-in_err-records-clause-uses g c =
-    let old = c.args.xml.now.source in
-    let mid = c.name_at.new.xml.source in
-    let there = c.definitions_at.new.xml.source in
-    let new = c.records_at.new.xml.source in
+pub returns-in_err-records : goal.returns-in_err-records
+returns-in_err-records g c =
+    let sheet = c.args.sheet.now in
+    let folder = c.args.folder.now in
+    let path = c.args.path.now in
+    let name = string_bytes c.in_ok-name.name in
+    let definitions = string_bytes c.in_ok-definitions.definitions in
     let p = err_from_is_err_and c.from_residual-in_err-records.result
     c.from_residual-in_err-records.ensures.1 in
-    rw (p.1, p.2) (pivot_leaves c.args.path.now (string_bytes c.in_ok-definitions.definitions)
-    c.in_err-records.field-0.0 old mid there new c.in_ok-name.ensures.uses
-    c.in_ok-definitions.ensures.uses c.in_ok-definitions.ensures.path
-    (rw c.as_str.ensures.value at c.in_err-records.ensures.uses))
+    record {
+      answers =
+          rw (p.1, p.2)
+          (next_refused {other = IsPivotsError} (name_look path) (named_look folder sheet path)
+          pivot_kept (λ e is. is) c.in_ok-name.ensures.answers
+          (next_refused {other = IsPivotsError} (definitions_look path)
+          (kept_at_look folder sheet name) pivot_kept (λ e is. is)
+          c.in_ok-definitions.ensures.answers
+          (mapped_refused (pivot_with sheet name definitions) (records_look folder definitions)
+          pivot_kept (λ is. is) (rw c.as_str.ensures.value at c.in_err-records.ensures.answers))));
+    }
 
-pub returns-in_err-from_str-clause-uses : goal.returns-in_err-from_str-clause-uses
-returns-in_err-from_str-clause-uses g c =
-    let old = c.args.xml.now.source in
-    let mid = c.name_at.new.xml.source in
-    let there = c.definitions_at.new.xml.source in
-    let new = c.records_at.new.xml.source in
-    let used = pivot_uses c.args.path.now (string_bytes c.in_ok-definitions.definitions)
-    old mid there new c.in_ok-name.ensures.uses
-    c.in_ok-definitions.ensures.uses c.in_ok-definitions.ensures.path
-    (rw c.as_str.ensures.value at c.in_ok-records.ensures.uses) in
-    search rules
-
-pub returns-clause-uses : goal.returns-clause-uses
-returns-clause-uses g c =
-    let old = c.args.xml.now.source in
-    let mid = c.name_at.new.xml.source in
-    let there = c.definitions_at.new.xml.source in
-    let new = c.records_at.new.xml.source in
-    pivot_uses c.args.path.now (string_bytes c.in_ok-definitions.definitions)
-    old mid there new c.in_ok-name.ensures.uses
-    c.in_ok-definitions.ensures.uses c.in_ok-definitions.ensures.path
-    (rw c.as_str.ensures.value at c.in_ok-records.ensures.uses)
-
-pub returns-clause-to_end : goal.returns-clause-to_end
-returns-clause-to_end g c = λ told.
-    let old = c.args.xml.now.source in
-    let mid = c.name_at.new.xml.source in
-    let further = c.definitions_at.new.xml.source in
-    let new = c.records_at.new.xml.source in
+pub returns-in_err-from_str : goal.returns-in_err-from_str
+returns-in_err-from_str g c =
+    let sheet = c.args.sheet.now in
+    let folder = c.args.folder.now in
     let path = c.args.path.now in
-    let there = string_bytes c.in_ok-definitions.definitions in
-    let first = c.in_ok-name.ensures.uses.parts in
-    let second = c.in_ok-definitions.ensures.uses.parts in
-    let here = first.is_visible ∙ told in
-    let beside = codes "Relationships" in
-    pivot_ends path there old mid further new
-    (subst (λ (parts : List Part). definitions_at parts path ≡ Some there) first.parts
-    (c.in_ok-definitions.ensures.path here))
-    (c.in_ok-name.ensures.to_end told)
-    (subst (λ (parts : List Part). CountsUp
-    (section_events_of beside parts (relationships_beside path)) mid.taken further.taken)
-    first.parts (c.in_ok-definitions.ensures.to_end here))
-    (subst (λ (parts : List Part). CountsUp
-    (section_events_of beside parts (relationships_beside there)) further.taken new.taken)
-    (second.parts ∙ first.parts)
-    (rw c.as_str.ensures.value at (c.in_ok-records.ensures.to_end (second.is_visible ∙ here))))
+    let name = string_bytes c.in_ok-name.name in
+    let definitions = string_bytes c.in_ok-definitions.definitions in
+    let p = err_from_is_err_and c.from_residual-in_err-from_str.result
+    c.from_residual-in_err-from_str.ensures.1 in
+    record {
+      answers =
+          rw (p.1, p.2)
+          (next_refused {other = IsPivotsError} (name_look path) (named_look folder sheet path)
+          pivot_kept (λ e is. is) c.in_ok-name.ensures.answers
+          (next_refused {other = IsPivotsError} (definitions_look path)
+          (kept_at_look folder sheet name) pivot_kept (λ e is. is)
+          c.in_ok-definitions.ensures.answers
+          (mapped_refused (pivot_with sheet name definitions) (records_look folder definitions)
+          pivot_kept (λ is. is)
+          (refused_behind (string_bytes {Z = Global}) tt
+          (rw c.as_str.ensures.value at c.in_ok-records.ensures.answers)))));
+    }
+
+pub returns : goal.returns
+returns g c =
+    let sheet = c.args.sheet.now in
+    let folder = c.args.folder.now in
+    let path = c.args.path.now in
+    let name = string_bytes c.in_ok-name.name in
+    let definitions = string_bytes c.in_ok-definitions.definitions in
+    let records = string_bytes c.in_ok-records.records in
+    record {
+      answers =
+          next_said {other = IsPivotsError} (name_look path) (named_look folder sheet path)
+          pivot_kept c.in_ok-name.ensures.answers
+          (next_said {other = IsPivotsError} (definitions_look path)
+          (kept_at_look folder sheet name) pivot_kept c.in_ok-definitions.ensures.answers
+          (mapped_said (pivot_with sheet name definitions) (records_look folder definitions)
+          pivot_kept
+          (ap (λ (own : List _). pivot_with own name definitions records)
+          (sym c.in_ok-from_str.ensures.ok))
+          (rw c.as_str.ensures.value at c.in_ok-records.ensures.answers)));
+    }

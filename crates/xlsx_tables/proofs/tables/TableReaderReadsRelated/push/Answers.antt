@@ -1,21 +1,19 @@
-use Rattle.std.proofs.Common.{map, option_map, option_to_list, ap, rules}
+use Rattle.std.proofs.Common.{map, option_map, option_to_list, ap}
 use Rattle.xlsx_tables.specs.TableParts.{table_kept}
 use Rattle.xlsx_tables.specs.Tables.{table_on_sheet}
-use Rattle.xlsx_tables.proofs.TablesKept.{table_at_is}
 use Rattle.xlsx_tables.proofs.tables.TableReaderReadsRelated.push.Goals as goal
 
 pub returns-clause-answers : goal.returns-clause-answers
 returns-clause-answers g c =
-    let old = c.args.xml.now.source in
+    let numbers = map (table_on_sheet c.args.self.now.sheet) in
     let part = c.in_ok-part.part in
-    let sheet = c.args.self.now.sheet in
+    let read = c.in_ok-part.ensures.answers in
     record {
-      uses = search rules;
-      to_end = search rules;
+      uses = read.uses;
+      to_end = λ told. read.to_end told;
       said = λ told. (
-        map (table_on_sheet sheet) (option_to_list (option_map table_kept part)),
-        ap (option_map (map (table_on_sheet sheet)))
-            (table_at_is old.parts c.args.path.now part (c.in_ok-part.ensures.table told)),
+        numbers (option_to_list (option_map table_kept part)),
+        ap (option_map numbers) (read.said told),
         c.in_ok-push_part.ensures.ok,
       );
       err = tt;

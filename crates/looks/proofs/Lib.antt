@@ -1,0 +1,4 @@
+pub mod Alike
+pub mod Answered
+pub mod Called
+pub mod Sound

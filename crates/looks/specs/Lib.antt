@@ -1,0 +1,4 @@
+pub mod Lacking
+pub mod Leaves
+pub mod Look
+pub mod Words
