@@ -12,7 +12,8 @@
 //! line), `package` (the calls on a package), `book` (those on an open workbook, by `ranges`,
 //! `cells`, `areas`, `links`, `properties`, `tables`, `pivots` and `facts`) and `values` (texts of
 //! values and refusals). The program promises only that it is safe and ends. The cases stand in
-//! tables of texts, tools/support/calls, of which `test_calls.py` and `test_call_faults.py` make runs.
+//! tables of texts, tools/support/calls, of which `test_calls.py` and `test_call_faults.py` make
+//! runs.
 #![tactic(auto)]
 
 mod areas;

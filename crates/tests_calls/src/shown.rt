@@ -8,8 +8,9 @@ ghost use Rattle.cell_data.specs.Words.{cells_of, bounds_of, height_of, width_of
 ghost use Rattle.cell_styles.specs.Words.{style_at};
 ghost use Rattle.looks.specs.Words.{look_said};
 ghost use Rattle.xlsx_areas.specs.Hyperlinks.{link_said};
-ghost use Rattle.xlsx_core.specs.Words.{OpensInto, named_comments_ask, all_formulas_ask};
-ghost use Rattle.xlsx_core.specs.Words.{links_placed, PlacedLinksFail, AreListed, sheets_of_book};
+ghost use Rattle.xlsx_comments.specs.Comments.{AreSheetCommentsError, sheet_comments_look};
+ghost use Rattle.xlsx_core.specs.Words.{OpensInto, named_sheet_ask, all_formulas_ask};
+ghost use Rattle.xlsx_core.specs.Words.{named_links_ask, AreListed, sheets_of_book};
 ghost use Rattle.xlsx_core.specs.Words.{all_numbered_tables_ask, PlacedSheetFails, ReadsValues};
 ghost use Rattle.xlsx_core.specs.Words.{ReadsFormulas, ReadsStyles, path_of, context_of_book};
 ghost use Rattle.xlsx_core.specs.Words.{palette_of_book, RangeFails};
@@ -127,11 +128,13 @@ pub fn comment_texts<P: Package>(
     xlsx: &mut Xlsx<P>,
     name: &str,
 ) -> Result<Vec<String>, XlsxError>
-    ensures ok { let ask = named_comments_ask name.now (path_of xlsx.old name.now) in
+    ensures ok { let ask = named_sheet_ask AreSheetCommentsError sheet_comments_look name.now
+        (path_of xlsx.old name.now) in
         xlsx.old.xml.source.is_visible ≡ true → IfOk result (λ texts.
         Shows (λ all. ask.said xlsx.old.xml.source.parts ≡ Some all) (flat_map comment_texts_in)
         (map string_bytes texts.items)) }
-    ensures err { let ask = named_comments_ask name.now (path_of xlsx.old name.now) in
+    ensures err { let ask = named_sheet_ask AreSheetCommentsError sheet_comments_look name.now
+        (path_of xlsx.old name.now) in
         IfErr result (FailsBy (ask.cause xlsx.old.xml.source.parts)
         xlsx.old.xml.source xlsx.new.xml.source) }
 {
@@ -147,11 +150,12 @@ pub fn comment_texts<P: Package>(
 
 /// How many links the first sheet of this name has.
 pub fn link_count<P: Package>(xlsx: &mut Xlsx<P>, name: &str) -> Result<usize, XlsxError>
-    ensures ok { let path = path_of xlsx.old name.now in
+    ensures ok { let ask = named_links_ask name.now (path_of xlsx.old name.now) in
         xlsx.old.xml.source.is_visible ≡ true → IfOk result (Shows
-        (λ links. links_placed path xlsx.old.xml.source.parts ≡ Some (map link_said links))
+        (λ links. ask.said xlsx.old.xml.source.parts ≡ Some (map link_said links))
         (λ links. length links)) }
-    ensures err { IfErr result (PlacedLinksFail name.now (path_of xlsx.old name.now)
+    ensures err { let ask = named_links_ask name.now (path_of xlsx.old name.now) in
+        IfErr result (FailsBy (ask.cause xlsx.old.xml.source.parts)
         xlsx.old.xml.source xlsx.new.xml.source) }
 {
     let links = xlsx.hyperlinks_by_sheet_name(name)?;

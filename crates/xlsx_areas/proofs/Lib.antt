@@ -1,5 +1,3 @@
 pub mod LinkEquality
-pub mod LinksBeside
 pub mod LinksRead
 pub mod MergesRead
-pub mod SoundLinks

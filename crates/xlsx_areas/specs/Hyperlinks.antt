@@ -1,18 +1,19 @@
 -- The hyperlinks of a sheet (ECMA-376 part 1, section 18.3.1.48).
-use Rattle.std.specs.Prelude.{ℕ, ◌+◌, List, [], ◌∷◌, Bool, codes, Option, Some, None, option_map}
-use Rattle.std.specs.Prelude.{option_and_then, Result, Ok, Err, string_bytes}
-use Rattle.std.specs.Option.{option_map_or}
+use Rattle.std.specs.Prelude.{ℕ, List, [], ◌∷◌, map, Bool, true, false, codes, Option, Some, None}
+use Rattle.std.specs.Prelude.{option_map, option_and_then, Result, Ok, Err, string_bytes, Vec}
+use Rattle.std.specs.declared.alloc.Global.{Global}
 use Rattle.attr_text.specs.Words.{lookup, value_of_local}
 use Rattle.attr_text.specs.declared.fault.AttrFault.{AttrFault}
 use Rattle.cell_refs.specs.Words.{area}
 use Rattle.cell_refs.specs.declared.dimensions.Dimensions.{Dimensions}
-use Rattle.part_events.specs.Words.{Tag, Event, Part, part_of, event_count, PlacedTag, starts_by}
-use Rattle.part_events.specs.Words.{is_named}
-use Rattle.xlsx_sections.specs.Words.{some_answers, some_text, placed, Refusal, plain, lookup_fault}
-use Rattle.xlsx_sections.specs.Words.{section_events, section_events_of}
-use Rattle.xlsx_parts.specs.Words.{section_said_or}
-use Rattle.xlsx_relationships.specs.Words.{LinkTarget, link_text, link_targets, target_in}
-use Rattle.xlsx_relationships.specs.Words.{relationships_beside}
+use Rattle.part_events.specs.Words.{Tag, Event, PlacedTag, starts_by, is_named}
+use Rattle.xlsx_sections.specs.Words.{always, some_answers, some_text, placed, Refusal, plain}
+use Rattle.xlsx_sections.specs.Words.{lookup_fault, Ask}
+use Rattle.looks.specs.Words.{EventsAsk, Look, and_then, asks, in_section_or, is_there, look_ask}
+use Rattle.looks.specs.Words.{mapped, or_absent, said_as, says, section_or}
+use Rattle.xlsx_relationships.specs.Words.{link_targets_in, link_text, relationships_beside}
+use Rattle.xlsx_relationships.specs.Words.{target_in}
+use Rattle.xlsx_areas.specs.LinkErrors.{IsSheetLinksError}
 use Rattle.xlsx_areas.specs.declared.hyperlink.Hyperlink.{Hyperlink}
 
 -- a link: its cells, where it leads outside the workbook and inside, what is shown, and its tip
@@ -107,15 +108,46 @@ is_link tag = is_named (codes "hyperlink" ∷ []) tag
 abbrev pub links_in : (List ℕ → Option (List ℕ)) → List Event → Result (List Link) Refusal
 links_in targets events = some_answers (link_of targets) (starts_by is_link events)
 
--- the links of the first `hyperlinks` of a part, and none of a part without one
-abbrev pub links_of : (List ℕ → Option (List ℕ)) → List Event → Option (List Link)
-links_of targets events = section_said_or [] (codes "hyperlinks") (links_in targets) events
+-- what is asked of the events of a part, where these are the targets by their Ids: the links of its
+-- first `hyperlinks`, and none of a part without one
+abbrev pub part_links : (List ℕ → Option (List ℕ)) → EventsAsk (List Link)
+part_links targets =
+    let name = codes "hyperlinks" in
+    in_section_or [] name (always name) (links_in targets)
 
--- the links of the sheet's part at a path, by the relationships beside it
-abbrev pub links_at : List Part → List ℕ → Option (List Link)
-links_at parts path =
-    option_and_then (λ (targets : List LinkTarget).
-    option_and_then (links_of (target_in targets)) (part_of parts path)) (link_targets parts path)
+-- where the relationships beside the part at a path lead, by their Ids
+abbrev pub targets_look : List ℕ → Look (List ℕ → Option (List ℕ))
+targets_look path =
+    let name = codes "Relationships" in
+    mapped target_in
+    (asks (relationships_beside path) (section_or [] name (always name) link_targets_in))
+
+-- links that are there
+abbrev pub some_links : List Link → Option (List Link)
+some_links links = Some links
+
+-- the links of the part at a path, if it is there, where these are the targets by their Ids
+abbrev pub part_links_look :
+    List ℕ → (List ℕ → Option (List ℕ)) → Look (Option (List Link))
+part_links_look path targets =
+    asks path (or_absent None (said_as some_links (part_links targets)))
+
+-- the links of the part at a path, by the relationships beside it
+abbrev pub linked_look : List ℕ → Look (Option (List Link))
+linked_look path = and_then (targets_look path) (part_links_look path)
+
+-- the same where a part is there; where none is, no relationship is read
+abbrev pub links_if : List ℕ → Bool → Look (Option (List Link))
+links_if path true = linked_look path
+links_if path false = says None
+
+-- the links of the sheet whose part is at a path, if it is there, by the relationships beside it
+abbrev pub links_look : List ℕ → Look (Option (List Link))
+links_look path = and_then (asks path is_there) (links_if path)
+
+-- what is asked for them
+abbrev pub links_ask : List ℕ → Ask (Option (List Link))
+links_ask path = look_ask IsSheetLinksError (links_look path)
 
 -- a link, apart from where its texts lie in memory
 abbrev pub link_said : Hyperlink → Link
@@ -123,14 +155,7 @@ link_said own =
     link_to (option_map string_bytes own.target) own.range (option_map string_bytes own.location)
     (option_map string_bytes own.displayed_text) (option_map string_bytes own.tooltip)
 
--- how many events the part of a sheet and the relationships beside it have
-abbrev pub link_events : List Part → List ℕ → ℕ
-link_events parts path = event_count parts (relationships_beside path) + event_count parts path
-
--- how many events are taken for the links of a sheet: of both parts those up to the end of their
--- section; none where the sheet's part is absent
-abbrev pub link_sections : List Part → List ℕ → ℕ
-link_sections parts path =
-    option_map_or (λ (events : List Event).
-    section_events_of (codes "Relationships") parts (relationships_beside path)
-    + section_events (codes "hyperlinks") events) (part_of parts path) 0
+-- the links of a sheet whose part may be absent
+abbrev pub links_found : Option (Vec Hyperlink Global) → Option (List Link)
+links_found None = None
+links_found (Some links) = Some (map link_said links.items)

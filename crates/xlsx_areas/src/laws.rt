@@ -1,15 +1,14 @@
 //! Laws of merged cells and hyperlinks, and of the relationships that lead to them.
 
-ghost use Rattle.std.specs.Prelude.{◌≡◌, ℕ, List, Some};
+ghost use Rattle.std.specs.Prelude.{◌≡◌, ℕ, List, Option, Some};
 ghost use Rattle.cell_refs.specs.declared.dimensions.Dimensions.{Dimensions};
-ghost use Rattle.part_events.specs.Words.{Event, Part, part_of};
+ghost use Rattle.part_events.specs.Words.{Event, Part};
 ghost use Rattle.xlsx_error.specs.declared.error.XlsxError.{XlsxError};
-ghost use Rattle.xlsx_parts.specs.Words.{SheetPath, IfThere};
+ghost use Rattle.xlsx_parts.specs.Words.{SheetPath};
 ghost use Rattle.looks.specs.Words.{look_said, LookCause};
 ghost use Rattle.xlsx_relationships.specs.Words.{LinkTarget, link_targets, LinkTargetsCause};
 ghost use Rattle.xlsx_relationships.specs.Words.{related_look};
-ghost use Rattle.xlsx_areas.specs.Hyperlinks.{Link, links_at};
-ghost use Rattle.xlsx_areas.specs.LinkErrors.{SheetLinksCause};
+ghost use Rattle.xlsx_areas.specs.Hyperlinks.{Link, links_look};
 ghost use Rattle.xlsx_areas.specs.MergeErrors.{MergesCause, RegionsCause};
 ghost use Rattle.xlsx_areas.specs.MergedCells.{merges_of, regions_of};
 ghost use Rattle.xlsx_areas.specs.Regions.{Region, all_regions, AllRegionsCause};
@@ -29,9 +28,9 @@ pub fn merges_have_no_cause_of_a_refusal()
 /// A sheet whose hyperlinks can be taken has no cause of a refusal, neither in its part nor in its
 /// relationships.
 pub fn links_have_no_cause_of_a_refusal()
-    ensures { (parts : List Part) (path : List ℕ) (links : List Link) (error : XlsxError) →
-        links_at parts path ≡ Some links →
-        IfThere (SheetLinksCause parts path) (part_of parts path) error → ⊥ }
+    ensures { (parts : List Part) (path : List ℕ) (found : Option (List Link))
+        (error : XlsxError) → look_said (links_look path) parts ≡ Some found →
+        LookCause (links_look path) parts error → ⊥ }
 {}
 
 /// Relationships whose targets can be taken have no cause of a refusal, neither where those of one

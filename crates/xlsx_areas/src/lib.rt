@@ -6,7 +6,7 @@
 //! its section), `link_parts` (the part at a path and the relationships beside it), `equality`,
 //! `laws`. Where a faulty section counts for none, the refusals of the package and of memory go on
 //! by their names, and all others give the empty list (`merges_or_none`). The lemma files are
-//! `MergesRead`, `LinksRead`, `SoundLinks` and `LinkEquality`.
+//! `MergesRead`, `LinksRead` and `LinkEquality`.
 //!
 //! **Links are said over a function from Ids to targets**, so that a section of links is one
 //! definition whoever has the targets: the pairs that the relationships give (`target_in`), or the

@@ -1,15 +1,13 @@
-ghost use Rattle.std.specs.Prelude.{◌≡◌, map, codes, true, None, Some, is_some, option_and_then};
-ghost use Rattle.std.specs.Prelude.{IfOk, OnOk, IfErr, MatchOption};
-ghost use Rattle.part_events.specs.Words.{Uses, CountsUp, part_of, event_count, IsReading};
-ghost use Rattle.part_events.specs.Words.{ReadsPart, events_of};
+ghost use Rattle.std.specs.Prelude.{◌≡◌, map, true, Some, IfOk, OnOk, IfErr};
+ghost use Rattle.part_events.specs.Words.{IsReading, ReadsPart, events_of};
 ghost use Rattle.xlsx_error.specs.declared.error.XlsxError.TheVariants.{Io};
 ghost use Rattle.xlsx_parts.specs.Words.{IsOpenError};
-ghost use Rattle.xlsx_sections.specs.Words.{FailsBy, SoundFails, ReadsToEnd, section_events};
-ghost use Rattle.xlsx_relationships.specs.Words.{target_held};
-ghost use Rattle.xlsx_areas.specs.Hyperlinks.{links_of, links_at, link_said, link_events};
-ghost use Rattle.xlsx_areas.specs.Hyperlinks.{link_sections};
-ghost use Rattle.xlsx_areas.specs.LinkErrors.{LinksCause, LinksFail, SheetLinksFail, IsLinksError};
-ghost use Rattle.xlsx_areas.specs.LinkErrors.{IsSheetLinksError};
+ghost use Rattle.xlsx_sections.specs.Words.{Answers, FailsBy};
+ghost use Rattle.looks.specs.Words.{asks, is_there, look_ask};
+ghost use Rattle.xlsx_relationships.specs.Words.{IsRelatedError, target_held};
+ghost use Rattle.xlsx_areas.specs.Hyperlinks.{link_said, links_ask, links_found, linked_look};
+ghost use Rattle.xlsx_areas.specs.Hyperlinks.{part_links, part_links_look, targets_look};
+ghost use Rattle.xlsx_areas.specs.LinkErrors.{IsLinksError, IsSheetLinksError};
 
 use crate::hyperlink::Hyperlink;
 use crate::hyperlinks::read_hyperlinks;
@@ -28,13 +26,14 @@ fn links_of<P: Package>(
     requires reading { IsReading xml.old }
     requires first { xml.old.at ≡ 0 }
     ensures reads { ReadsPart Io result xml.old xml.new }
-    ensures ends { let count = section_events (codes "hyperlinks") (events_of xml.old) in
-        xml.old.source.is_visible ≡ true → OnOk result (xml.new.at ≡ count) }
-    ensures links { let by = target_held targets.now in
+    ensures ends { let ask = part_links (target_held targets.now) in
         xml.old.source.is_visible ≡ true →
-        IfOk result (λ links. links_of by (events_of xml.old) ≡ Some (map link_said links.items)) }
-    ensures err { let by = target_held targets.now in
-        IfErr result (FailsBy (LinksCause by (events_of xml.old)) xml.old.source xml.new.source) }
+        OnOk result (xml.new.at ≡ ask.exact (events_of xml.old)) }
+    ensures links { let ask = part_links (target_held targets.now) in
+        xml.old.source.is_visible ≡ true →
+        IfOk result (λ links. ask.said (events_of xml.old) ≡ Some (map link_said links.items)) }
+    ensures err { let ask = part_links (target_held targets.now) in
+        IfErr result (FailsBy (ask.cause (events_of xml.old)) xml.old.source xml.new.source) }
     ensures kind { IfErr result IsLinksError }
 {
     let alloc = xml.alloc();
@@ -51,18 +50,8 @@ fn read_links<P: Package>(
     path: &str,
     targets: &BTreeMap<String, String>,
 ) -> Result<Option<Vec<Hyperlink>>, XlsxError>
-    ensures uses { Uses (event_count xml.old.source.parts path.now) Io result
-        xml.old.source xml.new.source }
-    ensures to_end { ReadsToEnd (codes "hyperlinks") path.now result xml.old.source xml.new.source }
-    ensures links { let old = xml.old.source in
-        let by = target_held targets.now in
-        old.is_visible ≡ true → IfOk result (λ found. MatchOption found
-        (part_of old.parts path.now ≡ None)
-        (λ links. option_and_then (links_of by) (part_of old.parts path.now)
-        ≡ Some (map link_said links.items))) }
-    ensures err { IfErr result (LinksFail (target_held targets.now) path.now
-        xml.old.source xml.new.source) }
-    ensures kind { IfErr result IsLinksError }
+    ensures answers { let look = part_links_look path.now (target_held targets.now) in
+        Answers (look_ask IsLinksError look) links_found result xml.old.source xml.new.source }
 {
     if !open_part(xml, path)? {
         return Ok(None);
@@ -70,14 +59,35 @@ fn read_links<P: Package>(
     Ok(Some(links_of(xml, targets)?))
 }
 
+/// The targets of the hyperlinks of the sheet whose part is at this path, by their Ids.
+#[tactic(auto, using(crate::proofs::LinksRead::targets_kept))]
+fn read_targets<P: Package>(
+    xml: &mut XlReader<P>,
+    path: &str,
+) -> Result<BTreeMap<String, String>, XlsxError>
+    ensures answers { Answers (look_ask IsRelatedError (targets_look path.now)) target_held result
+        xml.old.source xml.new.source }
+{
+    read_sheet_hyperlink_rels(xml, path)
+}
+
+/// The links of the sheet whose part is at this path, by the relationships beside it. Answers None
+/// where the part is absent.
+fn read_linked<P: Package>(
+    xml: &mut XlReader<P>,
+    path: &str,
+) -> Result<Option<Vec<Hyperlink>>, XlsxError>
+    ensures answers { Answers (look_ask IsSheetLinksError (linked_look path.now)) links_found result
+        xml.old.source xml.new.source }
+{
+    let targets = read_targets(xml, path)?;
+    read_links(xml, path, &targets)
+}
+
 /// Whether there is a part at this path. Its refusals are `Io` and `OutOfMemory`.
 fn has_part<P: Package>(xml: &mut XlReader<P>, path: &str) -> Result<bool, XlsxError>
-    ensures uses { Uses 0 Io result xml.old.source xml.new.source }
-    ensures there { xml.old.source.is_visible ≡ true →
-        IfOk result (λ found. found ≡ is_some (part_of xml.old.source.parts path.now)) }
-    ensures begins { OnOk result (xml.new.source.taken ≡ xml.old.source.taken) }
-    ensures err { IfErr result (SoundFails xml.old.source xml.new.source) }
-    ensures kind { IfErr result IsOpenError }
+    ensures answers { Answers (look_ask IsOpenError (asks path.now is_there)) (λ found. found)
+        result xml.old.source xml.new.source }
 {
     Ok(xml.open(path)?)
 }
@@ -93,21 +103,11 @@ pub fn read_sheet_links<P: Package>(
     xml: &mut XlReader<P>,
     path: &str,
 ) -> Result<Option<Vec<Hyperlink>>, XlsxError>
-    ensures uses { Uses (link_events xml.old.source.parts path.now) Io result
+    ensures answers { Answers (links_ask path.now) links_found result
         xml.old.source xml.new.source }
-    ensures to_end { let old = xml.old.source in
-        old.is_visible ≡ true →
-        OnOk result (CountsUp (link_sections old.parts path.now) old.taken xml.new.source.taken) }
-    ensures links { let old = xml.old.source in
-        old.is_visible ≡ true → IfOk result (λ found. MatchOption found
-        (part_of old.parts path.now ≡ None)
-        (λ links. links_at old.parts path.now ≡ Some (map link_said links.items))) }
-    ensures err { IfErr result (SheetLinksFail path.now xml.old.source xml.new.source) }
-    ensures kind { IfErr result IsSheetLinksError }
 {
     if !has_part(xml, path)? {
         return Ok(None);
     }
-    let targets = read_sheet_hyperlink_rels(xml, path)?;
-    read_links(xml, path, &targets)
+    read_linked(xml, path)
 }

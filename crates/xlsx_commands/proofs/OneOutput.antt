@@ -29,9 +29,10 @@ use Rattle.part_events.specs.Words.{Part}
 use Rattle.sheet_listing.specs.SampleLines.{sample_lines}
 use Rattle.xlsx_cells.specs.Words.{with_texts}
 use Rattle.xlsx_check.specs.Lines.{check_lines}
-use Rattle.xlsx_core.specs.Words.{named_comments_ask, links_placed, merges_placed, SayTheSame}
-use Rattle.xlsx_core.specs.Words.{events_at, opened_context, path_named, ShowsValuesIn}
-use Rattle.xlsx_core.specs.Words.{ReadsValuesIn, IsRangeIn, AnswersValues, below_header}
+use Rattle.looks.specs.Words.{look_said}
+use Rattle.xlsx_core.specs.Words.{merges_placed, placed_links_look, SayTheSame, events_at}
+use Rattle.xlsx_core.specs.Words.{opened_context, path_named, ShowsValuesIn, ReadsValuesIn}
+use Rattle.xlsx_core.specs.Words.{IsRangeIn, AnswersValues, below_header}
 use Rattle.xlsx_core.proofs.RangesRead.{same_values}
 use Rattle.xlsx_core.proofs.ShownLaws.{one_shown, one_shown_in}
 use Rattle.list_lines.specs.declared.content.LineForm.{LineForm}
@@ -68,8 +69,8 @@ use Rattle.xlsx_commands.specs.PropertyLists.{ArePropertyLines, property_lines, 
 use Rattle.xlsx_commands.specs.PropertyLists.{text_of_name, AreByName}
 use Rattle.xlsx_commands.specs.ResavedFile.{IsResavedFile, sheet_file}
 use Rattle.xlsx_commands.specs.SampleLines.{AreSampleLines, sample_name}
-use Rattle.xlsx_commands.specs.SheetLists.{HasNamed, AreMergeLines, AreLinkLines, AreCommentLines}
-use Rattle.xlsx_commands.specs.SheetLists.{merge_lines, link_lines, comment_lines}
+use Rattle.xlsx_commands.specs.SheetLists.{HasNamed, AreMergeLines, AreLookLines, merge_lines}
+use Rattle.xlsx_commands.specs.SheetLists.{link_lines, comment_lines, NamedLook, named_comments}
 use Rattle.xlsx_commands.specs.TableLists.{AreTableLines, AreTableValueLines, table_lines}
 use Rattle.xlsx_commands.specs.TableLists.{HasDataIn, HasTable}
 use Rattle.xlsx_commands.specs.RowObjects.{objects_placed}
@@ -206,23 +207,14 @@ one_merges form parts name one other first second =
     second.has)
     ∙ sym second.listed
 
-one_links : (form : LineForm) (parts : List Part) (name one other : List ℕ)
-    → AreLinkLines form parts name one
-    → AreLinkLines form parts name other → one ≡ other
-one_links form parts name one other first second =
+-- what is printed of what a look at a sheet says
+one_look : {A : Type 0} (look : NamedLook A) (printed : A → List ℕ) (parts : List Part)
+    (name one other : List ℕ) → AreLookLines look printed parts name one
+    → AreLookLines look printed parts name other → one ≡ other
+one_look look printed parts name one other first second =
     first.listed
-    ∙ ap (link_lines form) (one_named links_placed parts name first.links second.links first.has
-    second.has)
-    ∙ sym second.listed
-
-one_comments : (form : LineForm) (parts : List Part) (name one other : List ℕ)
-    → AreCommentLines form parts name one
-    → AreCommentLines form parts name other → one ≡ other
-one_comments form parts name one other first second =
-    first.listed
-    ∙ ap (comment_lines form) (one_named (λ path own. (named_comments_ask name path).said own) parts
-    name
-    first.all second.all first.has second.has)
+    ∙ ap printed (one_named (λ path own. look_said (look name path) own) parts name first.said
+    second.said first.has second.has)
     ∙ sym second.listed
 
 one_part : (parts : List Part) (name one other : List ℕ) → IsPartLine parts name one
@@ -465,9 +457,9 @@ one_output alike (names form) parts one other first second =
 one_output alike (merges form name) parts one other first second =
     one_merges form parts name one other first second
 one_output alike (links form name) parts one other first second =
-    one_links form parts name one other first second
+    one_look placed_links_look (link_lines form) parts name one other first second
 one_output alike (comments form name) parts one other first second =
-    one_comments form parts name one other first second
+    one_look named_comments (comment_lines form) parts name one other first second
 one_output alike (props form) parts one other first second =
     one_properties form parts one other first second
 one_output alike (csv name asked) parts one other first second =

@@ -11,11 +11,9 @@ use Rattle.sheet_listing.specs.CellObjects.{object_listing}
 use Rattle.sheet_listing.specs.SheetListing.{listing}
 use Rattle.xlsx_error.specs.declared.error.XlsxError.{XlsxError}
 use Rattle.looks.proofs.Sound.{said_has_no_cause}
-use Rattle.xlsx_areas.specs.Hyperlinks.{Link}
 use Rattle.xlsx_properties.specs.Parts.{properties_with}
 use Rattle.xlsx_open.specs.Words.{OpensSoundly, without_path}
-use Rattle.xlsx_core.specs.Words.{named_comments_look, links_placed, PlacedLinksCause, ReadsAs}
-use Rattle.xlsx_core.specs.Words.{IsReadable, SheetCause}
+use Rattle.xlsx_core.specs.Words.{placed_links_look, ReadsAs, IsReadable, SheetCause}
 use Rattle.xlsx_commands.specs.BookLists.{sheet_lines, name_lines}
 use Rattle.csv_rows.specs.declared.options.CsvOptions.{CsvOptions}
 use Rattle.xlsx_commands.specs.declared.asked_rows.AskedRows.{AskedRows}
@@ -32,7 +30,8 @@ use Rattle.xlsx_commands.specs.ResavedFile.{fits_file}
 use Rattle.xlsx_commands.specs.PartNames.{PartPathCause}
 use Rattle.xlsx_commands.specs.PropertyLists.{text_of_name}
 use Rattle.xlsx_commands.specs.SampleLines.{sample_name}
-use Rattle.xlsx_commands.specs.SheetLists.{MergesPathCause, CommentsPathCause}
+use Rattle.xlsx_commands.specs.SheetLists.{HasNamedLook, LookPathCause, MergesPathCause, NamedLook}
+use Rattle.xlsx_commands.specs.SheetLists.{NamedLookCause, named_comments}
 use Rattle.xlsx_commands.specs.declared.error.ToolError.{ToolError}
 use Rattle.xlsx_commands.specs.declared.error.ToolError.TheVariants.{Workbook, BoxTooLarge}
 use Rattle.xlsx_commands.specs.declared.error.ToolError.TheVariants.{Unwritable, NoHeader}
@@ -163,14 +162,14 @@ pub opens_by_names : (form : LineForm) (parts : List Part) → HasOutput (names 
 unfolding IsOutput
 opens_by_names form parts (output, lines) = (lines.opening, lines.opens)
 
--- ---- links
+-- ---- what a look says
 
--- links that are taken aren't refused, as each is
-abbrev pub LinksNever : Type 0
-LinksNever =
-    (name : List ℕ) (path : Option (List ℕ)) (parts : List Part) (all : List Link)
-    (error : XlsxError)
-    → links_placed path parts ≡ Some all → PlacedLinksCause name path parts error → ⊥
+look_never : {A : Type 0} (look : NamedLook A) (parts : List Part) (name : List ℕ) (said : A)
+    (error : XlsxError) → OpeningsNever → HasNamedLook look parts name said
+    → NamedLookCause look parts name error → ⊥
+look_never look parts name said error opened (path, opens, taken) cause =
+    named_never (LookPathCause look name) parts name path error opened opens
+    (said_has_no_cause (look name path) parts said error taken) cause
 
 -- ---- all commands
 
@@ -179,7 +178,6 @@ pub record AreNever : Type 0 where
   pub sheets : SheetsNever
   pub openings : OpeningsNever
   pub merges : MergesNever
-  pub links : LinksNever
   pub alike : (parts : List Part) (name : List ℕ) → AreReadAlike parts parts name
   pub areas : AreasNever
   pub caches : CachesNever
@@ -203,13 +201,9 @@ workbook_never never (merges form name) parts output error prints cause =
     named_never (MergesPathCause name) parts name path error never.openings opens
     (merges_never name path parts prints.areas error never.merges taken) cause
 workbook_never never (links form name) parts output error prints cause =
-    let (path, opens, taken) = prints.has in
-    named_never (PlacedLinksCause name) parts name path error never.openings opens
-    (never.links name path parts prints.links error taken) cause
+    look_never placed_links_look parts name prints.said error never.openings prints.has cause
 workbook_never never (comments form name) parts output error prints cause =
-    let (path, opens, taken) = prints.has in
-    named_never (CommentsPathCause name) parts name path error never.openings opens
-    (said_has_no_cause (named_comments_look name path) parts prints.all error taken) cause
+    look_never named_comments parts name prints.said error never.openings prints.has cause
 workbook_never never (props form) parts output error prints cause =
     listed_never parts (properties_with prints.texts (text_of_name prints.customs)) error
     never.openings prints.opens prints.say cause

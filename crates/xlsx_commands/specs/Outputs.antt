@@ -10,7 +10,7 @@ use Rattle.sheet_listing.specs.CellObjects.{object_listing}
 use Rattle.sheet_listing.specs.SheetListing.{listing}
 use Rattle.package_text.specs.WrittenPackage.{written_package}
 use Rattle.xlsx_open.specs.Words.{OpeningCause}
-use Rattle.xlsx_core.specs.Words.{ReadsAs, SheetCause}
+use Rattle.xlsx_core.specs.Words.{ReadsAs, SheetCause, placed_links_look}
 use Rattle.xlsx_writer.specs.Words.{written_parts}
 use Rattle.xlsx_writer.specs.declared.form.WrittenForm.TheVariants.{PackageText}
 use Rattle.xlsx_commands.specs.BookLists.{AreSheetLines, AreNameLines}
@@ -30,8 +30,9 @@ use Rattle.xlsx_commands.specs.ResavedFile.{IsResavedFile, HasNoFile}
 use Rattle.xlsx_commands.specs.PropertyLists.{ArePropertyLines, ListedPropertiesCause}
 use Rattle.xlsx_commands.specs.RowObjects.{AreJsonRows, LacksHeader, GivesTwice}
 use Rattle.xlsx_commands.specs.SampleLines.{AreSampleLines, sample_name}
-use Rattle.xlsx_commands.specs.SheetLists.{AreMergeLines, NamedMergesCause, AreLinkLines}
-use Rattle.xlsx_commands.specs.SheetLists.{NamedLinksCause, AreCommentLines, NamedCommentsCause}
+use Rattle.xlsx_commands.specs.SheetLists.{AreMergeLines, NamedMergesCause, AreLookLines}
+use Rattle.xlsx_commands.specs.SheetLists.{NamedLookCause, link_lines, named_comments}
+use Rattle.xlsx_commands.specs.SheetLists.{comment_lines}
 use Rattle.xlsx_commands.specs.SheetRows.{AreRowsOf, HasLargeArea}
 use Rattle.xlsx_commands.specs.TableLists.{AreTableLines, AreTableValueLines, ListedTablesCause}
 use Rattle.xlsx_commands.specs.TableLists.{NamedTableCause}
@@ -87,8 +88,10 @@ IsOutput (cells form name) parts output = AreCellLines form parts name output
 IsOutput (sheets form) parts output = AreSheetLines form parts output
 IsOutput (names form) parts output = AreNameLines form parts output
 IsOutput (merges form name) parts output = AreMergeLines form parts name output
-IsOutput (links form name) parts output = AreLinkLines form parts name output
-IsOutput (comments form name) parts output = AreCommentLines form parts name output
+IsOutput (links form name) parts output =
+    AreLookLines placed_links_look (link_lines form) parts name output
+IsOutput (comments form name) parts output =
+    AreLookLines named_comments (comment_lines form) parts name output
 IsOutput (props form) parts output = ArePropertyLines form parts output
 IsOutput (csv name asked) parts output = AreRowsOf parts name asked output
 IsOutput (csv_table name asked) parts output = AreTableRows parts name asked output
@@ -115,8 +118,10 @@ RefusedWorkbookCause (cells form name) parts error = SheetCause parts name error
 RefusedWorkbookCause (sheets form) parts error = OpeningCause parts error
 RefusedWorkbookCause (names form) parts error = OpeningCause parts error
 RefusedWorkbookCause (merges form name) parts error = NamedMergesCause parts name error
-RefusedWorkbookCause (links form name) parts error = NamedLinksCause parts name error
-RefusedWorkbookCause (comments form name) parts error = NamedCommentsCause parts name error
+RefusedWorkbookCause (links form name) parts error =
+    NamedLookCause placed_links_look parts name error
+RefusedWorkbookCause (comments form name) parts error =
+    NamedLookCause named_comments parts name error
 RefusedWorkbookCause (props form) parts error = ListedPropertiesCause parts error
 RefusedWorkbookCause (csv name asked) parts error = SheetCause parts name error
 RefusedWorkbookCause (csv_table name asked) parts error =

@@ -1,5 +1,6 @@
 -- What is listed of a sheet beside its cells, and why it isn't.
-use Rattle.std.specs.Prelude.{◌≡◌, ◌⊎◌, ℕ, List, Option, Some}
+use Rattle.std.specs.Prelude.{◌≡◌, ◌⊎◌, ℕ, List, [], ◌∷◌, ◌++◌, Bool, true, false, codes, Option}
+use Rattle.std.specs.Prelude.{Some}
 use Rattle.std.specs.List.{flat_map}
 use Rattle.cell_refs.specs.declared.dimensions.Dimensions.{Dimensions}
 use Rattle.part_events.specs.Words.{Part}
@@ -8,13 +9,14 @@ use Rattle.list_lines.specs.Lines.{area_line, comment_line, link_line}
 use Rattle.list_lines.specs.declared.content.LineForm.{LineForm}
 use Rattle.xlsx_error.specs.declared.error.XlsxError.{XlsxError}
 use Rattle.xlsx_error.specs.declared.error.XlsxError.TheVariants.{WorksheetNotFound}
+use Rattle.looks.specs.Words.{Look, LookCause, look_said}
 use Rattle.xlsx_areas.specs.Hyperlinks.{Link, link_said}
 use Rattle.xlsx_areas.specs.MergeErrors.{MergesCause}
 use Rattle.xlsx_areas.specs.declared.hyperlink.Hyperlink.{Hyperlink}
 use Rattle.xlsx_comments.specs.CommentParts.{CommentSaid, CommentsSaid, author_of}
+use Rattle.xlsx_comments.specs.Comments.{sheet_comments_look}
 use Rattle.xlsx_open.specs.Words.{Opening, OpensAs, OpeningCause}
-use Rattle.xlsx_core.specs.Words.{named_comments_ask, links_placed, PlacedLinksCause, merges_placed}
-use Rattle.xlsx_core.specs.Words.{PlacedCause, path_named}
+use Rattle.xlsx_core.specs.Words.{merges_placed, named_sheet_look, PlacedCause, path_named}
 
 -- the workbook opens, and the part of its first sheet of this name is at this path, if there is one
 pub record OpensAt (parts : List Part) (name : List ℕ) (path : Option (List ℕ)) : Type 0 where
@@ -42,6 +44,33 @@ NamedCause cause parts name (WorksheetNotFound asked) =
 NamedCause cause parts name error =
     OpeningCause parts error ⊎ HasNamedCause cause parts name error
 
+-- ---- what a look says
+
+-- a look at the sheet of a name, whose part is at a path, if a sheet has the name
+abbrev pub NamedLook : Type 0 → Type 1
+NamedLook A = List ℕ → Option (List ℕ) → Look A
+
+-- the workbook opens, and a look at its first sheet of this name says this
+abbrev pub HasNamedLook : {A : Type 0} → NamedLook A → List Part → List ℕ → A → Type 0
+HasNamedLook look parts name said =
+    HasNamed (λ path own. look_said (look name path) own ≡ Some said) parts name
+
+-- why a look at a sheet says nothing, whose part is at a path
+abbrev pub LookPathCause : {A : Type 0} → NamedLook A → List ℕ → PathCause
+LookPathCause look name path parts error = LookCause (look name path) parts error
+
+-- why a look at the sheet of a name is refused
+abbrev pub NamedLookCause : {A : Type 0} → NamedLook A → List Part → List ℕ → XlsxError → Type 0
+NamedLookCause look parts name error = NamedCause (LookPathCause look name) parts name error
+
+-- the workbook opens, and this is what is printed of what a look at its first sheet of this name
+-- says
+pub record AreLookLines {A : Type 0} (look : NamedLook A) (printed : A → List ℕ)
+    (parts : List Part) (name lines : List ℕ) : Type 0 where
+  pub said : A
+  pub has : HasNamedLook look parts name said
+  pub listed : lines ≡ printed said
+
 -- ---- merged cells
 
 -- the workbook opens, and its first sheet of this name has these merged cells
@@ -68,14 +97,6 @@ pub record AreMergeLines (form : LineForm) (parts : List Part) (name lines : Lis
 
 -- ---- links
 
--- the workbook opens, and its first sheet of this name has these links
-abbrev pub HasLinks : List Part → List ℕ → List Link → Type 0
-HasLinks parts name links = HasNamed (λ path own. links_placed path own ≡ Some links) parts name
-
--- why the links of the sheet of a name are refused
-abbrev pub NamedLinksCause : List Part → List ℕ → XlsxError → Type 0
-NamedLinksCause parts name error = NamedCause (PlacedLinksCause name) parts name error
-
 -- the line of a link by its fields: its cells, where it leads, what is shown, and its tip
 abbrev pub line_of_link : LineForm → Link → List ℕ
 line_of_link form own =
@@ -84,12 +105,6 @@ line_of_link form own =
 -- a line for each link, in order
 abbrev pub link_lines : LineForm → List Link → List ℕ
 link_lines form links = flat_map (line_of_link form) links
-
--- the workbook opens, and these are the lines of the links of its first sheet of this name
-pub record AreLinkLines (form : LineForm) (parts : List Part) (name lines : List ℕ) : Type 0 where
-  pub links : List Link
-  pub has : HasLinks parts name links
-  pub listed : lines ≡ link_lines form links
 
 -- the cells of a link lie in a worksheet
 abbrev pub IsLinkInside : Link → Type 0
@@ -101,18 +116,9 @@ IsKeptInside own = IsLinkInside (link_said own)
 
 -- ---- comments
 
--- the workbook opens, and its first sheet of this name has these comments, part by part
-abbrev pub HasComments : List Part → List ℕ → List CommentsSaid → Type 0
-HasComments parts name all =
-    HasNamed (λ path own. (named_comments_ask name path).said own ≡ Some all) parts name
-
--- why the comments of a sheet aren't had, whose part is at a path
-abbrev pub CommentsPathCause : List ℕ → PathCause
-CommentsPathCause name path parts error = (named_comments_ask name path).cause parts error
-
--- why the comments of the sheet of a name are refused
-abbrev pub NamedCommentsCause : List Part → List ℕ → XlsxError → Type 0
-NamedCommentsCause parts name error = NamedCause (CommentsPathCause name) parts name error
+-- a look at the comments of the sheet of a name, part by part
+abbrev pub named_comments : List ℕ → Option (List ℕ) → Look (List CommentsSaid)
+named_comments name path = named_sheet_look sheet_comments_look name path
 
 -- the line of a comment of a part
 abbrev pub line_of_comment : LineForm → CommentsSaid → CommentSaid → List ℕ
@@ -125,10 +131,3 @@ part_lines form part = flat_map (line_of_comment form part) part.comments
 -- the lines of the comments of all parts of a sheet
 abbrev pub comment_lines : LineForm → List CommentsSaid → List ℕ
 comment_lines form all = flat_map (part_lines form) all
-
--- the workbook opens, and these are the lines of the comments of its first sheet of this name
-pub record AreCommentLines (form : LineForm) (parts : List Part) (name lines : List ℕ)
-    : Type 0 where
-  pub all : List CommentsSaid
-  pub has : HasComments parts name all
-  pub listed : lines ≡ comment_lines form all

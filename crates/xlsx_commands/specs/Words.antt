@@ -20,9 +20,10 @@ pub use Rattle.xlsx_commands.specs.Request.{asked_of_sheet, chosen, request_mean
 pub use Rattle.xlsx_commands.specs.Request.{request_parts, told}
 pub use Rattle.xlsx_commands.specs.RowObjects.{AreJsonRows, GivesTwice, LacksHeader}
 pub use Rattle.xlsx_commands.specs.SampleLines.{sample_name}
-pub use Rattle.xlsx_commands.specs.SheetLists.{CommentsPathCause, HasComments, HasLinks, HasMerges}
-pub use Rattle.xlsx_commands.specs.SheetLists.{HasNamedCause, MergesPathCause, NamedCause}
-pub use Rattle.xlsx_commands.specs.SheetLists.{NamedCommentsCause, OpensAt, PathCause}
+pub use Rattle.xlsx_commands.specs.SheetLists.{AreLookLines, HasMerges, HasNamedCause}
+pub use Rattle.xlsx_commands.specs.SheetLists.{HasNamedLook, LookPathCause, MergesPathCause}
+pub use Rattle.xlsx_commands.specs.SheetLists.{NamedCause, NamedLook, NamedLookCause, OpensAt}
+pub use Rattle.xlsx_commands.specs.SheetLists.{PathCause, named_comments}
 pub use Rattle.xlsx_commands.specs.SheetRows.{HasRowValues}
 pub use Rattle.xlsx_commands.specs.SheetsOpened.{HasSheetsCause, ListedCause, sheets_opened}
 pub use Rattle.xlsx_commands.specs.Status.{error_text, status_of}

@@ -1,10 +1,10 @@
 ghost use Rattle.std.specs.Prelude.{◌≡◌, ◌++◌, map, string_bytes, OnOk, IfOk, IfErr, Some};
 ghost use Rattle.xlsx_comments.specs.CommentParts.{comment_kept, comments_kept};
-ghost use Rattle.xlsx_core.specs.Words.{named_comments_ask};
+ghost use Rattle.looks.specs.Words.{look_said};
 ghost use Rattle.xlsx_commands.specs.Outputs.{CallFails};
-ghost use Rattle.xlsx_commands.specs.SheetLists.{CommentsPathCause, NamedCommentsCause};
-ghost use Rattle.xlsx_commands.specs.SheetLists.{line_of_comment, part_lines, comment_lines};
-ghost use Rattle.xlsx_commands.specs.SheetLists.{AreCommentLines};
+ghost use Rattle.xlsx_commands.specs.SheetLists.{AreLookLines, LookPathCause, NamedLookCause};
+ghost use Rattle.xlsx_commands.specs.SheetLists.{comment_lines, line_of_comment, named_comments};
+ghost use Rattle.xlsx_commands.specs.SheetLists.{part_lines};
 
 use crate::error::ToolError;
 use crate::named_sheet::{OfSheet, of_sheet};
@@ -17,9 +17,9 @@ use xlsx_error::XlsxError;
 /// The comments of a sheet, part by part.
 impl OfSheet for Vec<Comments> {
     ghost has = { λ all name path parts.
-        (named_comments_ask name path).said parts ≡ Some (map comments_kept all.items) };
+        look_said (named_comments name path) parts ≡ Some (map comments_kept all.items) };
 
-    ghost cause = { CommentsPathCause };
+    ghost cause = { LookPathCause named_comments };
 
     fn ask(xlsx: &mut Xlsx<InputPackage>, name: &str) -> Result<Vec<Comments>, XlsxError> {
         xlsx.comments_by_sheet_name(name)
@@ -75,9 +75,10 @@ pub fn comment_lines(
     form: LineForm,
     name: &str,
 ) -> Result<Vec<u8>, ToolError>
-    ensures ok { IfOk result (λ output.
-        AreCommentLines form «package».parts name.now output.items) }
-    ensures err { IfErr result (CallFails (NamedCommentsCause «package».parts name.now)) }
+    ensures ok { IfOk result (λ output. AreLookLines named_comments (comment_lines form)
+        «package».parts name.now output.items) }
+    ensures err { IfErr result
+        (CallFails (NamedLookCause named_comments «package».parts name.now)) }
 {
     let all: Vec<Comments> = of_sheet(alloc, package, name)?;
     Ok(lines_of_comments(alloc, form, &all)?.into_bytes())

@@ -2,10 +2,11 @@ ghost use Rattle.std.specs.Prelude.{◌≡◌, ◌++◌, map, option_map, string
 ghost use Rattle.std.specs.Prelude.{IfErr, Some};
 ghost use Rattle.std.specs.Option.{option_copied};
 ghost use Rattle.xlsx_areas.specs.Hyperlinks.{link_said};
-ghost use Rattle.xlsx_core.specs.Words.{links_placed, PlacedLinksCause};
+ghost use Rattle.looks.specs.Words.{look_said};
+ghost use Rattle.xlsx_core.specs.Words.{placed_links_look};
 ghost use Rattle.xlsx_commands.specs.Outputs.{CallFails};
-ghost use Rattle.xlsx_commands.specs.SheetLists.{NamedLinksCause, IsKeptInside, line_of_link};
-ghost use Rattle.xlsx_commands.specs.SheetLists.{link_lines, AreLinkLines};
+ghost use Rattle.xlsx_commands.specs.SheetLists.{AreLookLines, IsKeptInside, LookPathCause};
+ghost use Rattle.xlsx_commands.specs.SheetLists.{NamedLookCause, line_of_link, link_lines};
 
 use crate::error::ToolError;
 use crate::named_sheet::{OfSheet, of_sheet};
@@ -18,9 +19,9 @@ use xlsx_error::XlsxError;
 /// The links of a sheet.
 impl OfSheet for Vec<Hyperlink> {
     ghost has = { λ links name path parts.
-        links_placed path parts ≡ Some (map link_said links.items) };
+        look_said (placed_links_look name path) parts ≡ Some (map link_said links.items) };
 
-    ghost cause = { PlacedLinksCause };
+    ghost cause = { LookPathCause placed_links_look };
 
     fn ask(xlsx: &mut Xlsx<InputPackage>, name: &str) -> Result<Vec<Hyperlink>, XlsxError> {
         xlsx.hyperlinks_by_sheet_name(name)
@@ -70,8 +71,10 @@ pub fn link_lines(
     form: LineForm,
     name: &str,
 ) -> Result<Vec<u8>, ToolError>
-    ensures ok { IfOk result (λ output. AreLinkLines form «package».parts name.now output.items) }
-    ensures err { IfErr result (CallFails (NamedLinksCause «package».parts name.now)) }
+    ensures ok { IfOk result (λ output. AreLookLines placed_links_look (link_lines form)
+        «package».parts name.now output.items) }
+    ensures err { IfErr result
+        (CallFails (NamedLookCause placed_links_look «package».parts name.now)) }
 {
     let links: Vec<Hyperlink> = of_sheet(alloc, package, name)?;
     Ok(lines_of_links(alloc, form, &links)?.into_bytes())

@@ -1,13 +1,12 @@
 pub mod Agreeing
 pub mod BookRead
 pub mod CodesKept
-pub mod CommentsTaken
 pub mod DataTaken
 pub mod FormulaTexts
 pub mod FormulasListed
 pub mod LastOfEach
 pub mod LeastAreas
-pub mod LinksTaken
+pub mod NamedSheets
 pub mod RangesMade
 pub mod RangesRead
 pub mod SheetLaws

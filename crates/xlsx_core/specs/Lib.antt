@@ -1,10 +1,10 @@
 pub mod Agreement
 pub mod Apart
-pub mod Comments
 pub mod FormulaList
 pub mod Links
 pub mod Listing
 pub mod Merges
+pub mod NamedSheet
 pub mod Opened
 pub mod NumberedTables
 pub mod PivotList

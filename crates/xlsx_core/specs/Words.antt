@@ -1,15 +1,15 @@
 -- The words of this crate that clauses above it cite, passed on from one place. Declares nothing.
 pub use Rattle.xlsx_core.specs.Agreement.{HaveSameBook, HaveSamePart, HaveSameSheet}
 pub use Rattle.xlsx_core.specs.Apart.{IsWorkbookOf, OpensInto}
-pub use Rattle.xlsx_core.specs.Comments.{named_comments_ask, named_comments_look}
 pub use Rattle.xlsx_core.specs.FormulaList.{FormulaSaid, FormulasCause, IsFormulasError}
 pub use Rattle.xlsx_core.specs.FormulaList.{NumberedSheet, SheetFormulasCause, all_formulas_ask}
 pub use Rattle.xlsx_core.specs.FormulaList.{formula_on, formula_read, no_context, part_formulas}
 pub use Rattle.xlsx_core.specs.FormulaList.{path_formulas, sheet_formulas, sheets_from}
 pub use Rattle.xlsx_core.specs.FormulaList.{workbook_formulas}
-pub use Rattle.xlsx_core.specs.Links.{PlacedLinksCause, PlacedLinksFail, links_placed}
+pub use Rattle.xlsx_core.specs.Links.{named_links_ask, placed_links_look}
 pub use Rattle.xlsx_core.specs.Listing.{AreListed}
 pub use Rattle.xlsx_core.specs.Merges.{merges_placed, sheet_paths, sheets_of_book}
+pub use Rattle.xlsx_core.specs.NamedSheet.{named_sheet_ask, named_sheet_look}
 pub use Rattle.xlsx_core.specs.NumberedTables.{AllTablesCause, all_numbered_look}
 pub use Rattle.xlsx_core.specs.NumberedTables.{all_numbered_tables_ask, numbered_tables}
 pub use Rattle.xlsx_core.specs.NumberedTables.{numbered_tables_look}

@@ -1,7 +1,8 @@
 ghost use Rattle.std.specs.Prelude.{map};
 ghost use Rattle.xlsx_comments.specs.CommentParts.{comments_kept};
+ghost use Rattle.xlsx_comments.specs.Comments.{AreSheetCommentsError, sheet_comments_look};
 ghost use Rattle.xlsx_sections.specs.Words.{Answers};
-ghost use Rattle.xlsx_core.specs.Comments.{named_comments_ask};
+ghost use Rattle.xlsx_core.specs.NamedSheet.{named_sheet_ask};
 ghost use Rattle.xlsx_core.specs.Worksheets.{path_of, KeepsWorkbook};
 
 use crate::xlsx::Xlsx;
@@ -34,7 +35,8 @@ impl<P: Package> Xlsx<P> {
     /// Ok(texts)
     /// ```
     pub fn comments_by_sheet_name(&mut self, name: &str) -> Result<Vec<Comments>, XlsxError>
-        ensures answers { let ask = named_comments_ask name.now (path_of self.old name.now) in
+        ensures answers { let ask = named_sheet_ask AreSheetCommentsError sheet_comments_look
+            name.now (path_of self.old name.now) in
             Answers ask (λ all. map comments_kept all.items) result self.old.xml.source
             self.new.xml.source }
         ensures rest { KeepsWorkbook self.old self.new }

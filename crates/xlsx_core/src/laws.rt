@@ -7,13 +7,14 @@ ghost use Rattle.cell_data.specs.declared.value.Data.{Data};
 ghost use Rattle.cell_data.specs.declared.value.DataRef.{DataRef};
 ghost use Rattle.cell_data.specs.declared.value.HeaderRow.{HeaderRow};
 ghost use Rattle.xlsx_error.specs.declared.error.XlsxError.{XlsxError};
+ghost use Rattle.looks.specs.Words.{look_said, LookCause};
 ghost use Rattle.cell_refs.specs.declared.dimensions.Dimensions.{Dimensions};
 ghost use Rattle.cell_styles.specs.Words.{StyleMap};
 ghost use Rattle.xlsx_core.specs.Agreement.{HaveSameSheet};
 ghost use Rattle.xlsx_core.specs.SheetReading.{SayTheSame, ReadsAs, IsReadable, SheetCause};
 ghost use Rattle.xlsx_core.specs.SheetReading.{PlacedCause};
 ghost use Rattle.xlsx_areas.specs.Hyperlinks.{Link};
-ghost use Rattle.xlsx_core.specs.Links.{links_placed, PlacedLinksCause};
+ghost use Rattle.xlsx_core.specs.Links.{placed_links_look};
 ghost use Rattle.xlsx_core.specs.Listing.{IsListedAs, IsLeftOut};
 ghost use Rattle.xlsx_core.specs.ShownTable.{ShowsValuesIn};
 ghost use Rattle.xlsx_core.specs.TableData.{ReadsValuesIn, ReadsPlacesIn};
@@ -27,8 +28,6 @@ ghost use Rattle.xlsx_open.specs.Words.{SharedSaid};
 ghost use Rattle.xlsx_workbook.specs.declared.sheet.Sheet.{Sheet};
 ghost use Rattle.xlsx_core.specs.declared.sheet_reading.SheetReading.{SheetReading};
 ghost use Rattle.xlsx_values.specs.Words.{ValueContext};
-
-use xlsx_areas::links_have_no_cause_of_a_refusal;
 
 /// A sheet that can be read has no cause to be refused.
 pub fn readable_sheets_are_not_refused()
@@ -102,11 +101,9 @@ pub fn worksheets_that_are_read_are_not_refused()
 /// A sheet whose hyperlinks are taken has no cause to be refused for them.
 pub fn links_that_are_taken_are_not_refused()
     ensures { (name : List ℕ) (path : Option (List ℕ)) (parts : List Part) (links : List Link)
-        (error : XlsxError) → links_placed path parts ≡ Some links →
-        PlacedLinksCause name path parts error → ⊥ }
-{
-    links_have_no_cause_of_a_refusal();
-}
+        (error : XlsxError) → look_said (placed_links_look name path) parts ≡ Some links →
+        LookCause (placed_links_look name path) parts error → ⊥ }
+{}
 
 /// No sheet that is listed with its range is one that is left out.
 pub fn worksheets_are_listed_or_left_out()

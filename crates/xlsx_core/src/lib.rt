@@ -1,18 +1,18 @@
 //! What a workbook's worksheets hold.
 //!
 //! Rooms: `xlsx` (`Xlsx`, `OpenFailure`), `workbook` (`Workbook`, an open workbook apart from its
-//! package), `worksheets` (the calls of `Xlsx` that read a worksheet),
-//! `worksheet_list` (the one that reads all), `placed_sheet` (the sheet of a name, and its part),
-//! `standing` (the last cell of each position, from the header row on), `ranges` (cells as ranges),
-//! `as_read` (the cells of a sheet as they came, and the ranges of them), `sheet_reading`
-//! (`read_sheet`, `read_sheet_values`, `SheetReading`, `SheetAnswer`), `shown_codes` (the codes of
-//! styles, each cut once), `shown_sheet` (`read_sheet_shown`), `shown_table` (the call on the data
-//! of a table as they are shown), `shown_laws`, `merges` (the calls on merged cells), `links`
-//! (those on hyperlinks), `comments` (the one on comments), `formula_list` (the one on the formulas
-//! of all sheets), `formula_laws`, `properties` (the one on properties), `sheet_lists` (the loop
-//! over what the sheets say), `numbered_tables` (the tables of all sheets by the numbers of these),
-//! `table_list` (tables that are loaded and listed), `table_data` (their data by their names),
-//! `pivots` (the call on pivot tables), `lists` (what was loaded), `laws`.
+//! package), `worksheets` (the calls of `Xlsx` that read a worksheet), `worksheet_list` (the one
+//! that reads all), `placed_sheet` (the sheet of a name, and its part), `standing` (the last cell
+//! of each position, from the header row on), `ranges` (cells as ranges), `as_read` (the cells of a
+//! sheet as they came, and the ranges of them), `sheet_reading` (`read_sheet`, `read_sheet_values`,
+//! `SheetReading`, `SheetAnswer`), `shown_codes` (the codes of styles, each cut once),
+//! `shown_sheet` (`read_sheet_shown`), `shown_table` (the call on the data of a table as they are
+//! shown), `shown_laws`, `merges` (the calls on merged cells), `links` (those on hyperlinks),
+//! `comments` (the one on comments), `formula_list` (the one on the
+//! formulas of all sheets), `formula_laws`, `properties` (the one on properties), `sheet_lists`
+//! (the loop over what the sheets say), `numbered_tables` (the tables of all sheets by the numbers
+//! of these), `table_list` (tables that are loaded and listed), `table_data` (their data by their
+//! names), `pivots` (the call on pivot tables), `lists` (what was loaded), `laws`.
 //!
 //! A cause is one of opening or one of the sheet's part (`SheetPartCause`), so that each layer
 //! below says its own half.

@@ -1,10 +1,9 @@
-ghost use Rattle.std.specs.Prelude.{◌≡◌, true, map, IfOk, OnOk, IfErr, IfSome, MatchOption, Some};
-ghost use Rattle.part_events.specs.Words.{Uses, CountsUp};
-ghost use Rattle.xlsx_error.specs.declared.error.XlsxError.TheVariants.{Io};
-ghost use Rattle.xlsx_areas.specs.Hyperlinks.{link_said, link_sections};
-ghost use Rattle.xlsx_core.specs.Links.{links_placed, PlacedLinksFail, IsPlacedLinksError};
-ghost use Rattle.xlsx_core.specs.Links.{NumberedLinksFail, placed_link_events};
-ghost use Rattle.xlsx_core.specs.Merges.{sheet_name_at, path_at, IsIndexError};
+ghost use Rattle.std.specs.Prelude.{map};
+ghost use Rattle.xlsx_sections.specs.Words.{Answers};
+ghost use Rattle.looks.specs.Words.{look_ask};
+ghost use Rattle.xlsx_areas.specs.Hyperlinks.{link_said};
+ghost use Rattle.xlsx_core.specs.Links.{IsPlacedLinksError, named_links_ask, numbered_links_ask};
+ghost use Rattle.xlsx_core.specs.Links.{sheet_links_look};
 ghost use Rattle.xlsx_core.specs.Opened.{path_lent};
 ghost use Rattle.xlsx_core.specs.Worksheets.{path_of, KeepsWorkbook};
 
@@ -15,32 +14,39 @@ use xlsx_areas::{Hyperlink, read_sheet_links};
 use xlsx_error::XlsxError;
 use xlsx_open::PartPath;
 
+/// The hyperlinks of the sheet of this name whose part is at this path.
+fn sheet_links<P: Package>(
+    xml: &mut XlReader<P>,
+    path: &str,
+    name: &str,
+) -> Result<Vec<Hyperlink>, XlsxError>
+    ensures answers { let look = sheet_links_look name.now path.now in
+        Answers (look_ask (IsPlacedLinksError name.now) look) (λ links. map link_said links.items)
+        result xml.old.source xml.new.source }
+{
+    match read_sheet_links(xml, path)? {
+        Some(links) => Ok(links),
+        None => Err(XlsxError::WorksheetNotFound(String::from_str(xml.alloc(), name)?)),
+    }
+}
+
 /// The hyperlinks of the sheet of this name, whose part is at this path.
 fn placed_links<P: Package>(
     xml: &mut XlReader<P>,
     path: Option<&PartPath>,
     name: &str,
 ) -> Result<Vec<Hyperlink>, XlsxError>
-    ensures uses { Uses (placed_link_events (path_lent path.entry) xml.old.source.parts) Io result
-        xml.old.source xml.new.source }
-    ensures to_end { let old = xml.old.source in
-        old.is_visible ≡ true → IfSome (path_lent path.entry) (λ there.
-        OnOk result (CountsUp (link_sections old.parts there) old.taken xml.new.source.taken)) }
-    ensures links { xml.old.source.is_visible ≡ true → IfOk result (λ links.
-        links_placed (path_lent path.entry) xml.old.source.parts
-        ≡ Some (map link_said links.items)) }
-    ensures err { IfErr result (PlacedLinksFail name.now (path_lent path.entry)
-        xml.old.source xml.new.source) }
-    ensures kind { IfErr result (IsPlacedLinksError name.now) }
+    ensures answers { let ask = named_links_ask name.now (path_lent path.entry) in
+        Answers ask (λ links. map link_said links.items) result xml.old.source xml.new.source }
 {
     let alloc = xml.alloc();
-    if let Some(path) = path {
-        let path = path.joined(alloc)?;
-        if let Some(links) = read_sheet_links(xml, path.as_str())? {
-            return Ok(links);
+    match path {
+        Some(path) => {
+            let path = path.joined(alloc)?;
+            sheet_links(xml, path.as_str(), name)
         }
+        None => Err(XlsxError::WorksheetNotFound(String::from_str(alloc, name)?)),
     }
-    Err(XlsxError::WorksheetNotFound(String::from_str(alloc, name)?))
 }
 
 /// The hyperlinks of an open workbook.
@@ -66,19 +72,10 @@ impl<P: Package> Xlsx<P> {
     /// Ok(links.len())
     /// ```
     pub fn hyperlinks_by_sheet_name(&mut self, name: &str) -> Result<Vec<Hyperlink>, XlsxError>
-        ensures uses { Uses (placed_link_events (path_of self.old name.now)
-            self.old.xml.source.parts) Io result self.old.xml.source self.new.xml.source }
-        ensures to_end { let old = self.old.xml.source in
-            old.is_visible ≡ true → IfSome (path_of self.old name.now) (λ there.
-            OnOk result (CountsUp (link_sections old.parts there) old.taken
-            self.new.xml.source.taken)) }
+        ensures answers { let ask = named_links_ask name.now (path_of self.old name.now) in
+            Answers ask (λ links. map link_said links.items) result self.old.xml.source
+            self.new.xml.source }
         ensures rest { KeepsWorkbook self.old self.new }
-        ensures links { self.old.xml.source.is_visible ≡ true → IfOk result (λ links.
-            links_placed (path_of self.old name.now) self.old.xml.source.parts
-            ≡ Some (map link_said links.items)) }
-        ensures err { IfErr result (PlacedLinksFail name.now (path_of self.old name.now)
-            self.old.xml.source self.new.xml.source) }
-        ensures kind { IfErr result (IsPlacedLinksError name.now) }
     {
         let path = path_named(&self.workbook.metadata.sheets, &self.workbook.paths, name);
         placed_links(&mut self.xml, path, name)
@@ -90,21 +87,10 @@ impl<P: Package> Xlsx<P> {
     /// Fails with `WorksheetNotFound("Sheet index N out of range")` past the last sheet, and else
     /// as `hyperlinks_by_sheet_name` of the sheet's name.
     pub fn hyperlinks_by_sheet_id(&mut self, id: usize) -> Result<Vec<Hyperlink>, XlsxError>
-        ensures uses { Uses (placed_link_events (path_at self.old id) self.old.xml.source.parts)
-            Io result self.old.xml.source self.new.xml.source }
-        ensures to_end { let old = self.old.xml.source in
-            old.is_visible ≡ true → IfSome (path_at self.old id) (λ there.
-            OnOk result (CountsUp (link_sections old.parts there) old.taken
-            self.new.xml.source.taken)) }
+        ensures answers { let ask = numbered_links_ask self.old id in
+            Answers ask (λ links. map link_said links.items) result self.old.xml.source
+            self.new.xml.source }
         ensures rest { KeepsWorkbook self.old self.new }
-        ensures links { self.old.xml.source.is_visible ≡ true → IfOk result (λ links.
-            links_placed (path_at self.old id) self.old.xml.source.parts ≡ Some
-            (map link_said links.items)) }
-        ensures err { IfErr result (NumberedLinksFail self.old id self.old.xml.source
-            self.new.xml.source) }
-        ensures kind { IfErr result (λ error.
-            MatchOption (sheet_name_at self.old id) (IsIndexError id error)
-            (λ name. IsPlacedLinksError name error)) }
     {
         let sheet = numbered_sheet(self.xml.alloc(), &self.workbook.metadata.sheets, id)?;
         let name = sheet.name.as_str();

@@ -7,6 +7,7 @@ use Rattle.part_events.specs.Words.{Part}
 use Rattle.xlsx_error.specs.declared.error.XlsxError.{XlsxError}
 use Rattle.looks.proofs.Alike.{said_alike, cause_alike, alike_back}
 use Rattle.xlsx_properties.specs.Parts.{properties_look}
+use Rattle.xlsx_core.specs.Words.{placed_links_look}
 use Rattle.xlsx_core.proofs.Agreeing.{same_back, reads_over}
 use Rattle.xlsx_core.proofs.ShownLaws.{shown_over}
 use Rattle.xlsx_commands.specs.Words.{Command, cells, sheets, names, merges, links, props, csv}
@@ -15,7 +16,7 @@ use Rattle.xlsx_commands.specs.Words.{dependents, check, part, upgrade, resave, 
 use Rattle.xlsx_commands.specs.Words.{resave_file, json_rows, table_objects, all_dependents}
 use Rattle.xlsx_commands.specs.Words.{workbook_graph, OutputCause, IsUpgrade, PartPathCause}
 use Rattle.xlsx_commands.specs.Words.{ListedPropertiesCause, AreJsonRows, LacksHeader, GivesTwice}
-use Rattle.xlsx_commands.specs.Words.{sample_name, HasRowValues}
+use Rattle.xlsx_commands.specs.Words.{sample_name, HasRowValues, named_comments}
 use Rattle.xlsx_commands.specs.Outputs.{IsOutput, RefusedWorkbookCause, IsTooLarge, HasLargeGraph}
 use Rattle.xlsx_commands.specs.Outputs.{IsUnwritable, HasNoKeys, HasTwoColumns}
 use Rattle.xlsx_commands.specs.declared.error.ToolError.{ToolError}
@@ -25,7 +26,7 @@ use Rattle.xlsx_commands.specs.declared.error.ToolError.TheVariants.{TwoColumns,
 use Rattle.xlsx_commands.specs.declared.asked_rows.AskedRows.{AskedRows}
 use Rattle.xlsx_footprints.specs.Footprints.{HaveSameFootprint, HaveSameOpening, HaveSameProperties}
 use Rattle.xlsx_footprints.specs.Footprints.{HaveSameCells, HaveSameRows}
-use Rattle.xlsx_footprints.proofs.CommentsAlike.{comments_over, comments_cause_over, comments_back}
+use Rattle.xlsx_footprints.proofs.NamedLooksAlike.{look_back, look_cause_over, look_over}
 use Rattle.xlsx_footprints.proofs.GraphsAlike.{graph_over, graph_cause_over, graph_back}
 use Rattle.xlsx_footprints.proofs.GraphsAlike.{dependents_cause_over, large_book_over}
 use Rattle.xlsx_footprints.proofs.GraphsAlike.{large_dependents_over}
@@ -39,8 +40,7 @@ use Rattle.xlsx_footprints.proofs.OpeningsAlike.{opening_cause_over, opening_bac
 use Rattle.xlsx_footprints.proofs.OpeningsAlike.{cells_back, cells_of_sheet}
 use Rattle.xlsx_footprints.proofs.PivotsAlike.{cache_over}
 use Rattle.xlsx_footprints.proofs.SheetsAlike.{cells_over, named_over, sheet_cause_over}
-use Rattle.xlsx_footprints.proofs.SheetsAlike.{merges_over, merges_cause_over, links_over}
-use Rattle.xlsx_footprints.proofs.SheetsAlike.{links_cause_over, links_back, part_path_over}
+use Rattle.xlsx_footprints.proofs.SheetsAlike.{merges_over, merges_cause_over, part_path_over}
 
 -- the values of rows, as they are or as they are shown
 rows_back : (shown : Bool) (one two : List Part) (name : List ℕ) → HaveSameRows shown one two name
@@ -105,12 +105,10 @@ way_back (cells form name) one two same = same_back one two name same
 way_back (sheets form) one two same = opening_back one two same
 way_back (names form) one two same = opening_back one two same
 way_back (merges form name) one two same = cells_back one two name same
-way_back (links form name) one two same =
-    let back = cells_back one two name same.0 in
-    (back, links_back one two name back.opening same.1)
-way_back (comments form name) one two same =
-    let back = opening_back one two same.0 in (back, comments_back one two name back same.1)
-way_back (props form) one two same = (opening_back one two same.0, alike_back properties_look one two same.1)
+way_back (links form name) one two same = look_back placed_links_look one two name same
+way_back (comments form name) one two same = look_back named_comments one two name same
+way_back (props form) one two same =
+    (opening_back one two same.0, alike_back properties_look one two same.1)
 way_back (csv name asked) one two same = rows_back asked.shown one two name same
 way_back (json_rows name asked) one two same = rows_back asked.shown one two name same
 way_back (table_objects name options) one two same = table_data_back one two name same
@@ -166,13 +164,13 @@ output_over (merges form name) one two output same prints = record {
   listed = prints.listed;
 }
 output_over (links form name) one two output same prints = record {
-  links = prints.links;
-  has = links_over one two name prints.links same.0 same.1 prints.has;
+  said = prints.said;
+  has = look_over placed_links_look one two name prints.said same prints.has;
   listed = prints.listed;
 }
 output_over (comments form name) one two output same prints = record {
-  all = prints.all;
-  has = comments_over one two name prints.all same.0 same.1 prints.has;
+  said = prints.said;
+  has = look_over named_comments one two name prints.said same prints.has;
   listed = prints.listed;
 }
 output_over (props form) one two output same prints = record {
@@ -336,9 +334,9 @@ cause_over (names form) one two error same cause = opening_cause_over one two er
 cause_over (merges form name) one two error same cause = merges_cause_over one two name error same
     cause
 cause_over (links form name) one two error same cause =
-    links_cause_over one two name error same.0 same.1 cause
+    look_cause_over placed_links_look one two name error same cause
 cause_over (comments form name) one two error same cause =
-    comments_cause_over one two name error same.0 same.1 cause
+    look_cause_over named_comments one two name error same cause
 cause_over (props form) one two error same cause =
     listed_properties_over one two error same.0 same.1 cause
 cause_over (csv name asked) one two error same cause =

@@ -7,6 +7,6 @@ pub mod SheetsAlike
 pub mod ListsAlike
 pub mod GraphsAlike
 pub mod CommandsAlike
-pub mod CommentsAlike
 pub mod PlacesAlike
 pub mod ThemesAlike
+pub mod NamedLooksAlike

@@ -1,35 +1,26 @@
 -- What is had of a sheet of packages that have the same parts where it is read from.
-use Rattle.std.proofs.Common.{◌≡◌, ℕ, List, [], Option, Some, None, sym, ◌∙◌, ap, subst, inl, inr}
-use Rattle.std.proofs.Common.{codes, map, refl}
+use Rattle.std.proofs.Common.{◌≡◌, ℕ, List, [], Option, sym, ◌∙◌, ap, subst, inl, inr, map, refl}
 use Rattle.std.specs.Prelude.{◌⊎◌, IsSomeAnd, option_and_then}
 use Rattle.cell_data.specs.Words.{CellValue}
 use Rattle.cell_refs.specs.Words.{last_of_each}
 use Rattle.cell_refs.specs.declared.dimensions.Dimensions.{Dimensions}
 use Rattle.cell_styles.specs.Words.{StyleMap, styles_of}
-use Rattle.part_events.specs.Words.{Event, Part, part_of}
+use Rattle.part_events.specs.Words.{Event, Part}
 use Rattle.xlsx_error.specs.declared.error.XlsxError.{XlsxError}
 use Rattle.xlsx_error.specs.declared.error.XlsxError.TheVariants.{WorksheetNotFound}
-use Rattle.xlsx_sections.specs.Words.{IsInsideRefused, OptionalPartCause, always}
-use Rattle.xlsx_parts.specs.Words.{section_said, unless_absent}
-use Rattle.xlsx_relationships.specs.Words.{LinkTarget, link_targets, link_targets_in, target_in}
-use Rattle.xlsx_relationships.specs.Words.{relationships_beside}
-use Rattle.xlsx_areas.specs.Hyperlinks.{Link, links_of, links_at}
-use Rattle.xlsx_areas.specs.LinkErrors.{LinksCause, SheetLinksCause}
 use Rattle.xlsx_areas.specs.MergeErrors.{MergesCause}
 use Rattle.xlsx_areas.specs.MergedCells.{merges_of}
 use Rattle.xlsx_values.specs.Words.{ValueContext}
 use Rattle.xlsx_cells.specs.Words.{used_values, with_texts, IsSoundSheet, SheetPartCause}
-use Rattle.xlsx_open.specs.Words.{Opening, OpeningCause}
-use Rattle.xlsx_core.specs.Words.{HaveSamePart, PlacedLinksCause, PlacedCause, SheetCause}
-use Rattle.xlsx_core.specs.Words.{HasPartCause, LacksSheet, ReadsAs, all_wanted, events_at}
-use Rattle.xlsx_core.specs.Words.{path_named}
+use Rattle.xlsx_open.specs.Words.{OpeningCause}
+use Rattle.xlsx_core.specs.Words.{PlacedCause, SheetCause, HasPartCause, LacksSheet, ReadsAs}
+use Rattle.xlsx_core.specs.Words.{all_wanted, events_at, path_named}
 use Rattle.xlsx_core.proofs.Agreeing.{events_over}
 use Rattle.xlsx_commands.specs.Words.{PartPathCause, OpensAt, PathCause, HasNamedCause, NamedCause}
-use Rattle.xlsx_commands.specs.Words.{HasMerges, HasLinks, MergesPathCause}
-use Rattle.xlsx_footprints.specs.Footprints.{HaveSameCells, HaveSameOpening, HaveSameLinks}
+use Rattle.xlsx_commands.specs.Words.{HasMerges, MergesPathCause}
+use Rattle.xlsx_footprints.specs.Footprints.{HaveSameCells, HaveSameOpening}
 use Rattle.xlsx_footprints.proofs.OpeningsAlike.{opening_over, opening_cause_over, opens_at_over}
 use Rattle.xlsx_footprints.proofs.OpeningsAlike.{context_over, other_opening, others_share}
-use Rattle.xlsx_footprints.proofs.SaidAlike.{then_over}
 use Rattle.xlsx_footprints.proofs.ThemesAlike.{recolored, recolored_said, style_font}
 
 -- the part of the sheet
@@ -170,93 +161,3 @@ merges_cause_over one two name error same cause =
     named_over (MergesPathCause name) one two name error same.opening
     (λ path at has. placed_over name path MergesCause one two error
     (events_same one two name path same at) has) cause
-
--- ---- links
-
-targets_over : (one two : List Part) (path : List ℕ)
-    → HaveSamePart one two (relationships_beside path)
-    → link_targets one path ≡ link_targets two path
-targets_over one two path same =
-    ap (λ (events : Option (List Event)). unless_absent [] events
-    (option_and_then (section_said (codes "Relationships") link_targets_in) events)) same
-
-links_at_over : (one two : List Part) (path : List ℕ) → HaveSamePart one two path
-    → HaveSamePart one two (relationships_beside path) → links_at one path ≡ links_at two path
-links_at_over one two path own beside =
-    then_over (link_targets one path)
-    (λ targets. option_and_then (links_of (target_in targets)) (part_of one path))
-    (λ targets. option_and_then (links_of (target_in targets)) (part_of two path))
-    (λ targets is. ap (option_and_then (links_of (target_in targets))) own)
-    ∙ ap (option_and_then (λ (targets : List LinkTarget).
-    option_and_then (links_of (target_in targets)) (part_of two path)))
-    (targets_over one two path beside)
-
-pub links_over : (one two : List Part) (name : List ℕ) (links : List Link)
-    → HaveSameCells one two name → HaveSameLinks one two name → HasLinks one name links
-    → HasLinks two name links
-links_over one two name links same beside (path, at, taken) = (
-  path,
-  opens_at_over one two name path same.opening at,
-  sym (then_over path (links_at one) (links_at two)
-      (λ (own : List ℕ) is. links_at_over one two own
-      (same.sheet at.opening own at.opens (at.named ∙ is))
-      (beside at.opening own at.opens (at.named ∙ is)))) ∙ taken,
-)
-
-links_cause_at : (one two : List Part) (path : List ℕ) (events : List Event) (error : XlsxError)
-    → HaveSamePart one two (relationships_beside path) → SheetLinksCause one path events error
-    → SheetLinksCause two path events error
-links_cause_at one two path events error same (inl cause) =
-    inl (subst (λ (own : Option (List Event)). OptionalPartCause (codes "Relationships")
-    (always (codes "Relationships")) (IsInsideRefused link_targets_in) own error) same cause)
-links_cause_at one two path events error same (inr cause) =
-    inr (subst (λ (own : Option (List LinkTarget)).
-    IsSomeAnd own (λ targets. LinksCause (target_in targets) events error))
-    (targets_over one two path same) cause)
-
-some_links_over : (one two : List Part) (path : Option (List ℕ)) (events : List Event)
-    (error : XlsxError)
-    → ((own : List ℕ) → path ≡ Some own → HaveSamePart one two (relationships_beside own))
-    → IsSomeAnd path (λ there. SheetLinksCause one there events error)
-    → IsSomeAnd path (λ there. SheetLinksCause two there events error)
-some_links_over one two None events error same has = has
-some_links_over one two (Some path) events error same has =
-    links_cause_at one two path events error (same path refl) has
-
-some_events_over : (events : Option (List Event)) (first second : List Event → Type 0)
-    → ((own : List Event) → first own → second own) → IsSomeAnd events first
-    → IsSomeAnd events second
-some_events_over None first second over has = has
-some_events_over (Some events) first second over has = over events has
-
--- the refusals of the links of one part, where the part is the same
-links_placed_over : (name : List ℕ) (path : Option (List ℕ)) (one two : List Part)
-    (error : XlsxError) → events_at path one ≡ events_at path two
-    → ((own : List ℕ) → path ≡ Some own → HaveSamePart one two (relationships_beside own))
-    → PlacedLinksCause name path one error → PlacedLinksCause name path two error
-links_placed_over name path one two (WorksheetNotFound asked) same beside has =
-    (has.0, sym same ∙ has.1)
-links_placed_over name path one two error same beside has =
-    subst (λ (events : Option (List Event)). IsSomeAnd events
-    (λ own. IsSomeAnd path (λ there. SheetLinksCause two there own error))) same
-    (some_events_over (events_at path one)
-    (λ own. IsSomeAnd path (λ there. SheetLinksCause one there own error))
-    (λ own. IsSomeAnd path (λ there. SheetLinksCause two there own error))
-    (λ own. some_links_over one two path own error beside) has)
-
-pub links_cause_over : (one two : List Part) (name : List ℕ) (error : XlsxError)
-    → HaveSameCells one two name → HaveSameLinks one two name
-    → NamedCause (PlacedLinksCause name) one name error
-    → NamedCause (PlacedLinksCause name) two name error
-links_cause_over one two name error same beside cause =
-    named_over (PlacedLinksCause name) one two name error same.opening
-    (λ path at has. links_placed_over name path one two error
-    (events_same one two name path same at)
-    (λ (own : List ℕ) is. beside at.opening own at.opens (at.named ∙ is)) has) cause
-
-pub links_back : (one two : List Part) (name : List ℕ) → HaveSameOpening two one
-    → HaveSameLinks one two name → HaveSameLinks two one name
-links_back one two name back same =
-    λ (opening : Opening) (path : List ℕ) opens named.
-    sym (same (other_opening two one opening back opens) path
-    (opening_over two one opening back opens) named)

@@ -1,22 +1,21 @@
 -- Where each command looks in a package, and packages that have the same parts there.
-use Rattle.std.specs.Prelude.{◌≡◌, ⊤, ℕ, List, [], ◌∷◌, Some, codes, Bool, true, false}
+use Rattle.std.specs.Prelude.{◌≡◌, ⊤, ℕ, List, [], ◌∷◌, Option, Some, codes, Bool, true, false}
 use Rattle.part_events.specs.Words.{Part}
 use Rattle.xlsx_parts.specs.Words.{SheetPath, sheet_at}
 use Rattle.looks.specs.Words.{HaveSameLook}
 use Rattle.xlsx_properties.specs.Parts.{properties_look}
-use Rattle.xlsx_relationships.specs.Words.{relationships_beside}
 use Rattle.xlsx_workbook.specs.Words.{workbook_part, relationships_part, strings_part, styles_part}
 use Rattle.xlsx_workbook.specs.Words.{theme_part}
-use Rattle.xlsx_comments.specs.Comments.{sheet_comments_look}
 use Rattle.xlsx_tables.specs.Tables.{tables_look, SheetTable}
 use Rattle.xlsx_pivots.specs.Words.{pivots_on_look}
 use Rattle.xlsx_open.specs.Words.{Opening, OpensAs, HasPath}
-use Rattle.xlsx_core.specs.Words.{HaveSamePart, HaveSameSheet, path_named}
+use Rattle.xlsx_core.specs.Words.{HaveSamePart, HaveSameSheet, path_named, placed_links_look}
 use Rattle.xlsx_commands.specs.Words.{HasCache, Command, cells, sheets, names, merges, links, props}
 use Rattle.xlsx_commands.specs.Words.{csv, csv_table, tables, table, pivots, pivot, precedents}
 use Rattle.xlsx_commands.specs.Words.{dependents, check, part, upgrade, resave, sample, comments}
 use Rattle.xlsx_commands.specs.Words.{resave_file, json_rows, table_objects, all_dependents}
 use Rattle.xlsx_commands.specs.Words.{workbook_graph, sample_name, sheets_opened, HasNamedTable}
+use Rattle.xlsx_commands.specs.Words.{NamedLook, OpensAt, named_comments}
 
 -- a fact of each of a list
 abbrev pub Each : {X : Type 0} → (X → Type 0) → List X → Type 0
@@ -53,21 +52,13 @@ pub record HaveSamePlaceParts (one two : List Part) : Type 0 where
       (path : List ℕ) → HasPath one path → HaveSamePart one two (relationships_part path)
   pub workbook : (path : List ℕ) → HasPath one path → HaveSamePart one two (workbook_part path)
 
--- two packages have the same relationships of the sheet of this name
-abbrev pub HaveSameLinks : List Part → List Part → List ℕ → Type 0
-HaveSameLinks one two name =
-    (opening : Opening) (path : List ℕ) → OpensAs one opening →
-    path_named name opening.sheets ≡ Some path → HaveSamePart one two (relationships_beside path)
-
--- two packages have the same parts of the comments of the sheet at this path
-abbrev pub HaveSameCommentParts : List Part → List Part → List ℕ → Type 0
-HaveSameCommentParts one two path = HaveSameLook (sheet_comments_look path) one two
-
--- two packages have the same parts of the comments of the sheet of this name
-abbrev pub HaveSameComments : List Part → List Part → List ℕ → Type 0
-HaveSameComments one two name =
-    (opening : Opening) (path : List ℕ) → OpensAs one opening →
-    path_named name opening.sheets ≡ Some path → HaveSameCommentParts one two path
+-- two packages have the same parts from which the workbook is opened, and the same where a look at
+-- the sheet of this name goes
+pub record HaveSameNamedLook {A : Type 0} (look : NamedLook A) (one two : List Part) (name : List ℕ)
+    : Type 0 where
+  pub opening : HaveSameOpening one two
+  pub parts :
+      (path : Option (List ℕ)) → OpensAt one name path → HaveSameLook (look name path) one two
 
 -- two packages have the same parts of properties: the core part, the program's and the users' own
 abbrev pub HaveSameProperties : List Part → List Part → Type 0
@@ -141,10 +132,8 @@ HaveSameFootprint (cells form name) one two = HaveSameSheet one two name
 HaveSameFootprint (sheets form) one two = HaveSameOpening one two
 HaveSameFootprint (names form) one two = HaveSameOpening one two
 HaveSameFootprint (merges form name) one two = HaveSameCells one two name
-HaveSameFootprint (links form name) one two = HaveSameCells one two name
-    × HaveSameLinks one two name
-HaveSameFootprint (comments form name) one two = HaveSameOpening one two
-    × HaveSameComments one two name
+HaveSameFootprint (links form name) one two = HaveSameNamedLook placed_links_look one two name
+HaveSameFootprint (comments form name) one two = HaveSameNamedLook named_comments one two name
 HaveSameFootprint (props form) one two = HaveSameOpening one two × HaveSameProperties one two
 HaveSameFootprint (csv name asked) one two = HaveSameRows asked.shown one two name
 HaveSameFootprint (csv_table name asked) one two = HaveSameTableRows asked.shown one two name

@@ -11,7 +11,8 @@
 //! Every definition goes by `part_of` alone, so each row is a rewriting by equal parts. Its lemma
 //! files, from below: `SaidAlike` (what is said of several parts), `PartsAlike` (relationships, and
 //! why a part isn't read), `TablesAlike` and `PivotsAlike` (what sheets lead to), `ThemesAlike`,
-//! `OpeningsAlike`, `SheetsAlike` (what is had of a sheet), `ListsAlike` and `GraphsAlike` (of all
+//! `OpeningsAlike`, `SheetsAlike` (what is had of a sheet), `NamedLooksAlike` (what a look at one
+//! says), `ListsAlike` and `GraphsAlike` (of all
 //! sheets), `CommandsAlike` (a row for each command) and `PlacesAlike` (the parts of sheets, by the
 //! places alone).
 #![tactic(auto)]

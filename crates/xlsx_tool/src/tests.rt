@@ -73,7 +73,7 @@ pub struct Setting {
 
 pub const EASY: Setting = Setting {
     piece: 1_000,
-    room: 4_000,
+    room: 5_000,
     failing_read: None,
     failing_write: None,
 };

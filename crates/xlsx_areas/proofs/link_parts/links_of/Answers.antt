@@ -5,8 +5,7 @@ use Rattle.xlsx_sections.specs.Words.{IsInsideRefused, FailsBy, always, SectionF
 use Rattle.xlsx_sections.proofs.ElementsRead.{own_inside, own_end}
 use Rattle.xlsx_parts.proofs.SaidRead.{said_or_there, section_lacking_refused}
 use Rattle.xlsx_relationships.specs.Words.{target_held}
-use Rattle.xlsx_areas.specs.Hyperlinks.{links_in}
-use Rattle.xlsx_areas.specs.LinkErrors.{LinksCause}
+use Rattle.xlsx_areas.specs.Hyperlinks.{links_in, part_links}
 use Rattle.xlsx_areas.proofs.LinksRead.{both_known}
 use Rattle.xlsx_areas.proofs.link_parts.links_of.Goals as goal
 
@@ -33,7 +32,7 @@ returns-clause-err g c =
     let refused = IsInsideRefused (links_in by) in
     IfErr-weaker c.read_hyperlinks.result
     (SectionFails (always name) refused (length mid.names) mid new)
-    (FailsBy (LinksCause by (events_of old)) old.source new.source)
+    (FailsBy ((part_links by).cause (events_of old)) old.source new.source)
     (λ error fails. section_lacking_refused name old mid (always name) refused new.source error
     c.in_ok-find_section.ensures.reads.moves.parts
     (λ told. rw c.if-not-branch.false at (c.in_ok-find_section.ensures.found told)) fails)

@@ -5,4 +5,4 @@ pub lines_of_links-requires : goal.lines_of_links-requires
 lines_of_links-requires c =
     let has = c.in_ok-links.ensures.ok in
     rw c.deref.ensures.value
-    (links_lie_inside has.0 c.args.package.parts c.in_ok-links.links.items has.2)
+    (links_lie_inside c.args.name.now has.0 c.args.package.parts c.in_ok-links.links.items has.2)
