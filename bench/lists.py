@@ -1,5 +1,5 @@
 #!/usr/bin/env python3
-"""Measures `merges S`, `links S`, `comments S`, `props`, `tables`, `table T1`, `pivots` and
+"""Measures `merges S`, `links S`, `comments S`, `widths S`, `props`, `tables`, `table T1`, `pivots` and
 `pivot S P1` of xlsx_tool beside json.load of the same text, and prints a table for each list
 (docs/PERFORMANCE.md).
 
@@ -10,6 +10,7 @@ each the program with the list's words and Python's `json.load`, as bench/cells.
 - `links`: 65,530 links over as many relationships, which stand in the other order, each link with a
   displayed text and a tooltip;
 - `comments`: 100,000 comments of two runs each, by ten authors;
+- `widths`: 250,000 hidden rows;
 - `properties`: 200,000 names that users gave, in no order, each with a text;
 - `merges_behind_cells`: ten areas of merged cells behind 100,000 cells;
 - `table`: the values of a table of 100,000 rows of three numbers, in a sheet of twice as many rows;
@@ -132,6 +133,24 @@ class Links:
     def lines(self, count):
         for row in range(1, count + 1):
             yield f"A{row}:A{row}\t={self.target(row)}\t-\t=item {row}\t=item {row} & more\n"
+
+
+class Widths:
+    """Hidden rows."""
+
+    words, count = ["widths", "S"], 250_000
+
+    def rows(self, count):
+        for row in range(1, count + 1):
+            yield from element("row", f' r="{row}" hidden="1"')
+
+    def parts(self, count):
+        events = sheet_part([start("sheetData")], self.rows(count), [end("sheetData")])
+        yield "xl/worksheets/sheet1.xml", events
+
+    def lines(self, count):
+        for row in range(1, count + 1):
+            yield f"A{row}:XFD{row}\t-\thidden\n"
 
 
 class Comments:
@@ -380,6 +399,7 @@ LISTS = {
     "merges": Merges,
     "links": Links,
     "comments": Comments,
+    "widths": Widths,
     "properties": Properties,
     "merges_behind_cells": MergesBehindCells,
     "table": TableData,

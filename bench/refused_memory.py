@@ -31,6 +31,7 @@ COMMANDS = [
     (["merges", "S"], "tables_links_and_merges", "tables_links_and_merges.merges"),
     (["links", "S"], "tables_links_and_merges", "tables_links_and_merges.links"),
     (["comments", "Goods"], "comments", "comments.comments"),
+    (["widths", "libreoffice"], "libreoffice", "libreoffice.widths"),
     (["props"], "tables_links_and_merges", "tables_links_and_merges.props"),
     (["tables"], "tables", "tables.tables"),
     (["table", "Sales"], "tables", "tables.table"),

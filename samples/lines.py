@@ -338,6 +338,10 @@ LINES = {
     ],
     "libreoffice.csv": libreoffice_rows(),
     "libreoffice.csv_shown": goods("2024-01-02", "2024-02-03", "TRUE"),
+    "libreoffice.widths": [
+        f"{column}1:{column}1048576\t={width}\tvisible\n"
+        for column, width in (("A", 8.79), ("B", 7.45), ("C", 10.38))
+    ],
     "libreoffice.rows": objects(
         ["name", "amount", "date"],
         [

@@ -272,11 +272,12 @@ KEYS = {
     "merges": ("area",),
     "links": ("area", "target", "location", "displayed", "tooltip"),
     "comments": ("cell", "author", "text"),
+    "widths": ("area", "width", "visibility"),
     "pivots": ("sheet", "name"),
 }
-MARKED = ("target", "location", "displayed", "tooltip", "author", "text")
+MARKED = ("target", "location", "displayed", "tooltip", "author", "text", "width")
 OF_BOOK = ("sheets", "names", "props", "tables", "pivots")
-OF_SHEET = ("cells", "merges", "links", "comments")
+OF_SHEET = ("cells", "merges", "links", "comments", "widths")
 
 
 def field_of(key, field):

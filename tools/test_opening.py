@@ -272,6 +272,7 @@ OF_SHEETS = [
     ["merges"],
     ["links"],
     ["comments"],
+    ["widths"],
     ["csv", "--crlf", "--from-a1"],
     ["pivot", "P"],
     ["precedents"],

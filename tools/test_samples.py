@@ -40,6 +40,7 @@ LINES = {
     "libreoffice.csv": ["csv", "libreoffice"],
     "libreoffice.csv_shown": ["csv", "libreoffice", "--shown"],
     "libreoffice.rows": ["rows", "libreoffice", "--json", "--header", "--dates"],
+    "libreoffice.widths": ["widths", "libreoffice"],
     "pivot_table.pivot": ["pivot", "Report", "Sold & paid"],
     "pivot_table.pivots": ["pivots"],
     "rich_text": ["cells", "Goods & prices"],

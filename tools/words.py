@@ -73,6 +73,16 @@ COMMANDS = {
             ),
         ),
         Command(
+            "widths",
+            ("NAME",),
+            A_SHEET,
+            (
+                "prints one line for the columns of each width of the worksheet NAME and",
+                "for each hidden row: the area, the width and the visibility, as in",
+                "A1:C1048576\t=12.5\tvisible",
+            ),
+        ),
+        Command(
             "props",
             (),
             NOTHING,
@@ -272,7 +282,8 @@ FLAGS = {
 
 # A list has its lines as objects of JSON by this option.
 AS_JSON = "--json"
-LISTS = ("cells", "merges", "links", "comments", "sheets", "names", "tables", "pivots", "props")
+OF_BOOK = ("sheets", "names", "tables", "pivots", "props")
+LISTS = ("cells", "merges", "links", "comments", "widths", *OF_BOOK)
 FLAGS |= {word: (AS_JSON,) for word in LISTS} | {
     "rows": (AS_JSON, "--dates", "--from-a1", SHOWN, "--header"),
     "rows-table": (AS_JSON, "--dates"),
@@ -321,7 +332,7 @@ STANDARD_INPUT = "-"
 
 USAGE = """\
 usage: ./xlsx FILE.xlsx cells NAME       (or merges, links, comments, csv, csv-table, rows,
-                                          rows-table, table, part, precedents, check or
+                                          rows-table, table, part, precedents, check, widths or
                                           resave NAME, dependents NAME REF,
                                           pivot SHEET NAME, or sheets, names, tables,
                                           pivots, props, graph, order, cycles or

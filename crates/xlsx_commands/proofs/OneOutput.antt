@@ -58,7 +58,7 @@ use Rattle.xlsx_commands.specs.Command.{Command, cells, sheets, names, merges, l
 use Rattle.xlsx_commands.specs.Command.{csv_table, tables, table, pivots, pivot, precedents}
 use Rattle.xlsx_commands.specs.Command.{dependents, check, part, upgrade, resave, sample, comments}
 use Rattle.xlsx_commands.specs.Command.{resave_file, json_rows, table_objects, all_dependents}
-use Rattle.xlsx_commands.specs.Command.{workbook_graph}
+use Rattle.xlsx_commands.specs.Command.{workbook_graph, widths}
 use Rattle.xlsx_commands.specs.FormulaLists.{ArePrecedentLines, AreDependentLines, AreCheckLines}
 use Rattle.xlsx_commands.specs.GraphLists.{AreAllDependents, AreGraphLines, cell_on}
 use Rattle.xlsx_commands.specs.GraphLists.{graph_list_lines}
@@ -71,6 +71,7 @@ use Rattle.xlsx_commands.specs.ResavedFile.{IsResavedFile, sheet_file}
 use Rattle.xlsx_commands.specs.SampleLines.{AreSampleLines, sample_name}
 use Rattle.xlsx_commands.specs.SheetLists.{HasNamed, AreMergeLines, AreLookLines, merge_lines}
 use Rattle.xlsx_commands.specs.SheetLists.{link_lines, comment_lines, NamedLook, named_comments}
+use Rattle.xlsx_commands.specs.SheetLists.{named_widths, width_lines}
 use Rattle.xlsx_commands.specs.TableLists.{AreTableLines, AreTableValueLines, table_lines}
 use Rattle.xlsx_commands.specs.TableLists.{HasDataIn, HasTable}
 use Rattle.xlsx_commands.specs.RowObjects.{objects_placed}
@@ -460,6 +461,8 @@ one_output alike (links form name) parts one other first second =
     one_look placed_links_look (link_lines form) parts name one other first second
 one_output alike (comments form name) parts one other first second =
     one_look named_comments (comment_lines form) parts name one other first second
+one_output alike (widths form name) parts one other first second =
+    one_look named_widths (width_lines form) parts name one other first second
 one_output alike (props form) parts one other first second =
     one_properties form parts one other first second
 one_output alike (csv name asked) parts one other first second =

@@ -22,7 +22,7 @@ use Rattle.xlsx_commands.specs.Command.{Command, cells, sheets, names, merges, l
 use Rattle.xlsx_commands.specs.Command.{csv_table, tables, table, pivots, pivot, precedents}
 use Rattle.xlsx_commands.specs.Command.{dependents, check, part, upgrade, resave, sample, comments}
 use Rattle.xlsx_commands.specs.Command.{resave_file, json_rows, table_objects, all_dependents}
-use Rattle.xlsx_commands.specs.Command.{workbook_graph}
+use Rattle.xlsx_commands.specs.Command.{workbook_graph, widths}
 use Rattle.xlsx_commands.specs.Outputs.{IsOutput, RefusedWorkbookCause, IsTooLarge, OutputCause}
 use Rattle.xlsx_commands.specs.Outputs.{HasOutput, HasLargeGraph, IsUnwritable, HasNoKeys}
 use Rattle.xlsx_commands.specs.Outputs.{HasTwoColumns}
@@ -31,7 +31,7 @@ use Rattle.xlsx_commands.specs.PartNames.{PartPathCause}
 use Rattle.xlsx_commands.specs.PropertyLists.{text_of_name}
 use Rattle.xlsx_commands.specs.SampleLines.{sample_name}
 use Rattle.xlsx_commands.specs.SheetLists.{HasNamedLook, LookPathCause, MergesPathCause, NamedLook}
-use Rattle.xlsx_commands.specs.SheetLists.{NamedLookCause, named_comments}
+use Rattle.xlsx_commands.specs.SheetLists.{NamedLookCause, named_comments, named_widths}
 use Rattle.xlsx_commands.specs.declared.error.ToolError.{ToolError}
 use Rattle.xlsx_commands.specs.declared.error.ToolError.TheVariants.{Workbook, BoxTooLarge}
 use Rattle.xlsx_commands.specs.declared.error.ToolError.TheVariants.{Unwritable, NoHeader}
@@ -204,6 +204,8 @@ workbook_never never (links form name) parts output error prints cause =
     look_never placed_links_look parts name prints.said error never.openings prints.has cause
 workbook_never never (comments form name) parts output error prints cause =
     look_never named_comments parts name prints.said error never.openings prints.has cause
+workbook_never never (widths form name) parts output error prints cause =
+    look_never named_widths parts name prints.said error never.openings prints.has cause
 workbook_never never (props form) parts output error prints cause =
     listed_never parts (properties_with prints.texts (text_of_name prints.customs)) error
     never.openings prints.opens prints.say cause

@@ -33,6 +33,7 @@ pub data Command : Type 0 where
   merges : LineForm → List ℕ → Command
   links : LineForm → List ℕ → Command
   comments : LineForm → List ℕ → Command
+  widths : LineForm → List ℕ → Command
   props : LineForm → Command
   csv : List ℕ → AskedRows → Command
   csv_table : List ℕ → AskedTable → Command
@@ -61,6 +62,7 @@ command_meant (asked.Names form) = names form
 command_meant (asked.Merges form name) = merges form name.now
 command_meant (asked.Links form name) = links form name.now
 command_meant (asked.Comments form name) = comments form name.now
+command_meant (asked.Widths form name) = widths form name.now
 command_meant (asked.Props form) = props form
 command_meant (asked.Csv name rows) = csv name.now rows
 command_meant (asked.CsvTable name own) = csv_table name.now own
@@ -113,7 +115,8 @@ sheet_list form word name =
     if bytes_eq word (codes "cells") then Some (cells form name)
     else (if bytes_eq word (codes "merges") then Some (merges form name)
     else (if bytes_eq word (codes "links") then Some (links form name)
-    else (if bytes_eq word (codes "comments") then Some (comments form name) else None)))
+    else (if bytes_eq word (codes "comments") then Some (comments form name)
+    else (if bytes_eq word (codes "widths") then Some (widths form name) else None))))
 
 -- a list as JSON, where the word behind it asks for that
 abbrev pub if_json : List ℕ → Option Command → Option Command
@@ -213,6 +216,7 @@ own_parts (names form) = None
 own_parts (merges form name) = None
 own_parts (links form name) = None
 own_parts (comments form name) = None
+own_parts (widths form name) = None
 own_parts (props form) = None
 own_parts (csv name rows) = None
 own_parts (csv_table name asked) = None

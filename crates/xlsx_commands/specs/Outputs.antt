@@ -18,7 +18,7 @@ use Rattle.xlsx_commands.specs.Command.{Command, cells, sheets, names, merges, l
 use Rattle.xlsx_commands.specs.Command.{csv_table, tables, table, pivots, pivot, precedents}
 use Rattle.xlsx_commands.specs.Command.{dependents, check, part, upgrade, resave, sample, comments}
 use Rattle.xlsx_commands.specs.Command.{resave_file, json_rows, table_objects, all_dependents}
-use Rattle.xlsx_commands.specs.Command.{workbook_graph}
+use Rattle.xlsx_commands.specs.Command.{workbook_graph, widths}
 use Rattle.xlsx_commands.specs.CacheRows.{ArePivotRows, NamedPivotCause}
 use Rattle.xlsx_commands.specs.FormulaLists.{ArePrecedentLines, AreDependentLines, AreCheckLines}
 use Rattle.xlsx_commands.specs.GraphLists.{AreGraphLines, ListedGraphCause, HasLargeBook}
@@ -32,7 +32,7 @@ use Rattle.xlsx_commands.specs.RowObjects.{AreJsonRows, LacksHeader, GivesTwice}
 use Rattle.xlsx_commands.specs.SampleLines.{AreSampleLines, sample_name}
 use Rattle.xlsx_commands.specs.SheetLists.{AreMergeLines, NamedMergesCause, AreLookLines}
 use Rattle.xlsx_commands.specs.SheetLists.{NamedLookCause, link_lines, named_comments}
-use Rattle.xlsx_commands.specs.SheetLists.{comment_lines}
+use Rattle.xlsx_commands.specs.SheetLists.{comment_lines, named_widths, width_lines}
 use Rattle.xlsx_commands.specs.SheetRows.{AreRowsOf, HasLargeArea}
 use Rattle.xlsx_commands.specs.TableLists.{AreTableLines, AreTableValueLines, ListedTablesCause}
 use Rattle.xlsx_commands.specs.TableLists.{NamedTableCause}
@@ -92,6 +92,8 @@ IsOutput (links form name) parts output =
     AreLookLines placed_links_look (link_lines form) parts name output
 IsOutput (comments form name) parts output =
     AreLookLines named_comments (comment_lines form) parts name output
+IsOutput (widths form name) parts output =
+    AreLookLines named_widths (width_lines form) parts name output
 IsOutput (props form) parts output = ArePropertyLines form parts output
 IsOutput (csv name asked) parts output = AreRowsOf parts name asked output
 IsOutput (csv_table name asked) parts output = AreTableRows parts name asked output
@@ -122,6 +124,7 @@ RefusedWorkbookCause (links form name) parts error =
     NamedLookCause placed_links_look parts name error
 RefusedWorkbookCause (comments form name) parts error =
     NamedLookCause named_comments parts name error
+RefusedWorkbookCause (widths form name) parts error = NamedLookCause named_widths parts name error
 RefusedWorkbookCause (props form) parts error = ListedPropertiesCause parts error
 RefusedWorkbookCause (csv name asked) parts error = SheetCause parts name error
 RefusedWorkbookCause (csv_table name asked) parts error =

@@ -7,7 +7,7 @@ use Rattle.xlsx_commands.specs.ChosenSheets.{choice_of, Chooses, ChoiceCause}
 use Rattle.xlsx_commands.specs.Command.{Command, cells, merges, links, comments, csv, json_rows}
 use Rattle.xlsx_commands.specs.Command.{pivot, precedents, dependents, check, part, resave}
 use Rattle.xlsx_commands.specs.Command.{resave_file, all_dependents, command_meant, command_of}
-use Rattle.xlsx_commands.specs.Command.{command_on, own_parts}
+use Rattle.xlsx_commands.specs.Command.{command_on, own_parts, widths}
 use Rattle.xlsx_commands.specs.Outputs.{IsOutput, OutputCause}
 use Rattle.xlsx_commands.specs.declared.error.ToolError.{ToolError}
 use Rattle.xlsx_commands.specs.declared.error.ToolError.TheVariants.{OutOfMemory}
@@ -31,6 +31,7 @@ asks_of_sheet (cells form name) = true
 asks_of_sheet (merges form name) = true
 asks_of_sheet (links form name) = true
 asks_of_sheet (comments form name) = true
+asks_of_sheet (widths form name) = true
 asks_of_sheet (csv name asked) = true
 asks_of_sheet (json_rows name asked) = true
 asks_of_sheet (pivot sheet name) = true
@@ -49,6 +50,7 @@ asked_of_sheet name (cells form other) = cells form name
 asked_of_sheet name (merges form other) = merges form name
 asked_of_sheet name (links form other) = links form name
 asked_of_sheet name (comments form other) = comments form name
+asked_of_sheet name (widths form other) = widths form name
 asked_of_sheet name (csv other asked) = csv name asked
 asked_of_sheet name (json_rows other asked) = json_rows name asked
 asked_of_sheet name (pivot other own) = pivot name own

@@ -4,6 +4,7 @@ use Rattle.std.specs.Prelude.{Some}
 use Rattle.std.specs.List.{flat_map}
 use Rattle.cell_refs.specs.declared.dimensions.Dimensions.{Dimensions}
 use Rattle.part_events.specs.Words.{Part}
+use Rattle.list_lines.specs.Fields.{keyed, line, nothing, area, optional, word}
 use Rattle.list_lines.specs.Inside.{LiesInWorksheet}
 use Rattle.list_lines.specs.Lines.{area_line, comment_line, link_line}
 use Rattle.list_lines.specs.declared.content.LineForm.{LineForm}
@@ -15,6 +16,7 @@ use Rattle.xlsx_areas.specs.MergeErrors.{MergesCause}
 use Rattle.xlsx_areas.specs.declared.hyperlink.Hyperlink.{Hyperlink}
 use Rattle.xlsx_comments.specs.CommentParts.{CommentSaid, CommentsSaid, author_of}
 use Rattle.xlsx_comments.specs.Comments.{sheet_comments_look}
+use Rattle.xlsx_widths.specs.Widths.{BandSaid, WidthsSaid, sheet_widths_look}
 use Rattle.xlsx_open.specs.Words.{Opening, OpensAs, OpeningCause}
 use Rattle.xlsx_core.specs.Words.{merges_placed, named_sheet_look, PlacedCause, path_named}
 
@@ -131,3 +133,30 @@ part_lines form part = flat_map (line_of_comment form part) part.comments
 -- the lines of the comments of all parts of a sheet
 abbrev pub comment_lines : LineForm → List CommentsSaid → List ℕ
 comment_lines form all = flat_map (part_lines form) all
+
+-- ---- widths
+
+-- a look at the widths of the sheet of a name
+abbrev pub named_widths : List ℕ → Option (List ℕ) → Look WidthsSaid
+named_widths name path = named_sheet_look sheet_widths_look name path
+
+-- the word for columns or rows that are hidden, or for others
+abbrev pub visibility_word : Bool → List ℕ
+visibility_word true = codes "hidden"
+visibility_word false = codes "visible"
+
+-- the line of columns or rows: their area, the width of each column, and whether they are hidden
+abbrev pub band_line : LineForm → BandSaid → List ℕ
+band_line form own =
+    line form
+    (keyed (codes "area") (area own.area) ∷ keyed (codes "width") (optional own.width)
+    ∷ keyed (codes "visibility") (word (visibility_word own.is_hidden)) ∷ [])
+    nothing
+
+-- a line for each, in order
+abbrev pub band_lines : LineForm → List BandSaid → List ℕ
+band_lines form bands = flat_map (band_line form) bands
+
+-- the lines of columns, and behind them those of hidden rows
+abbrev pub width_lines : LineForm → WidthsSaid → List ℕ
+width_lines form own = band_lines form own.columns ++ band_lines form own.hidden_rows

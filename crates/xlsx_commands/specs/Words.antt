@@ -5,7 +5,7 @@ pub use Rattle.xlsx_commands.specs.Command.{Command, all_dependents, cells, chec
 pub use Rattle.xlsx_commands.specs.Command.{csv_table, dependents, json_rows, links, merges, names}
 pub use Rattle.xlsx_commands.specs.Command.{part, pivot, pivots, precedents, props, resave}
 pub use Rattle.xlsx_commands.specs.Command.{resave_file, sample, sheets, table, table_objects}
-pub use Rattle.xlsx_commands.specs.Command.{tables, texts, upgrade, workbook_graph}
+pub use Rattle.xlsx_commands.specs.Command.{tables, texts, upgrade, widths, workbook_graph}
 pub use Rattle.xlsx_commands.specs.GraphLists.{DependentsPathCause, HasGraph, HasLargeBook}
 pub use Rattle.xlsx_commands.specs.GraphLists.{HasLargeDependents, ListedGraphCause}
 pub use Rattle.xlsx_commands.specs.GraphLists.{NamedDependentsCause, opened_book, sheet_names}
@@ -23,7 +23,7 @@ pub use Rattle.xlsx_commands.specs.SampleLines.{sample_name}
 pub use Rattle.xlsx_commands.specs.SheetLists.{AreLookLines, HasMerges, HasNamedCause}
 pub use Rattle.xlsx_commands.specs.SheetLists.{HasNamedLook, LookPathCause, MergesPathCause}
 pub use Rattle.xlsx_commands.specs.SheetLists.{NamedCause, NamedLook, NamedLookCause, OpensAt}
-pub use Rattle.xlsx_commands.specs.SheetLists.{PathCause, named_comments}
+pub use Rattle.xlsx_commands.specs.SheetLists.{PathCause, named_comments, named_widths}
 pub use Rattle.xlsx_commands.specs.SheetRows.{HasRowValues}
 pub use Rattle.xlsx_commands.specs.SheetsOpened.{HasSheetsCause, ListedCause, sheets_opened}
 pub use Rattle.xlsx_commands.specs.Status.{error_text, status_of}

@@ -47,6 +47,8 @@ pub enum Command<'a> {
     Links(LineForm, &'a str),
     /// The comments of the worksheet of this name.
     Comments(LineForm, &'a str),
+    /// The widths of columns of the worksheet of this name, and its hidden rows.
+    Widths(LineForm, &'a str),
     /// The workbook's properties.
     Props(LineForm),
     /// The rows of the values of the worksheet of this name, as CSV, and what is asked of them.
@@ -125,6 +127,7 @@ fn sheet_list<'a>(form: LineForm, word: &str, name: &'a str) -> Option<Command<'
         "merges" => Some(Command::Merges(form, name)),
         "links" => Some(Command::Links(form, name)),
         "comments" => Some(Command::Comments(form, name)),
+        "widths" => Some(Command::Widths(form, name)),
         _ => None,
     }
 }

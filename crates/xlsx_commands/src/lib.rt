@@ -2,7 +2,7 @@
 //! (docs/FORMAT.md).
 //!
 //! Rooms: `command` (the words that ask for a command), `asked_rows` (the words that ask more of
-//! rows), `cell_lines`, `book_lists`, `merge_lines`, `link_lines`, `comment_lines`,
+//! rows), `cell_lines`, `book_lists`, `merge_lines`, `link_lines`, `comment_lines`, `width_lines`,
 //! `property_lines`, `table_lines`, `pivot_lines`, `pivot_rows`, `sheet_rows`, `table_rows`,
 //! `row_arrays`, `row_objects`, `table_objects`, `formula_lines`, `graph_lines`, `part_line`,
 //! `upgraded_text`, `resaved_text`, `resaved_file` and `sample_lines` (what each command prints),
@@ -73,6 +73,7 @@ mod table_lines;
 mod table_objects;
 mod table_rows;
 mod upgraded_text;
+mod width_lines;
 
 pub use asked_rows::AskedRows;
 pub use chosen_laws::{causes_leave_no_answer, chosen_sheets_answer_by_their_names};

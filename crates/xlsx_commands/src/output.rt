@@ -24,6 +24,7 @@ use crate::table_lines::{table_lines, table_value_lines};
 use crate::table_objects::table_objects;
 use crate::table_rows::table_rows;
 use crate::upgraded_text::upgraded_text;
+use crate::width_lines::width_lines;
 use input_package::InputPackage;
 use std::alloc::{AllocError, Global};
 use xlsx_sample::sample_package;
@@ -41,6 +42,7 @@ pub fn own_package(alloc: Global, command: Command<'_>) -> Result<Option<InputPa
         Command::Merges(_, _) => None,
         Command::Links(_, _) => None,
         Command::Comments(_, _) => None,
+        Command::Widths(_, _) => None,
         Command::Props(_) => None,
         Command::Csv(_, _) => None,
         Command::CsvTable(_, _) => None,
@@ -82,6 +84,7 @@ pub fn output_of(
         Command::Merges(form, name) => merge_lines(alloc, package, form, name),
         Command::Links(form, name) => link_lines(alloc, package, form, name),
         Command::Comments(form, name) => comment_lines(alloc, package, form, name),
+        Command::Widths(form, name) => width_lines(alloc, package, form, name),
         Command::Props(form) => property_lines(alloc, package, form),
         Command::Csv(name, asked) => sheet_rows(alloc, package, name, asked),
         Command::CsvTable(name, asked) => table_rows(alloc, package, name, asked),

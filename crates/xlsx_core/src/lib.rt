@@ -8,7 +8,7 @@
 //! `SheetReading`, `SheetAnswer`), `shown_codes` (the codes of styles, each cut once),
 //! `shown_sheet` (`read_sheet_shown`), `shown_table` (the call on the data of a table as they are
 //! shown), `shown_laws`, `merges` (the calls on merged cells), `links` (those on hyperlinks),
-//! `comments` (the one on comments), `formula_list` (the one on the
+//! `comments` (the one on comments), `widths` (the one on widths), `formula_list` (the one on the
 //! formulas of all sheets), `formula_laws`, `properties` (the one on properties), `sheet_lists`
 //! (the loop over what the sheets say), `numbered_tables` (the tables of all sheets by the numbers
 //! of these), `table_list` (tables that are loaded and listed), `table_data` (their data by their
@@ -82,6 +82,7 @@ mod shown_table;
 mod standing;
 mod table_data;
 mod table_list;
+mod widths;
 mod workbook;
 mod worksheet_list;
 mod worksheets;
@@ -112,3 +113,4 @@ pub use xlsx_open::{Metadata, NameScope, Sheet, SheetType, SheetVisible};
 pub use xlsx_pivot_cache::PivotCacheIter;
 pub use xlsx_pivots::PivotTables;
 pub use xlsx_properties::{Property, WorkbookProperties};
+pub use xlsx_widths::{Band, Widths};

@@ -16,7 +16,8 @@ use Rattle.xlsx_commands.specs.Words.{dependents, check, part, upgrade, resave, 
 use Rattle.xlsx_commands.specs.Words.{resave_file, json_rows, table_objects, all_dependents}
 use Rattle.xlsx_commands.specs.Words.{workbook_graph, OutputCause, IsUpgrade, PartPathCause}
 use Rattle.xlsx_commands.specs.Words.{ListedPropertiesCause, AreJsonRows, LacksHeader, GivesTwice}
-use Rattle.xlsx_commands.specs.Words.{sample_name, HasRowValues, named_comments}
+use Rattle.xlsx_commands.specs.Words.{sample_name, HasRowValues, named_comments, named_widths}
+use Rattle.xlsx_commands.specs.Words.{widths}
 use Rattle.xlsx_commands.specs.Outputs.{IsOutput, RefusedWorkbookCause, IsTooLarge, HasLargeGraph}
 use Rattle.xlsx_commands.specs.Outputs.{IsUnwritable, HasNoKeys, HasTwoColumns}
 use Rattle.xlsx_commands.specs.declared.error.ToolError.{ToolError}
@@ -107,6 +108,7 @@ way_back (names form) one two same = opening_back one two same
 way_back (merges form name) one two same = cells_back one two name same
 way_back (links form name) one two same = look_back placed_links_look one two name same
 way_back (comments form name) one two same = look_back named_comments one two name same
+way_back (widths form name) one two same = look_back named_widths one two name same
 way_back (props form) one two same =
     (opening_back one two same.0, alike_back properties_look one two same.1)
 way_back (csv name asked) one two same = rows_back asked.shown one two name same
@@ -171,6 +173,11 @@ output_over (links form name) one two output same prints = record {
 output_over (comments form name) one two output same prints = record {
   said = prints.said;
   has = look_over named_comments one two name prints.said same prints.has;
+  listed = prints.listed;
+}
+output_over (widths form name) one two output same prints = record {
+  said = prints.said;
+  has = look_over named_widths one two name prints.said same prints.has;
   listed = prints.listed;
 }
 output_over (props form) one two output same prints = record {
@@ -337,6 +344,8 @@ cause_over (links form name) one two error same cause =
     look_cause_over placed_links_look one two name error same cause
 cause_over (comments form name) one two error same cause =
     look_cause_over named_comments one two name error same cause
+cause_over (widths form name) one two error same cause =
+    look_cause_over named_widths one two name error same cause
 cause_over (props form) one two error same cause =
     listed_properties_over one two error same.0 same.1 cause
 cause_over (csv name asked) one two error same cause =

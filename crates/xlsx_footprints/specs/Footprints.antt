@@ -15,7 +15,7 @@ use Rattle.xlsx_commands.specs.Words.{csv, csv_table, tables, table, pivots, piv
 use Rattle.xlsx_commands.specs.Words.{dependents, check, part, upgrade, resave, sample, comments}
 use Rattle.xlsx_commands.specs.Words.{resave_file, json_rows, table_objects, all_dependents}
 use Rattle.xlsx_commands.specs.Words.{workbook_graph, sample_name, sheets_opened, HasNamedTable}
-use Rattle.xlsx_commands.specs.Words.{NamedLook, OpensAt, named_comments}
+use Rattle.xlsx_commands.specs.Words.{NamedLook, OpensAt, named_comments, named_widths, widths}
 
 -- a fact of each of a list
 abbrev pub Each : {X : Type 0} → (X → Type 0) → List X → Type 0
@@ -134,6 +134,7 @@ HaveSameFootprint (names form) one two = HaveSameOpening one two
 HaveSameFootprint (merges form name) one two = HaveSameCells one two name
 HaveSameFootprint (links form name) one two = HaveSameNamedLook placed_links_look one two name
 HaveSameFootprint (comments form name) one two = HaveSameNamedLook named_comments one two name
+HaveSameFootprint (widths form name) one two = HaveSameNamedLook named_widths one two name
 HaveSameFootprint (props form) one two = HaveSameOpening one two × HaveSameProperties one two
 HaveSameFootprint (csv name asked) one two = HaveSameRows asked.shown one two name
 HaveSameFootprint (csv_table name asked) one two = HaveSameTableRows asked.shown one two name

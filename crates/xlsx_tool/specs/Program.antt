@@ -15,6 +15,7 @@ help_text =
     ++ (codes "       xlsx_tool merges NAME [--json] < INPUT\n"
     ++ (codes "       xlsx_tool links NAME [--json] < INPUT\n"
     ++ (codes "       xlsx_tool comments NAME [--json] < INPUT\n"
+    ++ (codes "       xlsx_tool widths NAME [--json] < INPUT\n"
     ++ (codes "       xlsx_tool csv NAME [OPTION].. < INPUT\n"
     ++ (codes "       xlsx_tool csv-table NAME [OPTION].. < INPUT\n"
     ++ (codes "       xlsx_tool rows NAME --json [OPTION].. < INPUT\n"
@@ -44,6 +45,7 @@ help_text =
     ++ (codes "  merges     area of merged cells: its corners\n"
     ++ (codes "  links      link: its area, target, location, displayed text, tooltip\n"
     ++ (codes "  comments   comment: the position of its cell, its author, its text\n"
+    ++ (codes "  widths     columns, or a hidden row: their area, width, visibility\n"
     ++ (codes "  csv        row of the values: a record of CSV\n"
     ++ (codes "  csv-table  header or row of the table NAME: a record of CSV\n"
     ++ (codes "  rows       row of the values: an array of JSON\n"
@@ -80,7 +82,7 @@ help_text =
     ++ (codes "resave writes a package of the values and formulas of the worksheet NAME alone\n"
     ++ (codes "and prints its text in version 2, or by --xlsx a workbook file.\n\n"
     ++ codes "sample makes a package of 1 to 20,000 rows and prints how much is read of it.\n"
-    )))))))))))))))))))))))))))))))))))))))))))))))))))))))))))))))))))
+    )))))))))))))))))))))))))))))))))))))))))))))))))))))))))))))))))))))
 
 -- the line of the version
 abbrev pub version_text : List ℕ

@@ -20,6 +20,7 @@ Usage: xlsx_tool cells NAME [--json] < INPUT
        xlsx_tool merges NAME [--json] < INPUT
        xlsx_tool links NAME [--json] < INPUT
        xlsx_tool comments NAME [--json] < INPUT
+       xlsx_tool widths NAME [--json] < INPUT
        xlsx_tool csv NAME [OPTION].. < INPUT
        xlsx_tool csv-table NAME [OPTION].. < INPUT
        xlsx_tool rows NAME --json [OPTION].. < INPUT
@@ -53,6 +54,7 @@ One line is printed, of the worksheet NAME or of the workbook, for each
   merges     area of merged cells: its corners
   links      link: its area, target, location, displayed text, tooltip
   comments   comment: the position of its cell, its author, its text
+  widths     columns, or a hidden row: their area, width, visibility
   csv        row of the values: a record of CSV
   csv-table  header or row of the table NAME: a record of CSV
   rows       row of the values: an array of JSON
