@@ -14,9 +14,7 @@ DOCUMENTS = [TOP / "README.md", TOP / "CONTRIBUTING.md", *sorted((TOP / "docs").
 PROMISES = [TOP / "docs" / "PROMISES.md", TOP / "docs" / "CLAUSES.md"]
 # The newest list that a part says, which is a command, too, and the newest kind of value, by its
 # name in code and in the definitions.
-NEWEST_LIST = "comments"
-# The crates of the bytes of files.
-OF_FILES = r"crates/(?:\w*markup|text_package|cut_events|zip_\w+|\w+_archive|unpack)/"
+NEWEST_LIST = "widths"
 NEWEST_VALUE = ("DateTimeIso", "iso_time")
 # Documents that tell of each command and list. The others tell of what was chosen and measured.
 OF_EACH = ("ARCHITECTURE", "CLAUSES", "FORMAT", "PROMISES", "USING")
@@ -224,11 +222,13 @@ class Documents(unittest.TestCase):
     def test_every_place_of_the_newest_list_is_told(self):
         spoken = rf'"{NEWEST_LIST}"|`{NEWEST_LIST}[ `]|\bxlsx_tool {NEWEST_LIST}\b'
         spoken += rf"|book\.xlsx {NEWEST_LIST}\b|\bxlsx_{NEWEST_LIST}\b|\b{NEWEST_LIST}_by_sheet"
-        spoken += rf"|\b{NEWEST_LIST}\.lines\b"
-        coded, own = rf"(?i:{NEWEST_LIST[:-1]})", f"crates/xlsx_{NEWEST_LIST}/"
+        spoken += rf"|\b\w+\.{NEWEST_LIST}\b"
+        # Tables, rows and tokens have widths, too.
+        coded = rf"\b(?:xlsx|named|read_sheet)_{NEWEST_LIST}\b|\b{NEWEST_LIST}_by_sheet_name\b"
+        coded += rf"|\b{NEWEST_LIST[:-1]}_lines\b|\b{NEWEST_LIST} form\b|{NEWEST_LIST.title()}\("
+        coded += rf"|\bxlsx_tool {NEWEST_LIST}\b"
+        own = f"crates/xlsx_{NEWEST_LIST}/"
         in_code = {path for path in self.places(coded) if path.startswith("crates/")}
-        # Markup and archives have comments, too.
-        in_code = {path for path in in_code if not re.match(OF_FILES, path)}
         in_words = {path for path in self.places(spoken) if not path.startswith("crates/")}
         places = {path for path in in_code | in_words if not path.startswith(own)}
         told = self.told("To add a list") | self.told("To add a command")
