@@ -15,7 +15,7 @@ from words import one_line
 LIMIT = 256 * 1024 * 1024
 
 # How long the first proof takes, and an answer without one, on four processors.
-PROVING = "about half an hour"
+PROVING = "half an hour to an hour"
 UNPROVED = "a minute or two"
 
 ANSWERS = f"--unproved answers in {UNPROVED}"

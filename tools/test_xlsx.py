@@ -114,7 +114,7 @@ class Wrapper(FrontCopy):
 
     def proving(self, *proved):
         """What is said before and during a build in which these crates are proved."""
-        said = "xlsx: no proved program is there yet: proving takes about half an hour; "
+        said = "xlsx: no proved program is there yet: proving takes half an hour to an hour; "
         said += "--unproved answers in a minute or two\n"
         said += f"xlsx: proving; what rt says goes to {self.log().resolve()}\n"
         for left, name in zip((1, 0), proved):

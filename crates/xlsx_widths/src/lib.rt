@@ -4,7 +4,7 @@
 //! Rooms: `band` (columns or rows side by side, and those of a sheet), `starts` (what one start
 //! says, and what is kept of several), `widths` (those of a sheet). Columns and rows stand in two
 //! sections of the sheet's part, each of which it may lack, so it is looked at twice. A row without
-//! a number lies behind the one before it, as Excel reads it.
+//! a number lies behind the one that begins before it.
 #![tactic(auto)]
 
 mod band;
